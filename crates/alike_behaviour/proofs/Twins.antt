@@ -4,8 +4,8 @@ use Rattle.std.proofs.Common.{None, map, inl, inr, zero-add}
 use Rattle.std.specs.Prelude.{◌⊎◌, ◌&&◌, slice_get, option_map}
 use Rattle.std.specs.Ordering.{int_eq}
 use Rattle.std.proofs.lemmas.Option.{slice_get-map}
-use Rattle.fs_rules.specs.SoundParts.{IsSound, branch_count}
-use Rattle.base_integers.specs.Division.{quotient, remainder}
+use Rattle.fs_cut.specs.SoundParts.{IsSound, branch_count}
+use Rattle.fs_model.specs.Division.{quotient, remainder}
 use Rattle.fs_model.specs.declared.parts.Sort.{Sort}
 use Rattle.fs_model.specs.declared.parts.Sort.TheVariants as sort
 use Rattle.fs_model.specs.declared.parts.VarInfo.{VarInfo}

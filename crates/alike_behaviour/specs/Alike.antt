@@ -1,6 +1,6 @@
 -- Machines that differ only in the names of their states and in how straight lines are cut into states.
 use Rattle.std.specs.Prelude.{◌≡◌, ◌≢◌, ◌⊎◌, ℕ, true, List, Some, slice_get}
-use Rattle.fs_rules.specs.SoundParts.{branch_count}
+use Rattle.fs_cut.specs.SoundParts.{branch_count}
 use Rattle.fs_model.specs.declared.parts.VarInfo.{VarInfo}
 use Rattle.fs_model.specs.Terms.{Literal}
 use Rattle.fs_model.specs.Machines.{Fsmd}
@@ -48,3 +48,7 @@ pub record Alike (a b : Fsmd) (pairs : List (Point × Point)) : Type 0 where
   pub right_once : (i j : ℕ) (P Q R : Point) → slice_get pairs i ≡ Some (P, R) → slice_get pairs j ≡ Some (Q, R) → i ≡ j
   pub starts : (k : ℕ) × (slice_get pairs k ≡ Some (Start, Start))
   pub points : (k : ℕ) (P Q : Point) → slice_get pairs k ≡ Some (P, Q) → AlikePoints a b pairs P Q
+
+-- P holds where two machines are alike, by whatever pairs of points
+abbrev pub WhereAlike : (a b : Fsmd) → (P : Type 0) → Type 0
+WhereAlike a b P = (pairs : List (Point × Point)) → Alike a b pairs → P

@@ -1,7 +1,7 @@
 -- What expressions are worth over a store at the start.
 use Rattle.std.specs.Prelude.{cond, ℤ, ◌+ℤ◌, ◌-ℤ◌, ◌*ℤ◌, neg_ℤ, List, [], ◌∷◌, ◌++◌}
 use Rattle.std.specs.Ordering.{int_eq}
-use Rattle.base_integers.specs.Division.{quotient, remainder}
+use Rattle.fs_model.specs.Division.{quotient, remainder}
 use Rattle.fs_model.specs.Stores.{Store}
 use Rattle.alike_behaviour.specs.PathExpressions.{Expression, Constant, Initial, Element, Plus, Minus, Times, Over, Rest}
 use Rattle.alike_behaviour.specs.PathExpressions.{Opposite, ArrayExpression, InitialArray, Stored, ListExpression, InitialList}

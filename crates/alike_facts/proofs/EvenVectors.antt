@@ -3,8 +3,8 @@ use Rattle.std.proofs.Common.{◌≡◌, ℕ, ◌==◌, List, [], ◌∷◌, ap,
 use Rattle.std.specs.Prelude.{◌&&◌, ◌⊎◌, slice_get}
 use Rattle.std.specs.List.{list_all}
 use Rattle.std.proofs.lemmas.Bool.{eqb-true, and_from, eqb-false}
-use Rattle.base_lemmas.proofs.Booleans.{and_first, and_second}
-use Rattle.fs_rules.specs.SoundParts.{IsSound}
+use Rattle.fs_model.proofs.Booleans.{and_first, and_second}
+use Rattle.sym_facts.specs.SoundParts.{IsSound}
 use Rattle.fs_model.specs.declared.parts.Sort.{Sort}
 use Rattle.fs_model.specs.declared.parts.Sort.TheVariants as sort
 use Rattle.fs_model.specs.declared.parts.VarInfo.{VarInfo}

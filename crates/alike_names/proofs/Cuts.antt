@@ -5,7 +5,7 @@ use Rattle.std.specs.List.{list_all, slice_index_or}
 use Rattle.fs_model.specs.Limits.{most_branches}
 use Rattle.fs_model.specs.Terms.{Term, Variable, Sum, Difference, Product, Assignment, Assign, Transition}
 use Rattle.fs_model.specs.Machines.{transitions_of}
-use Rattle.fs_rules.specs.SoundParts.{IsSoundTransition, IsSound, branch_count, ends_open, reaches_cutpoint}
+use Rattle.fs_ast.specs.SoundParts.{IsSoundTransition, IsSound, branch_count, ends_open, reaches_cutpoint}
 use Rattle.fs_ast.specs.Branches.{is_sound_assignment}
 use Rattle.fs_cut.specs.Paths.{Point, Start, At, Done, Path, IsPath, state_of}
 use Rattle.fs_cut.proofs.Listed.{path_unique}

@@ -2,8 +2,8 @@
 use Rattle.std.proofs.Common.{◌≡◌, ℕ, ◌==◌, refl, ap, sym, ◌∙◌, Bool, true, false, cond, List, [], ◌∷◌, ◌++◌, Option, Some, None}
 use Rattle.std.specs.Prelude.{◌&&◌, not, slice_get}
 use Rattle.std.specs.List.{list_all}
-use Rattle.base_lemmas.proofs.Booleans.{and_first, and_second}
-use Rattle.base_lemmas.proofs.Quantifiers.{list_all_front, list_all_back}
+use Rattle.fs_model.proofs.Booleans.{and_first, and_second}
+use Rattle.fs_model.proofs.Quantifiers.{list_all_front, list_all_back}
 use Rattle.fs_model.specs.declared.parts.Sort.{Sort}
 use Rattle.fs_model.specs.declared.parts.Sort.TheVariants as sort
 use Rattle.fs_model.specs.declared.parts.VarInfo.{VarInfo}
@@ -12,8 +12,8 @@ use Rattle.fs_model.specs.Terms.{Emit}
 use Rattle.fs_model.specs.Machines.{Fsmd}
 use Rattle.fs_model.specs.Runs.{is_scalar, is_array, is_port}
 use Rattle.fs_model.specs.PartFolds.{scalars, arrays, numbers, uses_in, uses_in_literal}
-use Rattle.fs_rules.specs.SoundParts.{has_sort, scalar_at, array_at, port_at, input_at, is_text_number, scalars_in_assignment, arrays_in_assignment, port_in}
-use Rattle.fs_rules.specs.SoundParts.{numbers_in_assignment, changed_by}
+use Rattle.fs_ast.specs.SoundParts.{has_sort, scalar_at, array_at, port_at, input_at, is_text_number, scalars_in_assignment, arrays_in_assignment, port_in}
+use Rattle.fs_ast.specs.SoundParts.{numbers_in_assignment, changed_by}
 use Rattle.fs_ast.specs.Branches.{is_sound_literal, is_sound_assignment}
 use Rattle.alike_behaviour.specs.PathExpressions.{Expression, ArrayExpression, Stored, ListExpression, Pushed, ExpressionVector, initial, expression_of_term}
 use Rattle.alike_behaviour.specs.PathExpressions.{expressions_after}

@@ -2,7 +2,7 @@
 use Rattle.std.proofs.Common.{◌≡◌, ℕ, zero, suc, ◌<◌, ◌==◌, refl, ap, ap₂, sym, subst, ◌∙◌, true, cond, List, [], ◌∷◌, length, Some}
 use Rattle.std.specs.Prelude.{◌&&◌, ◌||◌, not, nat_lt, slice_get}
 use Rattle.std.specs.List.{list_all, slice_index_or}
-use Rattle.fs_rules.specs.SoundParts.{IsSound, branch_count, is_cutpoint}
+use Rattle.fs_ast.specs.SoundParts.{IsSound, branch_count, is_cutpoint}
 use Rattle.fs_model.specs.Machines.{Fsmd, transitions_of}
 use Rattle.fs_model.specs.Terms.{Transition}
 use Rattle.fs_model.specs.Trees.{Branch, branches_of}

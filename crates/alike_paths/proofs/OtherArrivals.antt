@@ -1,7 +1,7 @@
 -- What arrives by paths of other numbers has conditions that clash.
 use Rattle.std.proofs.Common.{◌≡◌, ℕ, zero, suc, ap, sym, ◌∙◌, subst, List, [], ◌∷◌, ◌++◌, Some}
 use Rattle.std.specs.Prelude.{◌≢◌, slice_get}
-use Rattle.fs_rules.specs.SoundParts.{IsSound}
+use Rattle.fs_cut.specs.SoundParts.{IsSound}
 use Rattle.fs_model.specs.Terms.{Term, Literal}
 use Rattle.fs_model.specs.Machines.{Fsmd}
 use Rattle.fs_cut.specs.Paths.{Point, Path, IsPath, state_of, branch_at, steps_in}

@@ -2,7 +2,7 @@
 use Rattle.std.proofs.Common.{◌≡◌, ℕ, zero, suc, ◌<◌, arith, true, List, [], ◌∷◌, ◌++◌, Some, length, refl, ap, sym, subst, ◌∙◌, inl, inr}
 use Rattle.std.specs.Prelude.{◌≢◌, ◌⊎◌, slice_get}
 use Rattle.std.specs.List.{slice_index_or}
-use Rattle.fs_rules.specs.SoundParts.{IsSound, branch_count}
+use Rattle.fs_cut.specs.SoundParts.{IsSound, branch_count}
 use Rattle.fs_model.specs.declared.parts.Rel.{Rel}
 use Rattle.fs_model.specs.declared.parts.Rel.TheVariants as rel
 use Rattle.fs_model.specs.Terms.{Literal}

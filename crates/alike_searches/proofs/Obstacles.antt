@@ -3,8 +3,8 @@ use Rattle.std.proofs.Common.{◌≡◌, ℕ, ◌+◌, refl, ap, ◌∙◌, inl,
 use Rattle.std.specs.Prelude.{◌⊎◌}
 use Rattle.std.specs.List.{AllByRecursion}
 use Rattle.std.specs.Option.{option_map, option_or}
-use Rattle.base_lemmas.proofs.Quantifiers.{each_at}
-use Rattle.fs_rules.specs.SoundParts.{IsSound}
+use Rattle.fs_model.proofs.Quantifiers.{each_at}
+use Rattle.fs_cut.specs.SoundParts.{IsSound}
 use Rattle.fs_cut.specs.Paths.{Point, Done}
 use Rattle.fs_pair.specs.PairedOutputs.{OutputPair, output_pairs}
 use Rattle.cert_bisimulation.specs.declared.mode.Mode.TheVariants.{Both, End}
@@ -12,10 +12,10 @@ use Rattle.fs_model.specs.declared.sides.Side.{Side}
 use Rattle.fs_model.specs.declared.sides.Side.TheVariants as side
 use Rattle.fs_model.specs.declared.sides.Pos.{Pos}
 use Rattle.nf_terms.specs.declared.form.Nf.{Nf}
-use Rattle.sym_facts.specs.Facts.{vector_of}
-use Rattle.cert_model.specs.Obligations.{same_forms}
+use Rattle.alike_tables.specs.Facts.{vector_of}
+use Rattle.alike_tables.specs.Obligations.{same_forms}
 use Rattle.alike_behaviour.specs.Alike.{Alike}
-use Rattle.alike_paths.specs.Evenness.{IsEven}
+use Rattle.alike_tables.specs.Evenness.{IsEven}
 use Rattle.search_tables.specs.declared.moves.Move.{Move}
 use Rattle.search_tables.specs.SearchTables.{MachinePair, SearchNode, Table, is_at}
 use Rattle.search_tables.specs.Legal.{Difference, first_differing, output_at, stuck_from, stuck, Makes}

@@ -3,7 +3,7 @@
 //! Promises: limits alone stop a search of alike machines, over laws of their terms, paths, facts and tables
 //! (`alike_*`).
 //!
-//! Rules: `specs/Where`, `src/laws`.
+//! Rules: `src/laws`.
 #![tactic(auto)]
 
 pub mod laws;

@@ -1,9 +1,9 @@
 -- Legal lists of moves of alike machines make even tables.
-use Rattle.std.proofs.Common.{◌≡◌, ℕ, zero, suc, ap, sym, subst, ◌∙◌, inl, inr, true, false, List, [], ◌∷◌, Some}
-use Rattle.std.specs.Prelude.{◌≢◌, slice_set}
+use Rattle.std.proofs.Common.{◌≡◌, ap, sym, subst, ◌∙◌, inl, inr, true, false, List, [], ◌∷◌, Some}
+use Rattle.std.specs.Prelude.{◌≢◌}
 use Rattle.std.specs.List.{AllByRecursion}
-use Rattle.base_lemmas.proofs.Quantifiers.{each_weaker, each_append, each_at}
-use Rattle.fs_rules.specs.SoundParts.{IsSound}
+use Rattle.fs_model.proofs.Quantifiers.{each_weaker, each_append, each_at}
+use Rattle.fs_cut.specs.SoundParts.{IsSound}
 use Rattle.fs_model.specs.Machines.{Fsmd}
 use Rattle.fs_cut.specs.Paths.{Point, Path}
 use Rattle.fs_cut.specs.Paths as cut
@@ -37,16 +37,12 @@ use Rattle.search_tables.specs.Next.{paths_in, Change, next_move}
 use Rattle.search_tables.specs.Legal.{MovesLead, Makes}
 use Rattle.search_tables.proofs.Forming.{known_in}
 use Rattle.search_tables.proofs.Changing.{Adds, Weakens, arrives_so}
+use Rattle.search_tables.proofs.FactsOfPairing.{all_set}
 use Rattle.alike_tables.specs.Even.{IsEvenNode, IsEvenTable}
 use Rattle.alike_tables.proofs.Modes.{both_move}
 use Rattle.alike_tables.proofs.OtherMoves.{others_refuted}
 use Rattle.alike_tables.proofs.EvenNodes.{has_sorts, its_couples, vector_between, done_ends}
 use Rattle.alike_tables.proofs.NextMoves.{Gives, AllGive, next_gives, AreOfBoth, both_go}
-
-pub all_set : (P : SearchNode → Type 0) (ns : List SearchNode) (k : ℕ) (x : SearchNode) → AllByRecursion P ns → P x → AllByRecursion P (slice_set ns k x)
-all_set P [] k x h g = tt
-all_set P (n ∷ ns) zero x h g = (g, h.1)
-all_set P (n ∷ ns) (suc k) x h g = (h.0, all_set P ns k x h.1 g)
 
 -- both machines are at their returns
 abbrev AtReturns : SearchNode → Type 0

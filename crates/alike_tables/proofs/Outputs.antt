@@ -4,7 +4,7 @@ use Rattle.std.specs.Prelude.{slice_get}
 use Rattle.std.specs.List.{position_from, AllByRecursion}
 use Rattle.std.specs.Str.{bytes_eq}
 use Rattle.std.proofs.lemmas.Slice.Eq.{bytes_eq-Decides}
-use Rattle.fs_rules.specs.SoundParts.{IsSound, names_differ}
+use Rattle.fs_cut.specs.SoundParts.{IsSound, names_differ}
 use Rattle.fs_model.specs.declared.parts.Sort.{Sort}
 use Rattle.fs_model.specs.declared.parts.Sort.TheVariants as sort
 use Rattle.fs_model.specs.declared.parts.VarInfo.{VarInfo}
@@ -17,7 +17,7 @@ use Rattle.nf_terms.specs.declared.form.Nf.{Nf}
 use Rattle.nf_terms.specs.declared.form.Nf.TheVariants.{Num, Arr, Seq}
 use Rattle.nf_substitution.specs.Vectors.{number_at, array_form, list_at}
 use Rattle.sym_paths.specs.ValuationStores.{at}
-use Rattle.cert_model.specs.Obligations.{same_forms}
+use Rattle.search_tables.specs.Obligations.{same_forms}
 use Rattle.alike_behaviour.specs.ExpressionSameness.{AreTwins}
 use Rattle.alike_behaviour.specs.Alike.{DeclareTheSame}
 use Rattle.alike_paths.specs.Evenness.{IsEven}

@@ -2,7 +2,7 @@
 
 ghost use Rattle.std.specs.Prelude.{◌≡◌, ◌≢◌, ◌⊎◌, true, List, Some};
 ghost use Rattle.std.specs.List.{AllByRecursion};
-ghost use Rattle.fs_rules.specs.SoundParts.{IsSound};
+ghost use Rattle.fs_cut.specs.SoundParts.{IsSound};
 ghost use Rattle.fs_model.specs.Machines.{Fsmd};
 ghost use Rattle.fs_cut.specs.Paths.{Point, Path, IsPath};
 ghost use Rattle.cert_bisimulation.specs.declared.mode.Mode.{Mode};
@@ -14,7 +14,7 @@ ghost use Rattle.nf_terms.specs.declared.form.Nf.{Nf};
 ghost use Rattle.nf_rel.specs.Literals.{NormalLiteral, is_refuted};
 ghost use Rattle.sym_paths.specs.Execution.{Post, arrive};
 ghost use Rattle.sym_facts.specs.Facts.{Fact, vector_of};
-ghost use Rattle.cert_model.specs.Obligations.{same_forms};
+ghost use Rattle.search_tables.specs.Obligations.{same_forms};
 ghost use Rattle.propagate.specs.Modes.{Found, mode_of};
 ghost use Rattle.alike_behaviour.specs.Alike.{DeclareTheSame, AlikePoints, Alike};
 ghost use Rattle.alike_paths.specs.Evenness.{IsEven};

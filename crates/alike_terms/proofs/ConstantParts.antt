@@ -1,7 +1,7 @@
 -- The part with atoms and the constant of a sum that rises and is minus another and minus 1.
 use Rattle.std.proofs.Common.{◌≡◌, ℤ, pos, ◌-ℤ◌, neg_ℤ, true, arith, refl, ◌∙◌}
 use Rattle.std.proofs.lemmas.Int.{ints}
-use Rattle.base_lemmas.proofs.Orderings.{is_lt-true}
+use Rattle.fs_model.proofs.Orderings.{is_lt-true}
 use Rattle.nf_terms.specs.NormalTerms.{Atom, Monomial, Polynomial, One, Times, Zero, Plus}
 use Rattle.nf_terms.specs.Order.{cmp_monomial}
 use Rattle.nf_terms.specs.Normal.{part_with_atoms, constant_sum, monomial_rises}

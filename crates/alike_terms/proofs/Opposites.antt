@@ -7,8 +7,8 @@ use Rattle.std.specs.Int.{int_div_euclid, int_rem_euclid}
 use Rattle.std.specs.Ordering.{int_eq}
 use Rattle.std.specs.Cmp.{signed_Decides}
 use Rattle.std.proofs.lemmas.Bool.{and_from}
-use Rattle.base_lemmas.proofs.Integers.{times_natural}
-use Rattle.base_integers.proofs.Ring.{mul-add_z}
+use Rattle.fs_model.proofs.Integers.{times_natural}
+use Rattle.fs_model.proofs.Ring.{mul-add_z}
 use Rattle.fs_model.specs.declared.parts.Rel.{Rel}
 use Rattle.fs_model.specs.declared.parts.Rel.TheVariants as rel
 use Rattle.fs_model.specs.Trees.{opposite}

@@ -1,8 +1,8 @@
 -- What the operations give rises.
 use Rattle.std.proofs.Common.{◌≡◌, ◌+◌, ℤ, Bool, true, false, ◌&&◌, cond, refl, subst}
 use Rattle.std.proofs.lemmas.Bool.{and_from}
-use Rattle.base_lemmas.proofs.Booleans.{and_first, and_second, by_test}
-use Rattle.base_integers.specs.Division.{quotient, remainder}
+use Rattle.fs_model.proofs.Booleans.{and_first, and_second, by_test}
+use Rattle.fs_model.specs.Division.{quotient, remainder}
 use Rattle.nf_terms.specs.NormalTerms.{Atom, Polynomial, ArrayTerm, Writes, Read, Quotient, Remainder, Zero, Over, NoWrites, Write, polynomial_of_number}
 use Rattle.nf_terms.specs.Order.{same_polynomial}
 use Rattle.nf_terms.specs.Measures.{size_of, depth_of, size_of_array, depth_of_array}

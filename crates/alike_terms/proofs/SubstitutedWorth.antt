@@ -3,8 +3,8 @@ use Rattle.std.proofs.Common.{◌≡◌, ℤ, pos, ◌+ℤ◌, ◌-ℤ◌, ◌*�
 use Rattle.std.proofs.lemmas.Int.{ints}
 use Rattle.std.specs.Ordering.{int_eq}
 use Rattle.std.specs.Cmp.{signed_Decides}
-use Rattle.base_lemmas.proofs.Booleans.{by_test}
-use Rattle.base_integers.proofs.Ring.{mul-add_z, mul_assoc_z}
+use Rattle.fs_model.proofs.Booleans.{by_test}
+use Rattle.fs_model.proofs.Ring.{mul-add_z, mul_assoc_z}
 use Rattle.nf_terms.specs.NormalTerms.{Monomial, Polynomial, Symbol, One, Times, Zero, Plus, polynomial_of_symbol, polynomial_of_number}
 use Rattle.nf_terms.specs.RawSums.{raw_sum, raw_difference, raw_multiple, raw_product}
 use Rattle.nf_terms.specs.Computed.{Done, after}

@@ -3,7 +3,7 @@ use Rattle.std.proofs.Common.{◌≡◌, ℕ, ◌+◌, Bool, true, false, not, �
 use Rattle.std.proofs.Common.{subst, ◌∙◌}
 use Rattle.std.specs.Map.{lookup}
 use Rattle.std.specs.List.{list_any}
-use Rattle.base_lemmas.proofs.Booleans.{and_second}
+use Rattle.fs_model.proofs.Booleans.{and_second}
 use Rattle.indexmap.specs.IndexMap.{insert_entry}
 use Rattle.fs_cut.specs.Paths.{Point}
 use Rattle.fs_cut.specs.Covers.{same_point}

@@ -3,7 +3,7 @@ use Rattle.std.proofs.Common.{◌≡◌, ℕ, zero, suc, ◌+◌, ◌<◌, Bool,
 use Rattle.std.specs.Prelude.{Some, None}
 use Rattle.std.specs.List.{slice_index_or, list_all, position_from}
 use Rattle.std.specs.Str.{bytes_eq}
-use Rattle.base_lemmas.proofs.Booleans.{and_first, and_second}
+use Rattle.fs_model.proofs.Booleans.{and_first, and_second}
 use Rattle.fs_model.specs.declared.parts.VarInfo.{VarInfo}
 use Rattle.fs_model.specs.Runs.{is_output}
 use Rattle.fs_pair.specs.PairedOutputs.{OutputPair, output_pairs}

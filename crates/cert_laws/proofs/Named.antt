@@ -1,7 +1,7 @@
 -- What all symbols that pass a test have, the symbols of a term have whose symbols pass it.
 use Rattle.std.proofs.Common.{◌≡◌, Bool, true, List, [], ◌∷◌, ◌++◌}
 use Rattle.std.specs.List.{list_all}
-use Rattle.base_lemmas.proofs.Booleans.{and_first}
+use Rattle.fs_model.proofs.Booleans.{and_first}
 use Rattle.fs_model.specs.declared.sides.Pos.{Pos}
 use Rattle.nf_terms.specs.declared.tree.Base.{Base}
 use Rattle.nf_terms.specs.declared.tree.Base.TheVariants as bases

@@ -3,8 +3,8 @@ use Rattle.std.proofs.Common.{◌≡◌, ℕ, ◌+◌, Bool, true, false, not, �
 use Rattle.std.proofs.Common.{◌∙◌}
 use Rattle.std.specs.List.{list_all, list_any, AllByRecursion}
 use Rattle.std.proofs.lemmas.Bool.{or_parts, not-true}
-use Rattle.base_lemmas.proofs.Booleans.{and_first, and_second}
-use Rattle.fs_rules.specs.SoundParts.{IsSound}
+use Rattle.fs_model.proofs.Booleans.{and_first, and_second}
+use Rattle.fs_ast.specs.SoundParts.{IsSound}
 use Rattle.fs_model.specs.Machines.{Fsmd}
 use Rattle.fs_cut.specs.Paths.{is_point}
 use Rattle.fs_cut.specs.Covers.{same_point}

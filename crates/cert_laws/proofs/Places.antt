@@ -8,15 +8,14 @@ use Rattle.std.proofs.lemmas.Bool.{eq-eqb, and_from}
 use Rattle.std.proofs.lemmas.Bool.Decides.{nat_tests}
 use Rattle.std.proofs.lemmas.Option.{slice_get-map, slice_get_within}
 use Rattle.std.proofs.lemmas.Slice.Eq.{bytes_eq-Decides}
-use Rattle.base_lemmas.proofs.Booleans.{and_first, and_second}
-use Rattle.base_lemmas.proofs.Quantifiers.{list_all_at}
+use Rattle.fs_model.proofs.Booleans.{and_first, and_second}
+use Rattle.fs_model.proofs.Quantifiers.{list_all_at}
 use Rattle.fs_model.specs.declared.parts.Sort.{Sort}
 use Rattle.fs_model.specs.declared.parts.Sort.TheVariants as sort
-use Rattle.fs_model.specs.declared.parts.VarInfo.{VarInfo}
 use Rattle.fs_model.specs.Machines.{Fsmd}
 use Rattle.fs_model.specs.Words.{is_word, is_name, is_reserved}
-use Rattle.fs_rules.specs.SoundParts.{names_differ, IsSound}
-use Rattle.fs_rules.specs.Places.{first_place}
+use Rattle.fs_ast.specs.SoundParts.{names_differ, IsSound}
+use Rattle.fs_ast.specs.Places.{first_place}
 use Rattle.fs_pair.specs.declared.positions.Position.{Position}
 use Rattle.fs_pair.specs.Positions.{positions}
 use Rattle.fs_pair.specs.Partners.{variables_on, is_position_of, position_name}
@@ -56,14 +55,6 @@ found_at (n ∷ ns) (suc k) x e only = by_test (bytes_eq n x) refl (found_at ns 
     by_test false h again = ap (option_map suc) again
 
 -- ---- names
-
--- the reader and the writer name a position alike
-pub same_name : (a b : Fsmd) (p : Pos) → position_name a b p ≡ position_name a b p
-same_name a b p = by_variable (slice_get (variables_on p.side a b) p.var)
-  where
-    by_variable : (o : Option VarInfo) → name_or_nothing o ≡ name_or_nothing o
-    by_variable None = refl
-    by_variable (Some v) = refl
 
 -- a name is a word of few bytes that is not reserved
 pub parts_of_name : (x : List ℕ) → is_name x ≡ true → (is_word x ≡ true) × (nat_le (length x) 32 ≡ true) × (not (is_reserved x) ≡ true)
@@ -155,8 +146,7 @@ module _ (a b : Fsmd) (left : IsSound a) (right : IsSound b) where
       → name_place (place_named a b all) all (needed_format all) p.pos.side (position_name a b p.pos) ≡ Some k
   place_found k p e =
       let format = needed_format all in
-      ap (λ x. name_place (place_named a b all) all format p.pos.side x) (sym (same_name a b p.pos))
-      ∙ ap (option_and_then (place_within format all)) (no_empty p.pos.side (position_name a b p.pos) (name_there k p e) ∙ place_listed k p e)
+      ap (option_and_then (place_within format all)) (no_empty p.pos.side (position_name a b p.pos) (name_there k p e) ∙ place_listed k p e)
       ∙ ap (option_and_then (λ q. cond (is_in_format format q.sort) (Some k) None)) e
       ∙ ap (λ t. cond t (Some k) None) (in_format all k p e)
 
@@ -165,7 +155,7 @@ module _ (a b : Fsmd) (left : IsSound a) (right : IsSound b) where
 
   named_at : (k : ℕ) (p : Position) → slice_get all k ≡ Some p → IsNamed (position_name a b) find (sort_of_terms p.sort) p.pos
   named_at k p e =
-      let name : is_name (position_name a b p.pos) ≡ true = ap is_name (sym (same_name a b p.pos)) ∙ name_there k p e in
+      let name : is_name (position_name a b p.pos) ≡ true = name_there k p e in
       let n = parts_of_name (position_name a b p.pos) name in
       record {
         word = and_from (is_word (position_name a b p.pos)) (not (is_reserved (position_name a b p.pos))) n.0 n.2;

@@ -6,12 +6,12 @@ use Rattle.std.specs.Str.{bytes_eq}
 use Rattle.std.proofs.lemmas.Option.{slice_get-map, slice_get-get_or}
 use Rattle.std.proofs.lemmas.Slice.Eq.{bytes_eq-Decides}
 use Rattle.std.proofs.lemmas.Bool.{not-true}
-use Rattle.base_lemmas.proofs.Booleans.{and_first, and_second}
-use Rattle.base_lemmas.proofs.Quantifiers.{list_all_at}
+use Rattle.fs_model.proofs.Booleans.{and_first, and_second}
+use Rattle.fs_model.proofs.Quantifiers.{list_all_at}
 use Rattle.fs_model.specs.Machines.{State, Fsmd}
 use Rattle.fs_model.specs.Words.{reserved_words, is_reserved, is_name}
-use Rattle.fs_rules.specs.Places.{first_place}
-use Rattle.fs_rules.specs.SoundParts.{names_differ, IsSound}
+use Rattle.fs_ast.specs.Places.{first_place}
+use Rattle.fs_ast.specs.SoundParts.{names_differ, IsSound}
 use Rattle.fs_ast.specs.StoredBranches.{state_name_of}
 use Rattle.fs_cut.specs.Paths.{Point, Start, At, Done, is_point}
 use Rattle.fs_cut.proofs.Listed.{fork_state}

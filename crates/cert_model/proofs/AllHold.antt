@@ -5,8 +5,8 @@ use Rattle.std.specs.Prelude.{◌≢◌, not, ◌&&◌, ◌||◌, nat_lt, slice_
 use Rattle.std.specs.List.{list_all, flat_map, slice_index_or, AllByRecursion}
 use Rattle.std.proofs.lemmas.Bool.Decides.{nat_tests}
 use Rattle.std.proofs.lemmas.Bool.{and_from}
-use Rattle.base_lemmas.proofs.Booleans.{and_first, and_second, true_and_false}
-use Rattle.fs_rules.specs.SoundParts.{IsSound}
+use Rattle.fs_model.proofs.Booleans.{and_first, and_second, true_and_false}
+use Rattle.fs_cut.specs.SoundParts.{IsSound}
 use Rattle.fs_model.specs.declared.parts.Sort.{Sort}
 use Rattle.fs_model.specs.declared.parts.Sort.TheVariants as sort
 use Rattle.fs_model.specs.Machines.{Fsmd}
@@ -31,13 +31,13 @@ use Rattle.fs_model.specs.declared.sides.Side.{Side}
 use Rattle.fs_model.specs.declared.sides.Side.TheVariants as side
 use Rattle.fs_model.specs.declared.sides.Pos.{Pos}
 use Rattle.nf_terms.specs.declared.form.Nf.{Nf}
-use Rattle.nf_sums.proofs.Values.{goes_done}
-use Rattle.nf_substitution.specs.Vectors.{number_at, array_form, list_at, vector_meaning}
-use Rattle.nf_rel.specs.Literals.{all_true_in, is_refuted}
-use Rattle.nf_rel.proofs.Truth.{refuted_false}
-use Rattle.sym_paths.specs.ValuationStores.{at, store_on, choose_side, pair}
-use Rattle.sym_paths.specs.Execution.{Post, arrive, takes_if, effect_if, end_of}
-use Rattle.sym_paths.proofs.Arrivals.{Arrived, arrived}
+use Rattle.sym_facts.proofs.Values.{goes_done}
+use Rattle.sym_facts.specs.Vectors.{number_at, array_form, list_at, vector_meaning}
+use Rattle.sym_facts.specs.Literals.{all_true_in, is_refuted}
+use Rattle.sym_facts.proofs.Truth.{refuted_false}
+use Rattle.sym_facts.specs.ValuationStores.{at, store_on, choose_side, pair}
+use Rattle.sym_facts.specs.Execution.{Post, arrive, takes_if, effect_if, end_of}
+use Rattle.sym_facts.proofs.Arrivals.{Arrived, arrived}
 use Rattle.sym_facts.specs.Facts.{FactPosition, Fact, vector_of, EquationsHold, HoldsIn, Holds}
 use Rattle.sym_facts.specs.Entailment.{entails}
 use Rattle.sym_facts.specs.Starts.{start_fact}

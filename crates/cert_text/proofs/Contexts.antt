@@ -3,7 +3,7 @@ use Rattle.std.proofs.Common.{◌≡◌, ℕ, ◌≤◌, List, [], ◌∷◌, le
 use Rattle.std.specs.Prelude.{Result}
 use Rattle.serde_json.specs.Data.{Data}
 use Rattle.fs_model.specs.Machines.{Fsmd}
-use Rattle.fs_rules.specs.Places.{first_place}
+use Rattle.fs_ast.specs.Places.{first_place}
 use Rattle.fs_pair.specs.declared.positions.Position.{Position}
 use Rattle.fs_pair.specs.Positions.{positions}
 use Rattle.fs_model.specs.declared.sides.Side.{Side}

@@ -4,7 +4,7 @@ use Rattle.std.specs.Prelude.{nat_le, map}
 use Rattle.std.specs.List.{list_all, list_any, AllByRecursion}
 use Rattle.std.proofs.lemmas.Bool.{le-leb, or_parts, and_from}
 use Rattle.std.proofs.lemmas.List.{map_push}
-use Rattle.base_lemmas.proofs.Booleans.{and_second}
+use Rattle.fs_model.proofs.Booleans.{and_second}
 use Rattle.fs_model.specs.Machines.{Fsmd}
 use Rattle.fs_cut.specs.Paths.{is_point}
 use Rattle.fs_cut.specs.Covers.{same_point}

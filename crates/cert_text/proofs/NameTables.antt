@@ -11,7 +11,7 @@ use Rattle.std.proofs.Math.Seq.{take-suc}
 use Rattle.indexmap.specs.IndexMap.{insert_entry}
 use Rattle.fs_model.specs.Limits.{most_states}
 use Rattle.fs_model.specs.Machines.{State, Fsmd}
-use Rattle.fs_rules.specs.SoundParts.{IsSound}
+use Rattle.fs_ast.specs.SoundParts.{IsSound}
 use Rattle.fs_pair.specs.declared.positions.Position.{Position}
 use Rattle.fs_pair.specs.Paired.{IsPairing}
 use Rattle.fs_pair.specs.Partners.{position_name}
@@ -19,8 +19,8 @@ use Rattle.fs_model.specs.declared.sides.Side.{Side}
 use Rattle.fs_model.specs.Sides.{same_side}
 use Rattle.sym_facts.specs.FactParts.{most_sorted_positions}
 use Rattle.sym_facts.proofs.Kept.{few_positions}
-use Rattle.fs_rules.specs.Places.{first_place}
-use Rattle.fs_rules.proofs.FirstFaults.{found_push}
+use Rattle.fs_ast.specs.Places.{first_place}
+use Rattle.fs_ast.proofs.FirstFaults.{found_push}
 use Rattle.cert_text.specs.declared.table.NameTable.{NameTable}
 use Rattle.cert_text.specs.CertificateNames.{names_on}
 use Rattle.cert_text.specs.NameTables.{name_number, HasFirst}

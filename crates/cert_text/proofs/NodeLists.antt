@@ -2,7 +2,7 @@
 use Rattle.std.proofs.Common.{◌≡◌, ℕ, ◌+◌, true, false, ap, sym, subst, ◌∙◌, List, [], ◌∷◌, ◌++◌, Result, Ok, Err}
 use Rattle.std.specs.Prelude.{map}
 use Rattle.std.proofs.lemmas.List.{map_push}
-use Rattle.base_lemmas.proofs.Booleans.{and_first, and_second, neither_first, neither_second}
+use Rattle.fs_model.proofs.Booleans.{and_first, and_second, neither_first, neither_second}
 use Rattle.serde_json.specs.View.{view, items_view}
 use Rattle.serde_json.specs.declared.value.Value.{Value}
 use Rattle.fs_cut.specs.Paths.{Point}

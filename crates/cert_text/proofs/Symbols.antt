@@ -3,7 +3,7 @@ use Rattle.std.proofs.Common.{◌≡◌, ℕ, Bool, true, false, ◌&&◌, refl,
 use Rattle.std.specs.List.{list_all}
 use Rattle.std.specs.Option.{option_or}
 use Rattle.std.proofs.lemmas.Bool.{and_from}
-use Rattle.base_lemmas.proofs.Booleans.{and_first, and_second}
+use Rattle.fs_model.proofs.Booleans.{and_first, and_second}
 use Rattle.fs_model.specs.declared.sides.Side.{Side}
 use Rattle.fs_model.specs.declared.sides.Pos.{Pos}
 use Rattle.nf_terms.specs.declared.symbols.Sort.{Sort}
@@ -13,7 +13,7 @@ use Rattle.nf_terms.specs.NormalTerms as terms
 use Rattle.nf_terms.specs.Lists.{ListTerm}
 use Rattle.nf_terms.specs.Symbols.{symbols_of_atom, symbols_of_monomial, symbols_of, symbols_of_writes, symbols_of_array, symbols_of_items, symbols_of_list}
 use Rattle.nf_terms.specs.TermSorts.{same_term_sort}
-use Rattle.nf_symbols.proofs.Passing.{together}
+use Rattle.sym_facts.proofs.Passing.{together}
 use Rattle.nf_rel.specs.NormalLiterals.{is_normal_literal}
 use Rattle.nf_rel.specs.Literals.{NormalLiteral}
 use Rattle.sym_facts.specs.Facts.{may_be_kept}

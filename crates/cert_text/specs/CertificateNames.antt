@@ -4,7 +4,7 @@ use Rattle.std.specs.Prelude.{option_and_then, option_map}
 use Rattle.fs_model.specs.declared.parts.Sort.{Sort}
 use Rattle.fs_model.specs.declared.parts.Sort.TheVariants as sort
 use Rattle.fs_model.specs.Machines.{Fsmd}
-use Rattle.fs_rules.specs.Places.{first_place}
+use Rattle.fs_ast.specs.Places.{first_place}
 use Rattle.fs_pair.specs.declared.positions.Position.{Position}
 use Rattle.fs_pair.specs.Partners.{position_name}
 use Rattle.fs_model.specs.declared.sides.Side.{Side}

@@ -2,7 +2,7 @@
 use Rattle.std.specs.Prelude.{◌≡◌, ℕ, List, [], ◌∷◌, Option, None}
 use Rattle.std.specs.Map.{lookup}
 use Rattle.std.specs.Str.{bytes_eq}
-use Rattle.fs_rules.specs.Places.{first_place}
+use Rattle.fs_ast.specs.Places.{first_place}
 use Rattle.cert_text.specs.declared.table.NameTable.{NameTable}
 
 -- the number of a name in a table; the empty name has none

@@ -2,7 +2,7 @@
 use Rattle.std.proofs.Common.{◌≡◌, ℕ, suc, ◌+◌, ◌<◌, true, List, ◌∷◌, map, length, drop, get_or, sym, ap, ◌∙◌, subst, arith}
 use Rattle.std.specs.List.{list_all}
 use Rattle.std.proofs.Math.Seq.{drop-cons}
-use Rattle.base_lemmas.proofs.Booleans.{and_first, and_second}
+use Rattle.fs_model.proofs.Booleans.{and_first, and_second}
 use Rattle.nf_rel.specs.declared.literals.NLit.{NLit}
 use Rattle.nf_rel.specs.Literals.{NormalLiteral, True, False, Is}
 use Rattle.nf_rel.specs.View.{literal_in}

@@ -6,7 +6,7 @@ use Rattle.std.specs.Option.{option_to_list}
 use Rattle.std.proofs.lemmas.Bool.Decides.{nat_tests}
 use Rattle.std.proofs.lemmas.Option.{slice_get_within, slice_get-get_or, same_Some}
 use Rattle.std.proofs.lemmas.Bool.{false_from_ne_true}
-use Rattle.base_lemmas.proofs.Lists.{nothing_in_none, slice_get-front, slice_get-of_map, length_map, map_map}
+use Rattle.fs_model.proofs.Lists.{nothing_in_none, slice_get-front, slice_get-of_map, length_map, map_map}
 use Rattle.fs_model.specs.Source.{SourceState, Source}
 use Rattle.fs_model.specs.Machines.{State, Fsmd, transitions_of}
 use Rattle.fs_rules.specs.declared.check.CheckRule.TheVariants.{EndlessLine}

@@ -17,8 +17,8 @@ use Rattle.fs_rules.specs.declared.check.CheckRule.TheVariants.{TwiceNamed, Unkn
 use Rattle.fs_rules.specs.declared.check.CheckRule.TheVariants.{TooManyBranches, UnknownState, TooMany, TooManyEmits}
 use Rattle.std.proofs.lemmas.Option.{slice_get_within}
 use Rattle.std.proofs.lemmas.Bool.{and_parts, or_parts, and_from, or_right, not-false, ltb-false, ltb-true}
-use Rattle.base_lemmas.proofs.Booleans.{or_other}
-use Rattle.base_lemmas.proofs.Lists.{bytes_eq-self, element_at, slice_get-of_map, length_map, map_map}
+use Rattle.fs_model.proofs.Booleans.{or_other}
+use Rattle.fs_model.proofs.Lists.{bytes_eq-self, element_at, slice_get-of_map, length_map, map_map}
 use Rattle.fs_model.specs.Renamed.{guard_over}
 use Rattle.fs_rules.specs.MachineOfParts.{variables_of, names_of, state_names, place_or_end, transition_spelled, state_spelled, machine_of}
 use Rattle.fs_model.specs.Words.{is_name}

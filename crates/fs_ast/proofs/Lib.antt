@@ -9,3 +9,7 @@ pub mod FirstBroken
 pub mod Opens
 pub mod Lifted
 pub mod OneBranch
+pub use Rattle.fs_rules.proofs.FirstFaults
+pub use Rattle.fs_rules.proofs.Rounds
+pub use Rattle.fs_rules.proofs.Uses
+pub use Rattle.fs_rules.proofs.Turns

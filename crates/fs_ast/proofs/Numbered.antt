@@ -1,7 +1,7 @@
 -- Guards and assignments over the numbers of variables.
 use Rattle.std.proofs.Common.{◌≡◌, ℕ, List, [], ◌∷◌, refl, sym, ◌∙◌, ap, ap₂}
 use Rattle.std.specs.Prelude.{map}
-use Rattle.base_lemmas.proofs.Lists.{map_map}
+use Rattle.fs_model.proofs.Lists.{map_map}
 use Rattle.fs_model.specs.declared.parts.VarId.{VarId}
 use Rattle.fs_model.specs.declared.parts.Guard.{Guard as DeclaredGuard}
 use Rattle.fs_model.specs.declared.parts.Assign.{Assign as DeclaredAssign}

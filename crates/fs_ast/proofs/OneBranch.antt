@@ -2,7 +2,7 @@
 use Rattle.std.proofs.Common.{◌≡◌, ℕ, ◌+◌, ◌≤◌, List, [], ◌∷◌, length, ap, sym, refl, ◌∙◌, arith, Option, Some, None, Bool, true, false}
 use Rattle.std.specs.Prelude.{not, ◌&&◌}
 use Rattle.std.specs.Option.{is_none}
-use Rattle.base_lemmas.proofs.Booleans.{and_second}
+use Rattle.fs_model.proofs.Booleans.{and_second}
 use Rattle.fs_rules.specs.SoundParts.{ends_open}
 use Rattle.fs_model.specs.Terms.{Guard, Test, Not, And, Or, Transition}
 use Rattle.fs_model.specs.Trees.{Tree, Empty, Leaf, Branch, tree_of_guard, tree_of_condition, tree_of_transitions, leaves, branches_of, count_leaves}

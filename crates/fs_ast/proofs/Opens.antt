@@ -2,7 +2,7 @@
 use Rattle.std.proofs.Common.{◌≡◌, ℕ, Bool, true, false, cond, List, [], ◌∷◌, refl, ◌∙◌, ap}
 use Rattle.std.specs.Prelude.{not, is_some, Option, Some, None, option_map, map, filter}
 use Rattle.std.specs.Option.{option_to_list}
-use Rattle.base_lemmas.proofs.Booleans.{and_second}
+use Rattle.fs_model.proofs.Booleans.{and_second}
 use Rattle.fs_model.specs.Terms.{Guard, Transition}
 use Rattle.fs_model.specs.Stores.{Store}
 use Rattle.fs_model.specs.Meaning.{condition_holds, transition_taken}

@@ -4,7 +4,7 @@ use Rattle.std.specs.Prelude.{◌||◌, ◌==◌, nat_lt, Option, Some, None, ma
 use Rattle.std.specs.List.{list_all}
 use Rattle.std.specs.Option.{option_to_list}
 use Rattle.std.proofs.lemmas.Bool.{cases_eq, and_parts, ltb-true}
-use Rattle.base_lemmas.proofs.Lists.{length_map}
+use Rattle.fs_model.proofs.Lists.{length_map}
 use Rattle.fs_model.specs.Machines.{State, Fsmd, transitions_of}
 use Rattle.fs_model.specs.Trees.{tree_of_transitions, branches_of, count_leaves}
 use Rattle.fs_rules.specs.declared.check.CheckRule.TheVariants.{EndlessLine}

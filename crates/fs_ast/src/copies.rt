@@ -45,7 +45,7 @@ pub fn copy_assigns(
 ) -> Result<Vec<Assign<VarId>>, NoMemory>
     ensures { IfOk result (λ out. map assignment_of out.items ≡ map assignment_of assigns.now) }
 {
-    let mut out = Vec::new(alloc);
+    let mut out = Vec::with_capacity(alloc, assigns.len())?;
     for assign in assigns {
         out.push(assign.try_clone(alloc)?)?;
     }

@@ -205,7 +205,7 @@ fn branch(alloc: Global, way: &[Lit<VarId>], line: &Transition) -> Result<Branch
 fn copy_way(alloc: Global, way: &[Lit<VarId>]) -> Result<Vec<Lit<VarId>>, NoMemory>
     ensures { IfOk result (λ out. map literal_of out.items ≡ map literal_of way.now) }
 {
-    let mut out = Vec::new(alloc);
+    let mut out = Vec::with_capacity(alloc, way.len())?;
     for lit in way {
         out.push(lit.try_clone(alloc)?)?;
     }

@@ -5,9 +5,9 @@ use Rattle.std.specs.List.{list_all, slice_index_or}
 use Rattle.std.proofs.lemmas.Bool.Decides.{nat_tests}
 use Rattle.std.proofs.lemmas.List.Folds.{list_all-append}
 use Rattle.std.proofs.lemmas.Bool.{and_from, lt-ltb, ltb-true}
-use Rattle.base_lemmas.proofs.Booleans.{and_first, and_second}
-use Rattle.base_lemmas.proofs.Lists.{one_element}
-use Rattle.fs_rules.specs.SoundParts.{IsSound, branch_count, is_cutpoint, first_transition_target}
+use Rattle.fs_model.proofs.Booleans.{and_first, and_second}
+use Rattle.fs_model.proofs.Lists.{one_element}
+use Rattle.fs_ast.specs.SoundParts.{IsSound, branch_count, is_cutpoint, first_transition_target}
 use Rattle.fs_model.specs.Terms.{Literal, Guard, Test, Not, And, Or, Assignment, Transition}
 use Rattle.fs_model.specs.Machines.{Fsmd, transitions_of}
 use Rattle.fs_model.specs.Stores.{Store}

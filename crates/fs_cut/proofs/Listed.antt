@@ -6,8 +6,8 @@ use Rattle.std.specs.List.{list_all, list_any, slice_index_or, range_with_len}
 use Rattle.std.proofs.lemmas.Bool.Decides.{nat_tests}
 use Rattle.std.proofs.lemmas.List.FromFn.{get_or-map-range_with_len, length-map-range_with_len, length-range_with_len}
 use Rattle.std.proofs.lemmas.Bool.{and_from, eqb-true}
-use Rattle.base_lemmas.proofs.Booleans.{and_first, and_second, or_other}
-use Rattle.fs_rules.specs.SoundParts.{IsSound, branch_count, is_cutpoint, first_transition_target, reaches_cutpoint}
+use Rattle.fs_model.proofs.Booleans.{and_first, and_second, or_other}
+use Rattle.fs_ast.specs.SoundParts.{IsSound, branch_count, is_cutpoint, first_transition_target, reaches_cutpoint}
 use Rattle.fs_model.specs.Limits.{most_branches}
 use Rattle.fs_model.specs.Machines.{State, Fsmd, transitions_of}
 use Rattle.fs_model.specs.Trees.{branches_of}

@@ -5,9 +5,9 @@ use Rattle.std.specs.Prelude.{Some, not, ◌||◌, nat_lt, slice_get, IsTrue}
 use Rattle.std.specs.List.{AllByRecursion, list_all, flat_map, range_with_len}
 use Rattle.std.proofs.lemmas.Bool.{cases_lt}
 use Rattle.std.proofs.lemmas.Bool.Decides.{nat_tests, Decides-eqb}
-use Rattle.base_lemmas.proofs.Booleans.{or_true}
-use Rattle.base_lemmas.proofs.Quantifiers.{each_weaker, each_append, each_at}
-use Rattle.base_lemmas.proofs.Lists.{element_at, slice_get-of_map, length_map}
+use Rattle.fs_model.proofs.Booleans.{or_true}
+use Rattle.fs_model.proofs.Quantifiers.{each_weaker, each_append, each_at}
+use Rattle.fs_model.proofs.Lists.{element_at, slice_get-of_map, length_map}
 use Rattle.fs_model.specs.Limits.{most_states, most_variables}
 use Rattle.fs_model.specs.Machines.{Fsmd, transitions_of}
 use Rattle.fs_model.specs.Source.{SourceState, Source}

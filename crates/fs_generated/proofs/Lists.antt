@@ -8,8 +8,8 @@ use Rattle.std.proofs.lemmas.Bool.{cases_lt, false≢true}
 use Rattle.std.proofs.lemmas.Slice.Eq.{bytes_eq-Decides}
 use Rattle.std.proofs.lemmas.Option.{slice_get_within}
 use Rattle.std.proofs.lemmas.List.{map-append}
-use Rattle.base_lemmas.proofs.Quantifiers.{each_append}
-use Rattle.base_lemmas.proofs.Lists.{slice_get-front, slice_get-of_map}
+use Rattle.fs_model.proofs.Quantifiers.{each_append}
+use Rattle.fs_model.proofs.Lists.{slice_get-front, slice_get-of_map}
 use Rattle.fs_rules.specs.MachineOfParts.{place_or_end}
 use Rattle.fs_rules.proofs.Rounds.{get_back}
 

@@ -7,8 +7,8 @@ use Rattle.std.specs.Prelude.{nat_le}
 use Rattle.std.proofs.lemmas.Bool.Decides.{nat_tests, Decides-eqb}
 use Rattle.std.proofs.lemmas.Slice.Eq.{bytes_eq-Decides}
 use Rattle.std.proofs.lemmas.Bool.{and_parts, or_cases}
-use Rattle.base_lemmas.proofs.Booleans.{and_three}
-use Rattle.base_integers.specs.Digits.{with_digit, value_of_digits}
+use Rattle.fs_model.proofs.Booleans.{and_three}
+use Rattle.fs_model.specs.Digits.{with_digit, value_of_digits}
 use Rattle.fs_model.specs.Words.{is_digit}
 use Rattle.fs_inputs.specs.Numbers.{is_positive, is_natural, number_in}
 use Rattle.fs_inputs.proofs.Decimal.{grows}

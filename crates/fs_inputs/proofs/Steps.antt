@@ -3,7 +3,7 @@ use Rattle.std.proofs.Common.{◌≡◌, ℕ, ℤ, pos, Bool, true, false, cond,
 use Rattle.std.specs.Option.{is_some, option_or, option_map}
 use Rattle.std.specs.Str.{bytes_eq}
 use Rattle.std.specs.Ordering.{int_eq}
-use Rattle.base_lemmas.proofs.Booleans.{and_three}
+use Rattle.fs_model.proofs.Booleans.{and_three}
 use Rattle.serde_json.specs.Data.{Data, Members, no_members, member}
 use Rattle.fs_runs.specs.declared.values.Entries.{Entries}
 use Rattle.fs_runs.specs.Values.{entry_number}

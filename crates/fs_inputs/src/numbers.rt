@@ -2,7 +2,7 @@
 
 ghost use Rattle.std.specs.Prelude.{◌≡◌, ◌≤◌, ◌^◌, pos, neg_ℤ, Some, SomeIff};
 ghost use Rattle.std.specs.List.{list_all};
-ghost use Rattle.base_integers.specs.Digits.{value_of_digits};
+ghost use Rattle.fs_model.specs.Digits.{value_of_digits};
 ghost use Rattle.fs_model.specs.Words.{is_digit};
 ghost use Rattle.fs_inputs.specs.Numbers.{is_positive, is_natural, number_in, number_reading};
 

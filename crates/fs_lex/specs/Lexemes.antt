@@ -3,7 +3,7 @@ use Rattle.std.specs.Prelude.{ℕ, ◌^◌, pos, Bool, cond, not, ◌||◌, ◌=
 use Rattle.std.specs.Prelude.{take, codes}
 use Rattle.std.specs.List.{prefix_len}
 use Rattle.std.specs.Str.{bytes_eq}
-use Rattle.base_integers.specs.Digits.{value_of_digits}
+use Rattle.fs_model.specs.Digits.{value_of_digits}
 use Rattle.fs_model.specs.Words.{is_letter, is_digit, is_word_byte, is_name}
 use Rattle.fs_model.specs.declared.parts.Rel.TheVariants.{Eq, Ne, Lt, Le, Gt, Ge}
 use Rattle.fs_model.specs.declared.parts.Role.TheVariants.{Input, Output, Local}

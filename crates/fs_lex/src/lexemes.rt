@@ -4,7 +4,7 @@
 
 ghost use Rattle.std.specs.Prelude.{◌≡◌, ◌<◌, ◌≤◌, ◌^◌, length, IfOk, SomeIff};
 ghost use Rattle.std.specs.List.{prefix_len};
-ghost use Rattle.base_integers.specs.Digits.{value_of_digits};
+ghost use Rattle.fs_model.specs.Digits.{value_of_digits};
 ghost use Rattle.fs_model.specs.Words.{is_digit, is_word_byte};
 ghost use Rattle.fs_grammar.specs.Tokens.{MadeAs};
 ghost use Rattle.fs_lex.specs.Lexemes.{is_space, is_in_comment, keyword_of, word_token, number_token};

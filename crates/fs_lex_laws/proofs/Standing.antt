@@ -8,8 +8,8 @@ use Rattle.std.specs.List.{list_all, prefix_len, fold}
 use Rattle.std.specs.Map.{lookup}
 use Rattle.std.specs.Str.{bytes_eq}
 use Rattle.std.proofs.lemmas.Map.Made.{is_some-lookup}
-use Rattle.base_lemmas.proofs.Booleans.{and_false}
-use Rattle.base_integers.specs.Digits.{with_digit, value_of_digits}
+use Rattle.fs_model.proofs.Booleans.{and_false}
+use Rattle.fs_model.specs.Digits.{with_digit, value_of_digits}
 use Rattle.fs_model.specs.declared.parts.Rel.TheVariants.{Lt, Gt}
 use Rattle.fs_model.specs.Limits.{most_number}
 use Rattle.fs_model.specs.Words.{is_letter, is_digit, is_word_byte, is_word, is_name, is_reserved}

@@ -5,7 +5,7 @@ use Rattle.std.specs.Prelude.{Bool, true, false, ◌||◌, ◌⊎◌, ◌==◌, 
 use Rattle.std.specs.List.{list_all, prefix_len}
 use Rattle.std.proofs.lemmas.Bool.{eqb-true, not-false}
 use Rattle.std.proofs.lemmas.List.{take-append-drop, length-take-le}
-use Rattle.base_lemmas.proofs.Lists.{prefix_len_more}
+use Rattle.fs_model.proofs.Lists.{prefix_len_more}
 use Rattle.fs_model.specs.Words.{is_letter, is_digit, is_word_byte}
 use Rattle.fs_grammar.specs.declared.fault.TextPlace.{TextPlace}
 use Rattle.fs_grammar.specs.declared.token.TokenKind.{TokenKind}

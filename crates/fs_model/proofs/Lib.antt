@@ -8,3 +8,11 @@ pub mod SameCopies
 pub mod Roles
 pub mod Stores
 pub mod Words
+pub use Rattle.base_laws.proofs.Booleans
+pub use Rattle.base_laws.proofs.Lists
+pub use Rattle.base_laws.proofs.Options
+pub use Rattle.base_laws.proofs.Quantifiers
+pub use Rattle.base_laws.proofs.Integers
+pub use Rattle.base_laws.proofs.Numbers
+pub use Rattle.base_laws.proofs.Orderings
+pub use Rattle.base_laws.proofs.Ring

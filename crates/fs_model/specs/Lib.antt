@@ -15,3 +15,5 @@ pub mod VariableNames
 pub mod View
 pub mod WellFormed
 pub mod Words
+pub use Rattle.base_laws.specs.Digits
+pub use Rattle.base_laws.specs.Division

@@ -5,7 +5,7 @@ use Rattle.std.specs.Prelude.{not, ◌&&◌, slice_get}
 use Rattle.std.specs.List.{filter, list_any, position_from, AllByRecursion}
 use Rattle.std.specs.Option.{option_to_list}
 use Rattle.std.proofs.lemmas.Bool.{and_right, not-true}
-use Rattle.base_lemmas.proofs.Booleans.{neither_first, neither_second}
+use Rattle.fs_model.proofs.Booleans.{neither_first, neither_second}
 use Rattle.fs_model.specs.declared.parts.VarInfo.{VarInfo}
 use Rattle.fs_model.specs.Machines.{Fsmd}
 use Rattle.fs_model.specs.declared.sides.Side.{Side}

@@ -5,8 +5,8 @@ use Rattle.std.specs.Prelude.{not, slice_get}
 use Rattle.std.specs.List.{position_from}
 use Rattle.std.proofs.lemmas.Bool.Decides.{nat_tests}
 use Rattle.std.proofs.lemmas.Bool.{and_from, not-true}
-use Rattle.base_lemmas.proofs.Booleans.{and_first, and_second}
-use Rattle.fs_rules.specs.SoundParts.{IsSound, names_differ}
+use Rattle.fs_model.proofs.Booleans.{and_first, and_second}
+use Rattle.fs_ast.specs.SoundParts.{IsSound, names_differ}
 use Rattle.fs_model.specs.declared.parts.VarInfo.{VarInfo}
 use Rattle.fs_model.specs.Machines.{Fsmd}
 use Rattle.fs_model.specs.declared.sides.Side.{Side}

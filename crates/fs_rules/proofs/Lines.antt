@@ -2,7 +2,7 @@
 use Rattle.std.proofs.Common.{◌≡◌, ℕ, zero, suc, List, [], ◌∷◌, length, ◌∙◌, ap, arith}
 use Rattle.std.specs.Prelude.{Some, map, slice_get}
 use Rattle.std.specs.Option.{is_some}
-use Rattle.base_lemmas.proofs.Options.{is_some-map}
+use Rattle.fs_model.proofs.Options.{is_some-map}
 use Rattle.fs_model.specs.declared.parts.RawLine.{RawLine}
 use Rattle.fs_model.specs.View.{source_transition_of, named_guard}
 use Rattle.fs_rules.specs.Rules.{lacks_else}

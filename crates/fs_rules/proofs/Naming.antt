@@ -2,7 +2,7 @@
 use Rattle.std.proofs.Common.{◌≡◌, ℕ, List, [], ◌∷◌, ◌++◌, length, refl, sym, ◌∙◌, ap, ap₂, append_assoc}
 use Rattle.std.specs.Prelude.{Option, map, nat_lt}
 use Rattle.std.proofs.lemmas.List.{map-append}
-use Rattle.base_lemmas.proofs.Lists.{length_map, map_map}
+use Rattle.fs_model.proofs.Lists.{length_map, map_map}
 use Rattle.fs_model.specs.declared.parts.VarInfo.{VarInfo}
 use Rattle.fs_model.specs.Source.{Declaration, SourceState, Source}
 use Rattle.fs_rules.specs.declared.check.CheckFault.{CheckFault}

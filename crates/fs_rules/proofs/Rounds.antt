@@ -7,8 +7,8 @@ use Rattle.std.specs.List.{slice_get}
 use Rattle.std.proofs.lemmas.Bool.{cases_eq, eqb-true}
 use Rattle.std.proofs.lemmas.List.Folds.{list_all-append}
 use Rattle.std.proofs.lemmas.Option.{slice_get_past, slice_get_within}
-use Rattle.base_lemmas.proofs.Booleans.{or_other}
-use Rattle.base_lemmas.proofs.Lists.{slice_get-front}
+use Rattle.fs_model.proofs.Booleans.{or_other}
+use Rattle.fs_model.proofs.Lists.{slice_get-front}
 use Rattle.fs_rules.specs.declared.uncut_cycles.Pass.{Pass}
 use Rattle.fs_rules.specs.declared.uncut_cycles.Verdict.{Verdict}
 use Rattle.fs_rules.specs.declared.uncut_cycles.Verdict.TheVariants.{Endless}

@@ -4,7 +4,7 @@ use Rattle.fs_model.specs.Source.{Source}
 use Rattle.fs_rules.specs.declared.check.CheckFault.{CheckFault}
 use Rattle.fs_rules.specs.Rules.{plain_faults, branch_faults, line_past_limit, Broken, BreaksNoRule}
 use Rattle.std.proofs.Math.ListN.{drop_of_length-le}
-use Rattle.base_lemmas.proofs.Lists.{nothing_in_none}
+use Rattle.fs_model.proofs.Lists.{nothing_in_none}
 
 pub unbroken : (p : Source) (f : CheckFault) → BreaksNoRule p → Broken p f → ⊥
 unbroken p f l (inl x) = nothing_in_none (plain_faults p) f l.plain x

@@ -10,8 +10,8 @@ use Rattle.std.proofs.lemmas.List.{drop_all}
 use Rattle.std.proofs.lemmas.Bool.Decides.{nat_tests}
 use Rattle.fs_rules.proofs.Turns.{taken_map}
 use Rattle.std.proofs.lemmas.List.Folds.{list_all-append, list_any-append}
-use Rattle.base_lemmas.proofs.Booleans.{and_swap, not_or}
-use Rattle.base_lemmas.proofs.Lists.{map_drop_next}
+use Rattle.fs_model.proofs.Booleans.{and_swap, not_or}
+use Rattle.fs_model.proofs.Lists.{map_drop_next}
 use Rattle.fs_model.specs.declared.parts.VarInfo.{VarInfo}
 use Rattle.fs_rules.specs.SoundParts.{other_sort_at, scalars_in_assignment, arrays_in_assignment, port_in, scalars_in_assignments, arrays_in_assignments}
 use Rattle.fs_rules.specs.SoundParts.{ports_in_assignments, emits_of, emit_count, occurs, assigned_in, all_differ}

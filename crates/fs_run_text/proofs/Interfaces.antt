@@ -7,8 +7,8 @@ use Rattle.std.specs.Bool.{Decides}
 use Rattle.std.proofs.lemmas.Bool.Decides.{Decides-like}
 use Rattle.std.proofs.lemmas.Bool.{false≢true, not-false}
 use Rattle.std.proofs.lemmas.Slice.Eq.{bytes_eq-Decides}
-use Rattle.base_lemmas.proofs.Options.{option_or_first, option_or_second, some_is_not_none}
-use Rattle.base_lemmas.proofs.Booleans.{and_first}
+use Rattle.fs_model.proofs.Options.{option_or_first, option_or_second, some_is_not_none}
+use Rattle.fs_model.proofs.Booleans.{and_first}
 use Rattle.fs_model.specs.declared.parts.Role.{Role}
 use Rattle.fs_model.specs.declared.parts.Role.TheVariants.{Input, Output, Local}
 use Rattle.fs_model.specs.declared.parts.VarInfo.{VarInfo}

@@ -5,8 +5,8 @@ use Rattle.std.specs.Prelude.{◌&&◌, Option, Some, IsSome, map, filter, slice
 use Rattle.std.specs.List.{AllByRecursion}
 use Rattle.std.proofs.lemmas.List.{length-map}
 use Rattle.std.specs.Str.{bytes_eq}
-use Rattle.base_lemmas.proofs.Lists.{bytes_eq-self}
-use Rattle.base_lemmas.proofs.Numbers.{plus_suc}
+use Rattle.base_laws.proofs.Lists.{bytes_eq-self}
+use Rattle.base_laws.proofs.Numbers.{plus_suc}
 use Rattle.fs_model.specs.declared.parts.VarInfo.{VarInfo}
 use Rattle.fs_model.specs.Machines.{Fsmd}
 use Rattle.fs_model.specs.Stores.{Store}

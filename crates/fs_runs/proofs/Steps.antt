@@ -4,10 +4,10 @@ use Rattle.std.specs.Prelude.{Option, Some, None, IsSome, option_map, map, slice
 use Rattle.std.specs.List.{list_all}
 use Rattle.std.proofs.lemmas.Option.{slice_get-map}
 use Rattle.std.proofs.lemmas.Bool.{and_from}
-use Rattle.base_lemmas.proofs.Booleans.{and_first, and_second}
-use Rattle.base_lemmas.proofs.Quantifiers.{list_all_front, list_all_back}
-use Rattle.fs_rules.specs.SoundParts.{IsSound, IsSoundTransition, has_sort, scalar_at, array_at, port_at, scalars_in, arrays_in, scalars_in_assignments}
-use Rattle.fs_rules.specs.SoundParts.{arrays_in_assignments, ports_in_assignments, scalars_in_condition, arrays_in_condition}
+use Rattle.base_laws.proofs.Booleans.{and_first, and_second}
+use Rattle.base_laws.proofs.Quantifiers.{list_all_front, list_all_back}
+use Rattle.fs_ast.specs.SoundParts.{IsSound, IsSoundTransition, has_sort, scalar_at, array_at, port_at, scalars_in, arrays_in, scalars_in_assignments}
+use Rattle.fs_ast.specs.SoundParts.{arrays_in_assignments, ports_in_assignments, scalars_in_condition, arrays_in_condition}
 use Rattle.fs_model.specs.declared.parts.Sort.{Sort}
 use Rattle.fs_model.specs.declared.parts.VarInfo.{VarInfo}
 use Rattle.fs_model.specs.Terms.{Assignment, Assign, ArrayWrite, Emit, Transition}

@@ -6,7 +6,7 @@ use Rattle.fs_model.specs.Stores.{Store}
 use Rattle.fs_model.specs.Runs.{Inputs, Step, ReachesReset, FirstReturn, Run, start, output}
 use Rattle.fs_model.specs.Touched.{touched_by_step, AllInRange, StaysInRange}
 use Rattle.std.specs.Prelude.{List, IfOk, Result, Ok, Err}
-use Rattle.base_lemmas.proofs.Numbers.{plus_suc}
+use Rattle.base_laws.proofs.Numbers.{plus_suc}
 use Rattle.fs_runs.specs.declared.run.Ended.{Ended}
 use Rattle.fs_runs.specs.declared.run.RunStop.{RunStop}
 use Rattle.fs_runs.specs.Outcomes.{RunsOn, LeavesRange, told_by}

@@ -3,8 +3,8 @@ use Rattle.std.proofs.Common.{◌≡◌, ℕ, Bool, true, false, cond, List, [],
 use Rattle.std.specs.Prelude.{not, ◌&&◌, ◌||◌, is_none, ℤ, Option, Some, None, filter}
 use Rattle.std.proofs.lemmas.List.Folds.{list_all-append}
 use Rattle.std.proofs.lemmas.Bool.{and_from}
-use Rattle.base_lemmas.proofs.Booleans.{and_first, and_second}
-use Rattle.fs_rules.specs.SoundParts.{ends_open, is_open}
+use Rattle.base_laws.proofs.Booleans.{and_first, and_second}
+use Rattle.fs_ast.specs.SoundParts.{ends_open, is_open}
 use Rattle.fs_model.specs.Terms.{Term, Number, Variable, Read, Sum, Difference, Product, Quotient, Remainder, Negative, Literal, Guard, Test, Not, And, Or}
 use Rattle.fs_model.specs.Terms.{Assignment, Transition}
 use Rattle.fs_model.specs.Stores.{Store}

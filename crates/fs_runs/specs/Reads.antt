@@ -1,7 +1,7 @@
 -- Which numbers are looked at on the way to the branch that is taken.
 use Rattle.std.specs.Prelude.{ℕ, cond, ℤ, ◌+ℤ◌, ◌-ℤ◌, ◌*ℤ◌, neg_ℤ, FitsSigned, List, [], ◌∷◌, ◌++◌, Option, Some, None}
 use Rattle.std.specs.Int.{w128}
-use Rattle.base_integers.specs.Division.{quotient, remainder}
+use Rattle.base_laws.specs.Division.{quotient, remainder}
 use Rattle.fs_model.specs.Terms.{Term, Number, Variable, Read, Sum, Difference, Product, Quotient, Remainder, Negative, Literal}
 use Rattle.fs_model.specs.Stores.{Store}
 use Rattle.fs_model.specs.Meaning.{value, literal_holds}

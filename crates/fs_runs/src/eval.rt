@@ -8,7 +8,7 @@ ghost use Rattle.fs_runs.specs.Values.{value_number, entry_in, store_from};
 ghost use Rattle.fs_runs.specs.Reads.{EachFits};
 
 use crate::values::Value;
-use base_integers::{quotient, remainder};
+use base_laws::{quotient, remainder};
 use fs_model::parts::{Expr, VarId};
 
 // What a scalar holds.

@@ -3,8 +3,8 @@
 ghost use Rattle.std.specs.Prelude.{◌≡◌, IsTrue, IfOk};
 ghost use Rattle.fs_model.specs.View.{source_of};
 ghost use Rattle.fs_model.specs.WellFormed.{is_well_formed};
-ghost use Rattle.fs_rules.specs.MachineOfParts.{machine_of};
-ghost use Rattle.fs_rules.specs.Rules.{BreaksNoRule};
+ghost use Rattle.fs_ast.specs.MachineOfParts.{machine_of};
+ghost use Rattle.fs_ast.specs.Rules.{BreaksNoRule};
 
 use fs_ast::machine::Machine;
 use fs_model::limits::TEXT_LIMIT;

@@ -4,7 +4,7 @@ use Rattle.std.specs.Prelude.{not, Bool, true, ◌&&◌, ◌||◌, ◌==◌, nat
 use Rattle.std.specs.List.{list_all}
 use Rattle.std.proofs.lemmas.Bool.{le-leb, and_from}
 use Rattle.std.proofs.lemmas.List.Folds.{list_all-append}
-use Rattle.base_lemmas.proofs.Booleans.{and_first, and_second}
+use Rattle.fs_model.proofs.Booleans.{and_first, and_second}
 use Rattle.fs_model.specs.declared.parts.Role.TheVariants.{Output}
 use Rattle.fs_model.specs.declared.parts.Sort.TheVariants as sorts
 use Rattle.fs_model.specs.Runs.{is_output, is_port}

@@ -9,8 +9,8 @@ use Rattle.std.proofs.lemmas.Bool.{cases_lt, false≢true}
 use Rattle.std.proofs.lemmas.Bool.Decides.{nat_tests, Decides-int_eq}
 use Rattle.std.proofs.lemmas.List.{map-set}
 use Rattle.std.proofs.lemmas.Option.{slice_get_within}
-use Rattle.base_lemmas.proofs.Lists.{slice_get-none, length_map}
-use Rattle.base_lemmas.proofs.Options.{none_from_map}
+use Rattle.fs_model.proofs.Lists.{slice_get-none, length_map}
+use Rattle.fs_model.proofs.Options.{none_from_map}
 use Rattle.fs_model.specs.declared.parts.Sort.{Sort}
 use Rattle.fs_model.specs.declared.parts.VarInfo.{VarInfo}
 use Rattle.fs_model.specs.Runs.{Content, Entries, is_input}

@@ -9,7 +9,7 @@ use Rattle.std.proofs.Math.Nat.{lt_trans}
 use Rattle.std.proofs.lemmas.Fmt.{decimal_by_steps_wide}
 use Rattle.std.specs.List.{prefix_len, list_all}
 use Rattle.std.proofs.lemmas.Bool.{and_parts, not-true, lt-ltb}
-use Rattle.base_integers.specs.Digits.{with_digit, value_of_digits}
+use Rattle.fs_model.specs.Digits.{with_digit, value_of_digits}
 use Rattle.fs_model.specs.Words.{is_letter, is_digit, is_word_byte, is_word, is_reserved, is_name}
 use Rattle.fs_model.specs.declared.parts.Role.TheVariants.{Input, Output, Local}
 use Rattle.fs_model.specs.Source.{Source}

@@ -5,7 +5,7 @@ use Rattle.std.specs.List.{flat_map, list_any}
 use Rattle.std.specs.Str.{bytes_eq}
 use Rattle.std.proofs.lemmas.List.{drop-map, take-map, map-append}
 use Rattle.std.proofs.lemmas.Option.{slice_get-map}
-use Rattle.base_lemmas.proofs.Lists.{length_map, map_map}
+use Rattle.fs_model.proofs.Lists.{length_map, map_map}
 use Rattle.fs_model.specs.declared.parts.VarInfo.{VarInfo}
 use Rattle.fs_model.specs.Limits.{most_variables, most_states, most_branches, most_emits}
 use Rattle.fs_model.specs.Terms.{Transition}

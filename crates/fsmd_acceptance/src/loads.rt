@@ -3,9 +3,9 @@
 use fs_base::memory::MemFiles;
 use fs_base::outside::Files;
 use fs_base::sinks::MemSink;
+use fsmd_test_tables::answer::Status;
 use fsmd_test_tables::answers::words_of;
-use fsmd_tool::answer::Status;
-use fsmd_tool::drive::drive;
+use fsmd_test_tables::drive::drive;
 use std::alloc::{AllocError, Global};
 use std::process::Abort;
 

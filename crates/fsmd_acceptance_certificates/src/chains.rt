@@ -5,11 +5,11 @@ use crate::worked::SUM_PAST_A_TEST;
 use fs_base::memory::MemFiles;
 use fs_base::outside::Files;
 use fs_base::sinks::CleanSink;
+use fsmd_test_tables::answer::Status;
 use fsmd_test_tables::answers::{Held, answers, end_of, pair_with, words_of};
 use fsmd_test_tables::case::case_of;
+use fsmd_test_tables::drive::drive;
 use fsmd_test_tables::machines::{SUM_BEFORE_A_TEST, SUM_BEHIND_A_TEST};
-use fsmd_tool::answer::Status;
-use fsmd_tool::drive::drive;
 use std::alloc::{AllocError, Global};
 
 // What a chain from the sum before a test over the sum behind it to the latter again answers, with this certificate of the

@@ -4,12 +4,12 @@ use crate::worked::SUM_PAST_A_TEST;
 use fs_base::memory::MemFiles;
 use fs_base::outside::Files;
 use fs_base::sinks::MemSink;
+use fsmd_test_tables::answer::Status;
 use fsmd_test_tables::answers::words_of;
+use fsmd_test_tables::drive::drive;
 use fsmd_test_tables::machines::{
     SQUARE_MULTIPLIED_OUT, SQUARE_OF_A_SUM, SUM_BEFORE_A_TEST, SUM_BEHIND_A_TEST,
 };
-use fsmd_tool::answer::Status;
-use fsmd_tool::drive::drive;
 use std::alloc::{AllocError, Global};
 
 const CHECK: &str = "check a.fsmd b.fsmd --cert c.json";

@@ -7,3 +7,7 @@ pub mod Pairs
 pub mod Ports
 pub mod ProgramAnswers
 pub mod SmallAnswers
+pub use Rattle.fsmd_pair_answers.proofs.Alike
+pub use Rattle.fsmd_pair_answers.proofs.Interfaces
+pub use Rattle.fsmd_pair_answers.proofs.Behaviour
+pub use Rattle.fsmd_pair_answers.proofs.Once

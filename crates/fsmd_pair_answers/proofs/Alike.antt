@@ -6,15 +6,15 @@ use Rattle.std.proofs.lemmas.Result.{IfOk-weaker}
 use Rattle.fs_model.specs.Machines.{Fsmd}
 use Rattle.fs_cut.specs.Paths.{Point}
 use Rattle.cert_bisimulation.specs.Tables.{Node}
-use Rattle.alike_behaviour.specs.Alike.{Alike}
+use Rattle.alike_behaviour.specs.Alike.{Alike, WhereAlike}
 use Rattle.alike_behaviour.proofs.Twins.{alike_behave_alike}
 use Rattle.sym_facts.specs.Facts.{Fact}
 use Rattle.cert_model.specs.View.{node_of}
 use Rattle.search_tables.specs.declared.moves.Move.{Move}
 use Rattle.search_tables.specs.Obstacles.{Obstacle, Stuck, Spin, Wide, Large, Exhausted}
 use Rattle.search_tables.specs.View.{Points}
-use Rattle.alike_searches.specs.Where.{WhereAlike}
-use Rattle.search.specs.SearchOutcomes.{machines, IsClosedWith, StopsAtObstacle}
+use Rattle.search_tables.specs.SearchTables.{machines}
+use Rattle.search.specs.SearchOutcomes.{IsClosedWith, StopsAtObstacle}
 use Rattle.search.proofs.Alike.{not_stuck, not_spinning}
 use Rattle.fsmd_pair_answers.specs.declared.answer.PairAnswer.{PairAnswer}
 use Rattle.fsmd_pair_answers.specs.declared.answer.PairAnswer.TheVariants.{Equivalent, Counterexample, Undecided}

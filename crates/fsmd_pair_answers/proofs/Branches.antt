@@ -4,9 +4,9 @@ use Rattle.std.proofs.lemmas.Option.{slice_get_within, get_or_from_slice_get}
 use Rattle.std.specs.Prelude.{◌&&◌, slice_get}
 use Rattle.std.specs.List.{list_all, AllByRecursion}
 use Rattle.std.specs.Option.{option_map}
-use Rattle.base_lemmas.proofs.Booleans.{and_first, and_second}
-use Rattle.base_lemmas.proofs.Quantifiers.{each_weaker}
-use Rattle.fs_rules.specs.SoundParts.{IsSound}
+use Rattle.fs_model.proofs.Booleans.{and_first, and_second}
+use Rattle.fs_model.proofs.Quantifiers.{each_weaker}
+use Rattle.fs_ast.specs.SoundParts.{IsSound}
 use Rattle.fs_model.specs.Machines.{Fsmd}
 use Rattle.fs_cut.specs.Paths.{Point, Start, At, Path, is_point, state_of}
 use Rattle.fs_cut.specs.Paths as cut
@@ -18,7 +18,7 @@ use Rattle.nf_terms.specs.Computed.{Computed, Done, Wide, Large}
 use Rattle.fs_model.specs.declared.sides.Side.{Side}
 use Rattle.fs_model.specs.declared.sides.Side.TheVariants as side
 use Rattle.sym_facts.specs.Facts.{Fact}
-use Rattle.propagate.specs.Modes.{Traced, Found, WideAt, LargeAt, traced_then, on_path, is_open_path, count_open, count_from, mode_of_counts, mode_by}
+use Rattle.search_tables.specs.Modes.{Traced, Found, WideAt, LargeAt, traced_then, on_path, is_open_path, count_open, count_from, mode_of_counts, mode_by}
 use Rattle.search_tables.specs.declared.moves.Move.{Move}
 use Rattle.search_tables.specs.SearchTables.{MachinePair, SearchNode, Table, PathPair, MoveEffect, Keeps, Changes, Meets, Exceeds, effect}
 use Rattle.search_tables.specs.Next.{mode_at, paths_in, move_by, path_at, Next, Nothing, Change, Stop, Excess, next_by, first_change_of, next_in, next_at}

@@ -1,7 +1,7 @@
 -- Two machines have one answer.
 use Rattle.std.proofs.Common.{◌≡◌, ◌⊎◌, inl, inr, ℕ, List, None, Some, Option, map, refl, sym, ◌∙◌, ap, ap₂, subst}
 use Rattle.std.proofs.lemmas.Bool.{false≢true}
-use Rattle.fs_rules.specs.SoundParts.{IsSound}
+use Rattle.fs_ast.specs.SoundParts.{IsSound}
 use Rattle.fs_model.specs.Machines.{Fsmd}
 use Rattle.fs_pair.specs.Interfaces.{interface_fault}
 use Rattle.fs_model.specs.declared.sides.Side.{Side}
@@ -10,7 +10,7 @@ use Rattle.sym_facts.specs.Facts.{Fact}
 use Rattle.cert_model.specs.View.{node_of}
 use Rattle.cert_model.proofs.AllHold.{same_where_yes}
 use Rattle.search_tables.specs.declared.moves.Move.{Move}
-use Rattle.search_tables.specs.SearchTables.{MachinePair, Table, first_table, TooWide, TooLarge}
+use Rattle.search_tables.specs.SearchTables.{MachinePair, Table, first_table, TooWide, TooLarge, machines}
 use Rattle.search_tables.specs.Next.{Next, Nothing, Change, Stop, Excess, next_move, IsClosed}
 use Rattle.search_tables.specs.Legal.{Difference, stuck}
 use Rattle.search_ranks.specs.Graphs.{AreRanks}
@@ -20,7 +20,7 @@ use Rattle.search_tables.specs.Obstacles.{Obstacle, Stuck, Spin, Wide, Large, Ex
 use Rattle.search_tables.specs.View.{Points, points_at}
 use Rattle.search_tables.proofs.Ending.{Ends, stands_ends, same_moves, no_certificate}
 use Rattle.search_tables.proofs.OneSpin.{one_spin}
-use Rattle.search.specs.SearchOutcomes.{machines, IsClosedWith, StopsAtObstacle}
+use Rattle.search.specs.SearchOutcomes.{IsClosedWith, StopsAtObstacle}
 use Rattle.fsmd_pair_answers.specs.declared.answer.PairAnswer.TheVariants.{Equivalent, Counterexample, Undecided}
 use Rattle.fsmd_replies.specs.ObstacleTexts.{obstacle_text, undecided_at, cycle_text, node_points_text, text_of_lookup}
 use Rattle.fsmd_pair_answers.specs.PairAnswers.{IsCounterexample, HasObstacle, is_open_obstacle, IsLeftOpen, IsFoundBeyond, ShowsSame, IsUndecided}

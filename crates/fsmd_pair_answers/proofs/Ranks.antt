@@ -4,7 +4,7 @@ use Rattle.std.specs.Prelude.{max, slice_get, slice_index}
 use Rattle.std.specs.List.{AllByRecursion}
 use Rattle.cert_bisimulation.specs.declared.mode.Mode.{Mode}
 use Rattle.cert_bisimulation.specs.Tables.{Node as CertificateNode}
-use Rattle.propagate.specs.Modes.{Found}
+use Rattle.search_tables.specs.Modes.{Found}
 use Rattle.sym_facts.specs.Facts.{Fact}
 use Rattle.search_ranks.specs.Graphs.{AreRanks, above}
 use Rattle.search_tables.specs.SearchTables.{MachinePair, SearchNode, Table}

@@ -1,6 +1,6 @@
 -- What holds of answers.
 use Rattle.std.specs.Prelude.{◌≡◌, ◌⊎◌, ℕ, ◌-◌, true, false, List, Option, Some, None, length, map, slice_get}
-use Rattle.fs_rules.specs.SoundParts.{IsSound}
+use Rattle.fs_ast.specs.SoundParts.{IsSound}
 use Rattle.fs_model.specs.declared.parts.VarInfo.{VarInfo}
 use Rattle.fs_model.specs.Machines.{Fsmd}
 use Rattle.fs_model.specs.Runs.{SameBehaviour, is_output}
@@ -12,11 +12,11 @@ use Rattle.cert_bisimulation.specs.Tables.{Node}
 use Rattle.sym_facts.specs.Facts.{Fact}
 use Rattle.cert_model.specs.View.{node_of}
 use Rattle.search_tables.specs.declared.moves.Move.{Move}
-use Rattle.search_tables.specs.SearchTables.{MachinePair}
+use Rattle.search_tables.specs.SearchTables.{MachinePair, machines}
 use Rattle.search_tables.specs.Obstacles.{Obstacle, Stuck, Spin, Wide, Large, Exhausted}
 use Rattle.search_tables.specs.View.{Points}
-use Rattle.alike_searches.specs.Where.{WhereAlike}
-use Rattle.search.specs.SearchOutcomes.{machines, IsClosedWith, StopsAtObstacle}
+use Rattle.alike_behaviour.specs.Alike.{WhereAlike}
+use Rattle.search.specs.SearchOutcomes.{IsClosedWith, StopsAtObstacle}
 use Rattle.fsmd_pair_answers.specs.declared.answer.PairAnswer.{PairAnswer}
 use Rattle.fsmd_pair_answers.specs.declared.answer.PairAnswer.TheVariants.{Equivalent, Counterexample, Undecided}
 use Rattle.fsmd_pair_answers.specs.PairAnswers.{is_open_obstacle, IsLeftOpen, IsFoundBeyond, IsPairAnswer, IsClosedOrLimit}

@@ -1,6 +1,6 @@
 -- Which answer two machines get.
 use Rattle.std.specs.Prelude.{◌≡◌, ◌⊎◌, ◌<◌, ℕ, Bool, true, false, IsTrue, List, map}
-use Rattle.fs_rules.specs.SoundParts.{IsSound}
+use Rattle.fs_ast.specs.SoundParts.{IsSound}
 use Rattle.fs_model.specs.Machines.{Fsmd}
 use Rattle.fs_runs.specs.Outcomes.{output_names}
 use Rattle.fs_run_text.specs.ItemTexts.{input_names}
@@ -11,10 +11,10 @@ use Rattle.cert_bisimulation.specs.Tables.{Node}
 use Rattle.sym_facts.specs.Facts.{Fact}
 use Rattle.cert_model.specs.View.{node_of}
 use Rattle.search_tables.specs.declared.moves.Move.{Move}
-use Rattle.search_tables.specs.SearchTables.{MachinePair}
+use Rattle.search_tables.specs.SearchTables.{MachinePair, machines}
 use Rattle.search_tables.specs.Obstacles.{Obstacle, Stuck, Spin, Wide, Large, Exhausted}
 use Rattle.search_tables.specs.View.{Points}
-use Rattle.search.specs.SearchOutcomes.{machines, IsClosedWith, StopsAtObstacle}
+use Rattle.search.specs.SearchOutcomes.{IsClosedWith, StopsAtObstacle}
 use Rattle.search_laws.specs.Certificates.{IsCertificate}
 use Rattle.fsmd_replies.specs.ObstacleTexts.{obstacle_text}
 use Rattle.fsmd_pair_answers.specs.declared.obstacles.Found.{Found}

@@ -7,7 +7,7 @@ ghost use Rattle.sym_facts.specs.Starts.{start_fact};
 ghost use Rattle.cert_model.specs.Lawful.{IsLawful};
 ghost use Rattle.cert_model.specs.Obligations.{Yes, verdict};
 ghost use Rattle.cert_model.specs.View.{node_of};
-ghost use Rattle.search.specs.SearchOutcomes.{machines};
+ghost use Rattle.search_tables.specs.SearchTables.{machines};
 ghost use Rattle.search_laws.specs.Certificates.{IsCertificate};
 
 use cert_check::verdict::Verdict;

@@ -4,8 +4,8 @@ ghost use Rattle.std.specs.Prelude.{◌≡◌, ◌≤◌, None, IfOk};
 ghost use Rattle.fs_model.specs.Runs.{SameBehaviour};
 ghost use Rattle.fs_pair.specs.Interfaces.{interface_fault};
 ghost use Rattle.fs_pair.specs.Positions.{positions};
-ghost use Rattle.alike_searches.specs.Where.{WhereAlike};
-ghost use Rattle.search.specs.SearchOutcomes.{machines};
+ghost use Rattle.alike_behaviour.specs.Alike.{WhereAlike};
+ghost use Rattle.search_tables.specs.SearchTables.{machines};
 ghost use Rattle.fsmd_pair_answers.specs.PairAnswers.{IsLeftOpen, HasObstacle, IsPairAnswer, IfEquivalent, IsClosedOrLimit};
 
 use crate::answer::PairAnswer;

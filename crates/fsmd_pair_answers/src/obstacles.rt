@@ -4,7 +4,8 @@ ghost use Rattle.std.specs.Prelude.{◌≡◌, None, IfOk};
 ghost use Rattle.std.specs.Result.{result_map_both};
 ghost use Rattle.fs_pair.specs.Interfaces.{interface_fault};
 ghost use Rattle.fs_pair.specs.Positions.{positions};
-ghost use Rattle.search.specs.SearchOutcomes.{machines, IsSearchOutcome};
+ghost use Rattle.search_tables.specs.SearchTables.{machines};
+ghost use Rattle.search.specs.SearchOutcomes.{IsSearchOutcome};
 ghost use Rattle.fsmd_pair_answers.specs.declared.obstacles.Found.TheVariants.{Open, Limit};
 ghost use Rattle.fsmd_pair_answers.specs.PairAnswers.{IsFound};
 

@@ -3,3 +3,4 @@ pub mod ObstacleTexts
 pub mod Reasons
 pub mod Replies
 pub mod Statuses
+pub use Rattle.search_tables.specs.SearchTables

@@ -2,7 +2,7 @@
 
 ghost use Rattle.std.specs.Prelude.{◌≡◌, map, IfOk, codes};
 ghost use Rattle.search_tables.specs.View.{points_in};
-ghost use Rattle.search.specs.SearchOutcomes.{machines};
+ghost use Rattle.search_tables.specs.SearchTables.{machines};
 ghost use Rattle.fsmd_replies.specs.ObstacleTexts.{undecided_at, undecided_over, cycle_text, output_text, last_move_text};
 ghost use Rattle.fsmd_replies.specs.ObstacleTexts.{first_node_text, move_text};
 

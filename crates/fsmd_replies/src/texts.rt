@@ -4,7 +4,7 @@ ghost use Rattle.std.specs.Prelude.{◌≡◌, map, IfOk, slice_get};
 ghost use Rattle.fs_cut.specs.View.{point_of, path_of};
 ghost use Rattle.fs_path_text.specs.PathTexts.{named_path};
 ghost use Rattle.search_tables.specs.View.{points_in};
-ghost use Rattle.search.specs.SearchOutcomes.{machines};
+ghost use Rattle.search_tables.specs.SearchTables.{machines};
 ghost use Rattle.fsmd_replies.specs.ObstacleTexts.{text_of_lookup, both_sides, branch_text, side_text, move_text};
 ghost use Rattle.fsmd_replies.specs.ObstacleTexts.{last_move_text, node_points_text, first_node_text, output_text};
 

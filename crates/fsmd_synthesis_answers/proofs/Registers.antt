@@ -3,7 +3,7 @@ use Rattle.std.proofs.Common.{◌≡◌, ◌∙◌, ℕ, List, sym, subst}
 use Rattle.std.specs.Prelude.{Ok}
 use Rattle.fs_model.specs.Machines.{Fsmd}
 use Rattle.fs_model.specs.Source.{Source}
-use Rattle.fs_rules.specs.MachineOfParts.{machine_of}
+use Rattle.fs_ast.specs.MachineOfParts.{machine_of}
 use Rattle.fs_grammar.specs.Grammar.{at_start, reading}
 use Rattle.fs_lex.specs.Scan.{tokens_of}
 use Rattle.fs_text_laws.proofs.Texts.{spells}

@@ -5,8 +5,8 @@ use Rattle.std.proofs.lemmas.List.Elements.{All-map}
 use Rattle.fs_model.specs.Machines.{Fsmd}
 use Rattle.fs_model.specs.Runs.{SameBehaviour}
 use Rattle.fs_model.specs.Source.{Source}
-use Rattle.fs_rules.specs.MachineOfParts.{machine_of}
-use Rattle.fs_rules.specs.Rules.{BreaksNoRule}
+use Rattle.fs_ast.specs.MachineOfParts.{machine_of}
+use Rattle.fs_ast.specs.Rules.{BreaksNoRule}
 use Rattle.fs_text_laws.specs.MachineTexts.{TextSpells}
 use Rattle.fs_write.specs.Canonical.{canonical}
 use Rattle.fs_write.specs.CanonicalLines.{with_canonical_lines, without_lines}
@@ -14,7 +14,7 @@ use Rattle.fs_write.proofs.Again.{only_lines}
 use Rattle.fs_write_laws.specs.CommentLines.{lines_moved}
 use Rattle.fs_write_laws.proofs.Unlined.{same_machine, same_law, moved_same}
 use Rattle.hls_unit_counts.specs.Counts.{Units}
-use Rattle.hls_unit_limits.specs.Over.{over_in}
+use Rattle.hls_sched.specs.Over.{over_in}
 use Rattle.hls_line_schedules.specs.Schedules.{IsWithin, schedule_of}
 use Rattle.hls_line_schedules.specs.Sources.{scheduled_source}
 use Rattle.hls_sched.specs.declared.scheduling.LineReport.{LineReport}

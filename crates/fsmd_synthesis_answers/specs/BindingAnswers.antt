@@ -3,8 +3,8 @@ use Rattle.std.specs.Prelude.{◌≡◌, ℕ, Bool, List, ◌++◌, cond, codes,
 use Rattle.fs_model.specs.Machines.{Fsmd}
 use Rattle.fs_model.specs.Source.{Source}
 use Rattle.fs_model.specs.VariableNames.{variable_name}
-use Rattle.fs_rules.specs.MachineOfParts.{machine_of}
-use Rattle.fs_rules.specs.Rules.{BreaksNoRule}
+use Rattle.fs_ast.specs.MachineOfParts.{machine_of}
+use Rattle.fs_ast.specs.Rules.{BreaksNoRule}
 use Rattle.fs_ast.specs.StoredBranches.{state_name_of}
 use Rattle.fs_text_laws.specs.MachineTexts.{TextSpells}
 use Rattle.fs_write.specs.Canonical.{canonical}

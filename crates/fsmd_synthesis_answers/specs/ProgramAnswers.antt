@@ -1,8 +1,8 @@
 -- What a program is compiled to.
 use Rattle.std.specs.Prelude.{◌≡◌, ℕ, List}
 use Rattle.fs_model.specs.Source.{Source}
-use Rattle.fs_rules.specs.MachineOfParts.{machine_of}
-use Rattle.fs_rules.specs.Rules.{BreaksNoRule}
+use Rattle.fs_ast.specs.MachineOfParts.{machine_of}
+use Rattle.fs_ast.specs.Rules.{BreaksNoRule}
 use Rattle.fs_text_laws.specs.MachineTexts.{TextSpells}
 use Rattle.fs_write.specs.Canonical.{canonical}
 use Rattle.fs_write.specs.CanonicalLines.{without_lines}

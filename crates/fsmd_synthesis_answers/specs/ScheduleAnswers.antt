@@ -4,13 +4,13 @@ use Rattle.std.specs.List.{All, flat_map}
 use Rattle.fs_model.specs.Machines.{Fsmd}
 use Rattle.fs_model.specs.Runs.{SameBehaviour}
 use Rattle.fs_model.specs.Source.{Source}
-use Rattle.fs_rules.specs.MachineOfParts.{machine_of}
-use Rattle.fs_rules.specs.Rules.{BreaksNoRule}
+use Rattle.fs_ast.specs.MachineOfParts.{machine_of}
+use Rattle.fs_ast.specs.Rules.{BreaksNoRule}
 use Rattle.fs_ast.specs.StoredBranches.{state_name_of}
 use Rattle.fs_text_laws.specs.MachineTexts.{TextSpells}
 use Rattle.fs_write.specs.Canonical.{canonical}
 use Rattle.hls_unit_counts.specs.Counts.{Units}
-use Rattle.hls_unit_limits.specs.Over.{over_in}
+use Rattle.hls_sched.specs.Over.{over_in}
 use Rattle.hls_line_schedules.specs.Schedules.{IsWithin, schedule_of}
 use Rattle.hls_line_schedules.specs.Sources.{scheduled_source}
 use Rattle.hls_sched.specs.Reports.{Report, reports, KeepsLengths}

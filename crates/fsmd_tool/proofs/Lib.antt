@@ -11,5 +11,9 @@ pub mod Shrunk
 pub mod Chained
 pub mod Causes
 pub mod Putting
-pub mod Alike
+pub mod AlikeMachines
 pub mod Running
+pub use Rattle.fsmd_answers.proofs.Interfaces
+pub use Rattle.fsmd_answers.proofs.Alike
+pub use Rattle.fsmd_answers.proofs.Behaviour
+pub use Rattle.fsmd_answers.proofs.Once

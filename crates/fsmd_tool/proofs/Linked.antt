@@ -25,7 +25,7 @@ use Rattle.fsmd_answers.specs.Verdicts.{IsJudged}
 use Rattle.fsmd_answers.specs.Links.{AtLink, link_lines, links_in, links_of, IsOfChain}
 use Rattle.fsmd_answers.specs.Follows.{Opens, Refused, Spelled, ComparesPairs, SameInterface, Judges, Fails, Holds, OpensCertificate, OpensLink, OpensLinks}
 use Rattle.fsmd_answers.proofs.Maps.{answer_map, err_map}
-use Rattle.fsmd_tool.specs.Calls.{Call, call, OnlyRead, LoadsFrom, LoadsAtMost, known_at_start, MayHold, IsCorrectFrom, IsCorrectInOrder}
+use Rattle.fsmd_tool.specs.Calls.{Call, call, OnlyRead, LoadsFrom, LoadsAtMost, known_at_start, MayHold, IsCorrectInOrder}
 use Rattle.fsmd_tool.specs.Loading.{GivesContent, NothingFollows, RefusesNext, RefusesLink}
 use Rattle.fsmd_tool.specs.Clauses.{LinkHolds}
 use Rattle.fsmd_tool.proofs.FromFiles.{opens_map, pairs_map}

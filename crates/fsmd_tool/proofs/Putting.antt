@@ -15,9 +15,9 @@ use Rattle.fsmd_replies.specs.Replies.{reply, unstored_reply}
 use Rattle.fsmd_answers.specs.ComparisonAnswers.{IsOfPair, IsOfLoops}
 use Rattle.fsmd_answers.specs.Links.{links_of}
 use Rattle.fsmd_answers.specs.Follows.{Ends, OpensMachine, OpensPair, OpensLinks, FollowsFrom}
-use Rattle.fsmd_tool.specs.Calls.{Call, call, OnlyRead, IsCorrectFrom, IsCorrectInOrder, AnswersBy}
+use Rattle.fsmd_tool.specs.Calls.{Call, call, OnlyRead, IsCorrectInOrder, AnswersBy}
 use Rattle.fsmd_tool.specs.SinkReplies.{Put, IsPut}
-use Rattle.fsmd_tool.specs.CertificateStores.{FileChange, file_change, IsUnchangedStore, IsUnstored, FileToStore, to_store, Leaves, NotStored, Untouched}
+use Rattle.fsmd_tool.specs.CertificateStores.{FileChange, file_change, IsUnstored, FileToStore, to_store, Leaves, NotStored, Untouched}
 use Rattle.fsmd_tool.specs.CertificateStores.{Failed}
 use Rattle.fsmd_tool.specs.CertificateStores.{IsUnwritten, NoneWritten, WriteFailed}
 use Rattle.fsmd_tool.specs.Correct.{IsCorrectAnswer, IsDone, IsDoneFor, Kept, Unstored, Answered}

@@ -8,8 +8,8 @@ use Rattle.fs_base.specs.Outside.{got_after}
 use Rattle.fs_model.specs.Machines.{Fsmd}
 use Rattle.cert_bisimulation.specs.Tables.{Node}
 use Rattle.sym_facts.specs.Facts.{Fact}
-use Rattle.cert_writer.specs.WrittenCertificates.{certificate_text}
-use Rattle.fsmd_pair_answers.specs.PairAnswers.{IsCounterexample, IsUndecided}
+use Rattle.fsmd_answers.specs.WrittenCertificates.{certificate_text}
+use Rattle.fsmd_answers.specs.PairAnswers.{IsCounterexample, IsUndecided}
 use Rattle.fsmd_replies.specs.declared.answer.Status.{Status}
 use Rattle.fsmd_replies.specs.declared.answer.Status.TheVariants as statuses
 use Rattle.fsmd_replies.specs.declared.answer.Answer.{Answer}

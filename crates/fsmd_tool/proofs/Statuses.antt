@@ -21,7 +21,7 @@ use Rattle.fsmd_answers.specs.Refusals.{RefusesMachine, Unread, ByText, ByRule, 
 use Rattle.hls_program_laws.specs.Programs.{Program}
 use Rattle.fsmd_answers.specs.ProgramFiles.{RefusesProgram, UnreadProgram, ProgramByText, ProgramByRule, IsOfProgram}
 use Rattle.fsmd_answers.specs.ScheduleFiles.{IsOfSchedule, IsOver, InRows}
-use Rattle.fsmd_synthesis_answers.specs.BindingAnswers.{Binding}
+use Rattle.fsmd_answers.specs.BindingAnswers.{Binding}
 use Rattle.fsmd_answers.specs.BindingFiles.{IsOfBinding, IsBound, Loses}
 use Rattle.fsmd_answers.specs.ComparisonAnswers.{IsOfPair, Same, Apart, Open}
 use Rattle.fsmd_answers.specs.Verdicts.{answer_to}

@@ -4,7 +4,7 @@ use Rattle.std.specs.Prelude.{IsTrue}
 use Rattle.std.proofs.lemmas.Bool.{false≢true}
 use Rattle.fsmd_words.specs.AskedWords.{Asked, Compile, Schedule, Bind}
 use Rattle.fs_model.specs.Source.{Source}
-use Rattle.fs_rules.specs.MachineOfParts.{machine_of}
+use Rattle.fs_ast.specs.MachineOfParts.{machine_of}
 use Rattle.hls_unit_counts.specs.Counts.{Units}
 use Rattle.hls_program_laws.specs.Programs.{Program}
 use Rattle.fsmd_replies.specs.declared.answer.Status.TheVariants as statuses
@@ -16,9 +16,9 @@ use Rattle.fsmd_answers.specs.MachineFiles.{SpellsParts}
 use Rattle.fsmd_answers.specs.Refusals.{RefusesMachine}
 use Rattle.fsmd_answers.specs.ProgramFiles.{RefusesProgram, SpellsProgram, IsOfProgram}
 use Rattle.fsmd_answers.specs.ScheduleFiles.{HaveUnitFault, RefusesUnits, SpellUnits, IsOfSchedule, IsOver, InRows}
-use Rattle.fsmd_synthesis_answers.specs.ProgramAnswers.{IsCompiledText}
-use Rattle.fsmd_synthesis_answers.specs.ScheduleAnswers.{IsScheduleText}
-use Rattle.fsmd_synthesis_answers.specs.BindingAnswers.{Binding, IsBoundText}
+use Rattle.fsmd_answers.specs.ProgramAnswers.{IsCompiledText}
+use Rattle.fsmd_answers.specs.ScheduleAnswers.{IsScheduleText}
+use Rattle.fsmd_answers.specs.BindingAnswers.{Binding, IsBoundText}
 use Rattle.fsmd_answers.specs.BindingFiles.{HasBindingFault, RefusesBinding, SpellsBinding, IsOfBinding, IsBound, Loses}
 use Rattle.fsmd_replies.specs.Replies.{lines_of}
 use Rattle.fsmd_answers.specs.Follows.{Ends, OpensParts, OpensProgram, OpensUnits, OpensBinding, FollowsFrom}

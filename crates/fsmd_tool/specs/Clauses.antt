@@ -5,7 +5,7 @@ use Rattle.fs_base.specs.Outside.{Rose, got_after}
 use Rattle.fs_model.specs.Machines.{Fsmd}
 use Rattle.fs_model.specs.Runs.{Inputs, Content, SameBehaviour}
 use Rattle.fs_model.specs.Source.{Source}
-use Rattle.fs_rules.specs.MachineOfParts.{machine_of}
+use Rattle.fs_ast.specs.MachineOfParts.{machine_of}
 use Rattle.fs_pair.specs.Interfaces.{interface_fault}
 use Rattle.fs_trials.specs.Differences.{ShowsDifference}
 use Rattle.hls_shrink.specs.Shrunk.{ShowDifference, EndsIn}
@@ -13,16 +13,16 @@ use Rattle.hls_shrink.specs.Given.{given_contents}
 use Rattle.cert_bisimulation.specs.Tables.{Node}
 use Rattle.sym_facts.specs.Facts.{Fact}
 use Rattle.cert_model.specs.Obligations.{Yes, verdict_on}
-use Rattle.cert_writer.specs.WrittenCertificates.{certificate_text}
-use Rattle.search.specs.SearchOutcomes.{machines}
-use Rattle.search_laws.specs.Certificates.{IsCertificate}
-use Rattle.fsmd_pair_answers.specs.PairAnswers.{ShowsSame, IsCounterexample, IsUndecided}
+use Rattle.fsmd_answers.specs.WrittenCertificates.{certificate_text}
+use Rattle.fsmd_answers.specs.SearchTables.{machines}
+use Rattle.fsmd_answers.specs.Certificates.{IsCertificate}
+use Rattle.fsmd_answers.specs.PairAnswers.{ShowsSame, IsCounterexample, IsUndecided}
 use Rattle.fsmd_replies.specs.AskedFiles.{operand, files_of, cert_of, step_limit, shrink_limit}
 use Rattle.hls_program_laws.specs.Programs.{Program}
 use Rattle.hls_unit_counts.specs.Counts.{Units}
-use Rattle.fsmd_synthesis_answers.specs.ProgramAnswers.{IsCompiledText}
-use Rattle.fsmd_synthesis_answers.specs.ScheduleAnswers.{IsScheduleText}
-use Rattle.fsmd_synthesis_answers.specs.BindingAnswers.{Binding, IsBoundText}
+use Rattle.fsmd_answers.specs.ProgramAnswers.{IsCompiledText}
+use Rattle.fsmd_answers.specs.ScheduleAnswers.{IsScheduleText}
+use Rattle.fsmd_answers.specs.BindingAnswers.{Binding, IsBoundText}
 use Rattle.fsmd_answers.specs.MachineFiles.{SpellsParts, SpellsMachine}
 use Rattle.fsmd_answers.specs.ProgramFiles.{SpellsProgram}
 use Rattle.fsmd_answers.specs.ScheduleFiles.{SpellUnits}

@@ -3,7 +3,7 @@
 ghost use Rattle.std.specs.Prelude.{Some};
 ghost use Rattle.fsmd_words.specs.AskedWords.{asked_of_ask};
 ghost use Rattle.fs_model.specs.View.{source_of};
-ghost use Rattle.fs_rules.specs.MachineOfParts.{machine_of};
+ghost use Rattle.fs_ast.specs.MachineOfParts.{machine_of};
 ghost use Rattle.hls_bind.specs.Results.{IsBuiltOf};
 ghost use Rattle.fsmd_answers.specs.ProgramFiles.{IsOfProgram};
 ghost use Rattle.fsmd_answers.specs.ScheduleFiles.{IsOfSchedule};

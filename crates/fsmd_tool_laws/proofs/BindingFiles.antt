@@ -11,7 +11,7 @@ use Rattle.std.proofs.lemmas.Bool.Decides.{nat_tests}
 use Rattle.std.proofs.lemmas.Slice.Eq.{bytes_eq-Decides}
 use Rattle.std.proofs.lemmas.Bool.{or_right}
 use Rattle.std.proofs.lemmas.Option.{same_Some}
-use Rattle.base_lemmas.proofs.Lists.{bytes_eq-true}
+use Rattle.fs_model.proofs.Lists.{bytes_eq-true}
 use Rattle.serde_json.specs.Data.{Data}
 use Rattle.serde_json.specs.Find.{as_object}
 use Rattle.fs_model.specs.declared.parts.VarInfo.{VarInfo}
@@ -28,7 +28,7 @@ use Rattle.hls_bind.specs.Results.{IsBoundParts}
 use Rattle.fsmd_replies.specs.declared.answer.Answer.{Answer}
 use Rattle.fsmd_replies.specs.declared.answer.Answer.TheVariants.{Text, Differs}
 use Rattle.fsmd_synthesis_answers.specs.BindingAnswers.{Binding, conflict_text}
-use Rattle.fsmd_answers.specs.BindingFiles.{binding_fault, HasBindingFault, SpellsBinding, RefusesBinding, IsOfBinding, IsBound, Loses}
+use Rattle.fsmd_tool.specs.BindingFiles.{binding_fault, HasBindingFault, SpellsBinding, RefusesBinding, IsOfBinding, IsBound, Loses}
 use Rattle.fsmd_tool_laws.proofs.Contents.{some_none, OpensInOneWay}
 use Rattle.fsmd_tool_laws.proofs.Keys.{AreOneThing, keys_open}
 

@@ -1,19 +1,19 @@
 -- Chains are answered: where all links are known to hold, and where one is known to fail.
 use Rattle.std.proofs.Common.{◌≡◌, ℕ, zero, suc, ◌+◌, ◌*◌, ◌<◌, List, Option, Some, sym, subst, arith}
 use Rattle.std.specs.Prelude.{◌≢◌}
-use Rattle.base_lemmas.proofs.Numbers.{below_suc}
+use Rattle.fs_model.proofs.Numbers.{below_suc}
 use Rattle.fsmd_words.specs.AskedWords.{Asked, Chain}
 use Rattle.fs_model.specs.Machines.{Fsmd}
 use Rattle.cert_bisimulation.specs.Tables.{Node}
 use Rattle.sym_facts.specs.Facts.{Fact}
 use Rattle.cert_model.specs.Obligations.{Yes, verdict_on}
 use Rattle.fsmd_replies.specs.declared.answer.Answer.{Answer}
-use Rattle.fsmd_answers.specs.MachineFiles.{SpellsMachine}
-use Rattle.fsmd_answers.specs.Readings.{Reading}
-use Rattle.fsmd_answers.specs.Refusals.{RefusesMachine, RefusesPair, RefusesCertificate, SpellsCertificate}
-use Rattle.fsmd_answers.specs.Verdicts.{IsJudged}
-use Rattle.fsmd_answers.specs.Links.{AtLink, links_of, IsOfChain}
-use Rattle.fsmd_answers.specs.Follows.{Judges, Fails, Holds, OpensLinks}
+use Rattle.fsmd_tool.specs.MachineFiles.{SpellsMachine}
+use Rattle.fsmd_tool.specs.Readings.{Reading}
+use Rattle.fsmd_tool.specs.Refusals.{RefusesMachine, RefusesPair, RefusesCertificate, SpellsCertificate}
+use Rattle.fsmd_tool.specs.Verdicts.{IsJudged}
+use Rattle.fsmd_tool.specs.Links.{AtLink, links_of, IsOfChain}
+use Rattle.fsmd_tool.specs.Follows.{Judges, Fails, Holds, OpensLinks}
 use Rattle.fsmd_tool.specs.Calls.{Call, IsCorrectFrom}
 use Rattle.fsmd_tool.specs.Correct.{IsCorrectAnswer}
 use Rattle.fsmd_tool.proofs.Found.{end_of}

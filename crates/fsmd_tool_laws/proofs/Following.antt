@@ -2,7 +2,7 @@
 use Rattle.std.proofs.Common.{◌≡◌, ℕ, zero, suc, ◌+◌, List, [], ◌∷◌, Option, Some, None, true, false, refl, sym, ◌∙◌, ap, subst}
 use Rattle.std.specs.Prelude.{is_some}
 use Rattle.std.proofs.lemmas.Option.{same_Some}
-use Rattle.base_lemmas.proofs.Booleans.{true_and_false}
+use Rattle.fs_model.proofs.Booleans.{true_and_false}
 use Rattle.fsmd_words.specs.AskedWords.{Asked, Check, Verify, Run, Replay, Fmt, Cuts, Generate, Compile, Schedule, Bind, Shrink, Chain}
 use Rattle.fs_model.specs.Machines.{Fsmd}
 use Rattle.fs_model.specs.Runs.{Inputs}
@@ -21,21 +21,21 @@ use Rattle.fsmd_replies.specs.declared.answer.Answer.{Answer}
 use Rattle.fsmd_replies.specs.declared.answer.Answer.TheVariants.{Usage, Text, Link, Interfaces}
 use Rattle.fsmd_replies.specs.AskedFiles.{operand, is_check, compares, generated_steps}
 use Rattle.fsmd_replies.specs.Statuses.{status_of}
-use Rattle.fsmd_answers.specs.MachineFiles.{SpellsParts, SpellsMachine}
-use Rattle.fsmd_answers.specs.Readings.{FileContent, OfBytes, Reading}
-use Rattle.fsmd_answers.specs.Refusals.{RefusesMachine, RefusesPair, RefusesCertificate, SpellsCertificate}
-use Rattle.fsmd_answers.specs.InputFiles.{SpellsInputs, RefusesInputs}
-use Rattle.fsmd_answers.specs.ProgramFiles.{RefusesProgram, SpellsProgram, IsOfProgram}
-use Rattle.fsmd_answers.specs.ScheduleFiles.{RefusesUnits, SpellUnits, IsOfSchedule}
-use Rattle.fsmd_answers.specs.BindingFiles.{RefusesBinding, SpellsBinding, IsOfBinding}
-use Rattle.fsmd_answers.specs.ComparisonAnswers.{IsOfPair, IsOfLoops, left_of, right_of}
-use Rattle.fsmd_answers.specs.Verdicts.{IsJudged}
-use Rattle.fsmd_answers.specs.RunAnswers.{IsOfRun}
-use Rattle.fsmd_answers.specs.Replays.{IsOfReplay}
-use Rattle.fsmd_answers.specs.Shrinks.{IsOfShrink}
-use Rattle.fsmd_answers.specs.Links.{AtLink, link_lines, links_of, IsOfChain}
-use Rattle.fsmd_answers.specs.Follows.{Ends, OpensWith, Refused, Spelled, Opens, OpensMachine, OpensInputs, OpensCertificate, OpensUnits, OpensBinding}
-use Rattle.fsmd_answers.specs.Follows.{ComparesPairs, Other, SameInterface, OpensPair, Judges, Fails, Holds, OpensLinks, FollowsFrom}
+use Rattle.fsmd_tool.specs.MachineFiles.{SpellsParts, SpellsMachine}
+use Rattle.fsmd_tool.specs.Readings.{FileContent, OfBytes, Reading}
+use Rattle.fsmd_tool.specs.Refusals.{RefusesMachine, RefusesPair, RefusesCertificate, SpellsCertificate}
+use Rattle.fsmd_tool.specs.InputFiles.{SpellsInputs, RefusesInputs}
+use Rattle.fsmd_tool.specs.ProgramFiles.{RefusesProgram, SpellsProgram, IsOfProgram}
+use Rattle.fsmd_tool.specs.ScheduleFiles.{RefusesUnits, SpellUnits, IsOfSchedule}
+use Rattle.fsmd_tool.specs.BindingFiles.{RefusesBinding, SpellsBinding, IsOfBinding}
+use Rattle.fsmd_tool.specs.ComparisonAnswers.{IsOfPair, IsOfLoops, left_of, right_of}
+use Rattle.fsmd_tool.specs.Verdicts.{IsJudged}
+use Rattle.fsmd_tool.specs.RunAnswers.{IsOfRun}
+use Rattle.fsmd_tool.specs.Replays.{IsOfReplay}
+use Rattle.fsmd_tool.specs.Shrinks.{IsOfShrink}
+use Rattle.fsmd_tool.specs.Links.{AtLink, link_lines, links_of, IsOfChain}
+use Rattle.fsmd_tool.specs.Follows.{Ends, OpensWith, Refused, Spelled, Opens, OpensMachine, OpensInputs, OpensCertificate, OpensUnits, OpensBinding}
+use Rattle.fsmd_tool.specs.Follows.{ComparesPairs, Other, SameInterface, OpensPair, Judges, Fails, Holds, OpensLinks, FollowsFrom}
 use Rattle.fsmd_tool_laws.specs.Agreement.{Agree}
 use Rattle.fsmd_tool_laws.specs.OneAnswer.{AreComparedIn, OfFiles, OfLoops, SaySame, One, OfPair}
 use Rattle.fsmd_tool_laws.proofs.Contents.{some_none, OpensInOneWay, one_spelled}

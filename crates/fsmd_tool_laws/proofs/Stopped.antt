@@ -1,7 +1,7 @@
 -- The files of a chain are settled up to a link that ends it, and what follows from that link follows from the chain.
 use Rattle.std.proofs.Common.{◌≡◌, ℕ, zero, suc, ◌+◌, ◌*◌, ◌<◌, List, Option, Some, refl, sym, subst, arith}
 use Rattle.std.specs.Prelude.{◌≢◌}
-use Rattle.base_lemmas.proofs.Numbers.{below_suc}
+use Rattle.fs_model.proofs.Numbers.{below_suc}
 use Rattle.fsmd_words.specs.AskedWords.{Asked, Chain}
 use Rattle.fs_model.specs.Machines.{Fsmd}
 use Rattle.cert_bisimulation.specs.Tables.{Node}
@@ -10,11 +10,11 @@ use Rattle.cert_model.specs.Obligations.{Yes, verdict_on}
 use Rattle.fsmd_replies.specs.declared.answer.Answer.{Answer}
 use Rattle.fsmd_replies.specs.declared.answer.Answer.TheVariants.{Link}
 use Rattle.fsmd_replies.specs.Statuses.{status_of}
-use Rattle.fsmd_answers.specs.MachineFiles.{SpellsMachine}
-use Rattle.fsmd_answers.specs.Refusals.{SpellsCertificate}
-use Rattle.fsmd_answers.specs.Verdicts.{IsJudged, answer_to}
-use Rattle.fsmd_answers.specs.Links.{AtLink, link_lines, links_of}
-use Rattle.fsmd_answers.specs.Follows.{Spelled, SameInterface, Fails, Holds, OpensLinks, Follows}
+use Rattle.fsmd_tool.specs.MachineFiles.{SpellsMachine}
+use Rattle.fsmd_tool.specs.Refusals.{SpellsCertificate}
+use Rattle.fsmd_tool.specs.Verdicts.{IsJudged, answer_to}
+use Rattle.fsmd_tool.specs.Links.{AtLink, link_lines, links_of}
+use Rattle.fsmd_tool.specs.Follows.{Spelled, SameInterface, Fails, Holds, OpensLinks, Follows}
 use Rattle.fsmd_tool.specs.Calls.{Call}
 use Rattle.fsmd_tool_laws.specs.Settled.{IsSettled, IsKnown, SpellLink, AreKnownToHold, read_from, AreSettledUpToRefused}
 use Rattle.fsmd_tool_laws.proofs.Certificates.{ReadInOneWay}

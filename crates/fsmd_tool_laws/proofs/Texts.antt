@@ -3,7 +3,7 @@ use Rattle.std.proofs.Common.{◌≡◌, ℕ, ◌<◌, ◌≤◌, Bool, false, L
 use Rattle.std.specs.Prelude.{◌&&◌, ◌||◌, ◌==◌, nat_lt}
 use Rattle.std.specs.List.{slice_index_or}
 use Rattle.std.proofs.lemmas.Bool.Decides.{nat_tests}
-use Rattle.base_lemmas.proofs.Lists.{nothing_in_none}
+use Rattle.fs_model.proofs.Lists.{nothing_in_none}
 use Rattle.fs_model.specs.Source.{Source}
 use Rattle.fs_model.specs.Machines.{Fsmd}
 use Rattle.fs_grammar.specs.declared.fault.TextFault.{TextFault}
@@ -15,7 +15,7 @@ use Rattle.fs_rules.specs.MachineOfParts.{machine_of}
 use Rattle.fs_rules.specs.Rules.{rule_rank, is_sooner, plain_faults, branch_faults, IsFirstBroken, BreaksNoRule}
 use Rattle.fs_model.specs.Limits.{most_text_bytes}
 use Rattle.fs_text_laws.proofs.Texts.{one_source, one_fault, not_both}
-use Rattle.fsmd_answers.specs.MachineFiles.{SpellsParts, SpellsMachine, IsTooLong, HasTextFault, HasCheckFault}
+use Rattle.fsmd_tool.specs.MachineFiles.{SpellsParts, SpellsMachine, IsTooLong, HasTextFault, HasCheckFault}
 
 -- ---- the broken rule that is answered is one
 

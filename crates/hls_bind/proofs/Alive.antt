@@ -9,7 +9,7 @@ use Rattle.std.proofs.lemmas.List.Elements.{Contains-append_left, Contains-appen
 use Rattle.std.proofs.lemmas.Bool.{eqb-false, eqb-true}
 use Rattle.fs_model.specs.Machines.{Fsmd, State, transitions_of}
 use Rattle.fs_model.specs.Trees.{branches_of}
-use Rattle.fs_rules.specs.SoundParts.{IsSound, branch_count, assigned_in}
+use Rattle.fs_ast.specs.SoundParts.{IsSound, branch_count, assigned_in}
 use Rattle.fs_cut.specs.Paths.{branch_at, target_of}
 use Rattle.fs_cut.proofs.Branches.{no_branch, target_in}
 use Rattle.fs_variable_sets.specs.declared.VariableSet.{VariableSet}

@@ -10,12 +10,12 @@ use Rattle.fs_model.specs.Machines.{Fsmd, transitions_of}
 use Rattle.fs_model.specs.Trees.{Branch, branches_of}
 use Rattle.fs_model.specs.View.{branch_of}
 use Rattle.std.proofs.lemmas.List.{get_or-map}
-use Rattle.base_lemmas.proofs.Lists.{drop_next}
-use Rattle.fs_rules.specs.SoundParts.{IsSound, branch_count, assigned_in}
+use Rattle.fs_model.proofs.Lists.{drop_next}
+use Rattle.fs_ast.specs.SoundParts.{IsSound, branch_count, assigned_in}
 use Rattle.fs_cut.specs.Paths.{branch_at}
 use Rattle.fs_cut.proofs.Branches.{no_branch}
 use Rattle.fs_cut.proofs.Loops.{target_is_in, count_is}
-use Rattle.fs_rules.specs.MachineOfParts.{names_of, variables_of}
+use Rattle.fs_ast.specs.MachineOfParts.{names_of, variables_of}
 use Rattle.fs_model.specs.Source.{Source, Declaration, SourceState}
 use Rattle.fs_model.specs.PartFolds.{scalars, uses_in_literal}
 use Rattle.hls_binding_laws.specs.Liveness.{read_by, read_by_assignment}

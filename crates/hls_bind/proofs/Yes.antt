@@ -5,9 +5,9 @@ use Rattle.fs_model.specs.Machines.{Fsmd}
 use Rattle.fs_model.specs.Source.{Source}
 use Rattle.fs_model.specs.Runs.{SameBehaviour}
 use Rattle.fs_model.specs.WellFormed.{is_well_formed}
-use Rattle.fs_rules.specs.MachineOfParts.{machine_of, variables_of}
-use Rattle.fs_rules.specs.SoundParts.{IsSound}
-use Rattle.fs_rules.specs.Rules.{BreaksNoRule}
+use Rattle.fs_ast.specs.MachineOfParts.{machine_of, variables_of}
+use Rattle.fs_ast.specs.SoundParts.{IsSound}
+use Rattle.fs_ast.specs.Rules.{BreaksNoRule}
 use Rattle.hls_binding_laws.specs.Bindings.{IsBindingOf, bound_parts}
 use Rattle.hls_binding_laws.proofs.Formed.{bound_formed}
 use Rattle.hls_binding_laws.proofs.Whole.{bound_lawful}

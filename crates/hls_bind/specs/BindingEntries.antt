@@ -1,6 +1,6 @@
 -- Entries of a binding and conflicts as plain data.
 use Rattle.std.specs.Prelude.{ℕ, Bool, List, map}
-use Rattle.fs_rules.specs.MachineOfParts.{names_of}
+use Rattle.fs_ast.specs.MachineOfParts.{names_of}
 use Rattle.hls_bind.specs.declared.binding.BoundLocal.{BoundLocal}
 use Rattle.hls_bind.specs.declared.conflicts.Pair.{Pair as CodePair}
 use Rattle.hls_bind.specs.declared.conflicts.Conflict.{Conflict as CodeConflict}

@@ -4,7 +4,7 @@ use Rattle.std.specs.Prelude.{string_bytes}
 use Rattle.std.specs.Option.{option_or}
 use Rattle.std.specs.List.{list_any}
 use Rattle.std.specs.Str.{bytes_eq}
-use Rattle.fs_rules.specs.MachineOfParts.{place_or_end, names_of}
+use Rattle.fs_ast.specs.MachineOfParts.{place_or_end, names_of}
 use Rattle.serde_json.specs.Data.{Data, Members, no_members, member}
 use Rattle.base_json_files.specs.Json.{IsJson, IsNotJson}
 use Rattle.serde_json.specs.Find.{as_str, as_object}

@@ -3,7 +3,7 @@
 ghost use Rattle.std.specs.Prelude.{◌≡◌, ◌<◌, ◌==◌, ◌||◌, false, cond, length, map, None, IfOk};
 ghost use Rattle.std.specs.Option.{option_map};
 ghost use Rattle.fs_model.specs.View.{branch_of};
-ghost use Rattle.fs_rules.specs.SoundParts.{branch_count};
+ghost use Rattle.fs_ast.specs.SoundParts.{branch_count};
 ghost use Rattle.fs_cut.specs.Paths.{branch_at};
 ghost use Rattle.fs_variable_sets.specs.Sets.{has_variable, sets_meet};
 ghost use Rattle.fs_variable_sets.specs.Flows.{has_at};
@@ -74,7 +74,7 @@ fn lost_with(
 fn is_used(writes: VariableSet, live: VariableSet, others: VariableSet) -> bool
     ensures { result ≡ sets_meet (has_variable others) (λ x. has_variable writes x || has_variable live x) }
 {
-    others.meets(writes.joined(live))
+    others.meets(writes.union(live))
 }
 
 // The first local that is lost as one is written. `others` are the other locals that have its register.

@@ -5,8 +5,8 @@ use Rattle.std.specs.Prelude.{◌≢◌, ◌&&◌, ◌==◌, cond, not, slice_ge
 use Rattle.std.specs.List.{list_all, slice_index_or, flat_map}
 use Rattle.std.proofs.lemmas.List.Folds.{list_all-append}
 use Rattle.std.proofs.lemmas.Bool.{and_from, eqb-false, eqb-true}
-use Rattle.base_lemmas.proofs.Booleans.{and_first, and_second}
-use Rattle.base_lemmas.proofs.Lists.{length_map}
+use Rattle.fs_model.proofs.Booleans.{and_first, and_second}
+use Rattle.fs_model.proofs.Lists.{length_map}
 use Rattle.fs_model.specs.declared.parts.Role.{Role}
 use Rattle.fs_model.specs.declared.parts.Role.TheVariants.{Input, Output, Local}
 use Rattle.fs_model.specs.declared.parts.Sort.{Sort}
@@ -19,7 +19,7 @@ use Rattle.fs_model.specs.Meaning.{act_all}
 use Rattle.fs_model.specs.Runs.{AfterStep, ReachesReset, FirstReturn, Run, Inputs, Content, start, first_scalar, first_array, is_input, is_scalar, is_array}
 use Rattle.fs_model.specs.Runs.{SameBehaviour}
 use Rattle.fs_model.specs.Trees.{Branch, branches_of, branch_holds}
-use Rattle.fs_rules.specs.SoundParts.{IsSound, branch_count, array_at, has_sort, arrays_in_condition, arrays_in_assignments}
+use Rattle.fs_ast.specs.SoundParts.{IsSound, branch_count, array_at, has_sort, arrays_in_condition, arrays_in_assignments}
 use Rattle.fs_cut.specs.Paths.{branch_at, target_of, store_after}
 use Rattle.fs_cut.specs.Cuts.{branch_taken}
 use Rattle.fs_model.proofs.Passing.{branches_pass, condition_uses}

@@ -6,12 +6,12 @@ use Rattle.std.specs.List.{list_all, flat_map}
 use Rattle.std.proofs.lemmas.Bool.Decides.{nat_tests}
 use Rattle.std.proofs.lemmas.List.Folds.{list_all-append}
 use Rattle.std.proofs.lemmas.Bool.{or_from, not-true, eqb-false, eqb-true, eq-eqb}
-use Rattle.base_lemmas.proofs.Booleans.{and_first, and_second}
+use Rattle.fs_model.proofs.Booleans.{and_first, and_second}
 use Rattle.fs_model.specs.Terms.{Term, Literal, Assignment, Assign, ArrayWrite, Emit}
 use Rattle.fs_model.specs.Stores.{Store}
 use Rattle.fs_model.specs.Meaning.{value, literal_holds, act, act_all}
 use Rattle.fs_model.specs.Renamed.{term_over, literal_over, assignment_over}
-use Rattle.fs_rules.specs.SoundParts.{scalars_in, arrays_in, arrays_in_assignment, arrays_in_assignments, assigned_in}
+use Rattle.fs_ast.specs.SoundParts.{scalars_in, arrays_in, arrays_in_assignment, arrays_in_assignments, assigned_in}
 use Rattle.hls_binding_laws.specs.Liveness.{read_by_assignment}
 use Rattle.hls_binding_laws.proofs.Renaming.{Agree}
 use Rattle.hls_binding_laws.proofs.Over.{has, read_by_literal, in_front, in_back, first_in, Same, value_over, literal_holds_over}

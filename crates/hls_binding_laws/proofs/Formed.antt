@@ -4,8 +4,8 @@ use Rattle.std.specs.Prelude.{◌&&◌, ◌||◌, ◌==◌, cond, not, nat_le, o
 use Rattle.std.specs.List.{list_all}
 use Rattle.std.proofs.lemmas.List.Folds.{list_all-append}
 use Rattle.std.proofs.lemmas.Bool.{and_from}
-use Rattle.base_lemmas.proofs.Booleans.{and_first, and_second, and_true}
-use Rattle.fs_rules.specs.MachineOfParts.{names_of, variables_of}
+use Rattle.fs_model.proofs.Booleans.{and_first, and_second, and_true}
+use Rattle.fs_ast.specs.MachineOfParts.{names_of, variables_of}
 use Rattle.fs_model.specs.declared.parts.Role.TheVariants.{Local}
 use Rattle.fs_model.specs.declared.parts.Sort.TheVariants.{Scalar}
 use Rattle.fs_model.specs.Limits.{most_operators}

@@ -4,15 +4,15 @@ use Rattle.std.specs.Prelude.{◌==◌, ◌||◌, not, slice_get, option_map}
 use Rattle.std.specs.List.{list_all}
 use Rattle.std.proofs.lemmas.Bool.{or_parts, or_left, and_from, or_right, not-true, eqb-false, eqb-true, eq-eqb}
 use Rattle.std.proofs.lemmas.List.{map-append}
-use Rattle.base_lemmas.proofs.Booleans.{and_first, and_second}
+use Rattle.fs_model.proofs.Booleans.{and_first, and_second}
 use Rattle.fs_model.specs.declared.parts.Sort.{Sort}
 use Rattle.fs_model.specs.declared.parts.VarInfo.{VarInfo}
 use Rattle.fs_model.specs.Terms.{Term, Number, Variable, Read, Sum, Difference, Product, Quotient, Remainder, Negative, Guard, Test, Not, And, Or, Assignment}
 use Rattle.fs_model.specs.Terms.{Assign, ArrayWrite, Emit, Transition}
 use Rattle.fs_model.specs.Renamed.{term_over, guard_over, assignment_over}
 use Rattle.fs_model.specs.PartFolds.{Listing, scalars, arrays, uses_in, uses_in_guard, uses_in_condition, uses_in_assignment, uses_in_assignments}
-use Rattle.fs_rules.specs.SoundParts.{has_sort, input_at, changed_by, assigned_in, occurs, all_differ, scalars_in_condition, arrays_in_condition}
-use Rattle.fs_rules.specs.SoundParts.{scalars_in_assignments, arrays_in_assignments, port_in, ports_in_assignments}
+use Rattle.fs_ast.specs.SoundParts.{has_sort, input_at, changed_by, assigned_in, occurs, all_differ, scalars_in_condition, arrays_in_condition}
+use Rattle.fs_ast.specs.SoundParts.{scalars_in_assignments, arrays_in_assignments, port_in, ports_in_assignments}
 
 -- ---- tests
 

@@ -12,11 +12,11 @@ use Rattle.std.specs.Cmp.Lexicographic.{slice_cmp}
 use Rattle.std.specs.Str.{bytes_eq}
 use Rattle.std.proofs.lemmas.Bool.{or_parts, or_from, or_left, and_from, or_right, false_from_ne_true, not-true}
 use Rattle.std.proofs.lemmas.List.{map-append}
-use Rattle.base_lemmas.proofs.Booleans.{and_first, and_second}
-use Rattle.base_lemmas.proofs.Lists.{bytes_eq-true, bytes_eq-self}
+use Rattle.fs_model.proofs.Booleans.{and_first, and_second}
+use Rattle.fs_model.proofs.Lists.{bytes_eq-true, bytes_eq-self}
 use Rattle.fs_model.specs.declared.parts.VarInfo.{VarInfo}
-use Rattle.fs_rules.specs.MachineOfParts.{place_or_end, names_of}
-use Rattle.fs_rules.specs.SoundParts.{names_differ}
+use Rattle.fs_ast.specs.MachineOfParts.{place_or_end, names_of}
+use Rattle.fs_ast.specs.SoundParts.{names_differ}
 use Rattle.fs_ast_laws.proofs.Repeats.{is_listed, kept_absent, kept_differ}
 use Rattle.hls_binding_laws.specs.Bindings.{register, IsBindingOf, AreRegisters}
 use Rattle.hls_binding_laws.proofs.Looks.{place_own}

@@ -3,14 +3,14 @@ use Rattle.std.proofs.Common.{◌≡◌, ℕ, List, [], ◌∷◌, ◌++◌, map
 use Rattle.std.specs.Prelude.{◌==◌, option_map}
 use Rattle.std.proofs.lemmas.List.Folds.{list_any-append}
 use Rattle.std.proofs.lemmas.Bool.{or_left, or_right}
-use Rattle.base_integers.specs.Division.{quotient, remainder}
+use Rattle.fs_model.specs.Division.{quotient, remainder}
 use Rattle.fs_model.specs.Terms.{Term, Number, Variable, Read, Sum, Difference, Product, Quotient, Remainder, Negative, Literal, Guard, Test, Not, And, Or}
 use Rattle.fs_model.specs.Terms.{Transition}
 use Rattle.fs_model.specs.Stores.{Store}
 use Rattle.fs_model.specs.Meaning.{value, relates, literal_holds}
 use Rattle.fs_model.specs.Trees.{Tree, Empty, Leaf, Node, Branch, tree_of_guard, tree_of_condition, tree_of_transitions, leaves, branches_of, negated_literal}
-use Rattle.fs_rules.specs.SoundParts.{scalars_in, arrays_in}
-use Rattle.fs_rules.specs.SoundParts.{occurs}
+use Rattle.fs_ast.specs.SoundParts.{scalars_in, arrays_in}
+use Rattle.fs_ast.specs.SoundParts.{occurs}
 use Rattle.fs_model.specs.PartFolds.{scalars, uses_in_literal}
 use Rattle.fs_model.specs.Renamed.{term_over, literal_over, guard_over, assignment_over, transition_over}
 

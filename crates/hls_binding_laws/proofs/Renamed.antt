@@ -5,7 +5,7 @@ use Rattle.std.specs.List.{list_all, slice_index_or}
 use Rattle.std.specs.Option.{unwrap_or}
 use Rattle.std.proofs.lemmas.List.Folds.{list_all-append}
 use Rattle.std.proofs.lemmas.Option.{slice_get_within}
-use Rattle.base_lemmas.proofs.Booleans.{and_first, and_second}
+use Rattle.fs_model.proofs.Booleans.{and_first, and_second}
 use Rattle.fs_model.specs.declared.parts.VarInfo.{VarInfo}
 use Rattle.fs_model.specs.Terms.{Term, Number, Variable, Read, Sum, Difference, Product, Quotient, Remainder, Negative, Guard, Test, Not, And, Or, Assignment}
 use Rattle.fs_model.specs.Terms.{Assign, ArrayWrite, Emit, Transition}
@@ -14,10 +14,10 @@ use Rattle.fs_model.specs.Machines.{Fsmd, State}
 use Rattle.fs_model.specs.declared.parts.Sort.{Sort}
 use Rattle.fs_model.specs.Runs.{SameBehaviour, is_scalar, is_array, is_port}
 use Rattle.fs_model.specs.Renamed.{term_over, guard_over, assignment_over, transition_over}
-use Rattle.fs_rules.specs.SoundParts.{IsSound, scalar_at, array_at, port_at, has_sort, port_in, ports_in_assignments, scalars_in, arrays_in, scalars_in_guard}
-use Rattle.fs_rules.specs.SoundParts.{arrays_in_guard, scalars_in_condition, arrays_in_condition, scalars_in_assignment, arrays_in_assignment}
-use Rattle.fs_rules.specs.SoundParts.{scalars_in_assignments, arrays_in_assignments}
-use Rattle.fs_rules.specs.MachineOfParts.{place_or_end, names_of, variables_of, state_names, state_spelled, machine_of}
+use Rattle.fs_ast.specs.SoundParts.{IsSound, scalar_at, array_at, port_at, has_sort, port_in, ports_in_assignments, scalars_in, arrays_in, scalars_in_guard}
+use Rattle.fs_ast.specs.SoundParts.{arrays_in_guard, scalars_in_condition, arrays_in_condition, scalars_in_assignment, arrays_in_assignment}
+use Rattle.fs_ast.specs.SoundParts.{scalars_in_assignments, arrays_in_assignments}
+use Rattle.fs_ast.specs.MachineOfParts.{place_or_end, names_of, variables_of, state_names, state_spelled, machine_of}
 use Rattle.hls_binding_laws.proofs.Renaming.{state_over, IsBoundBy, NeverClobbers}
 use Rattle.hls_binding_laws.specs.Bindings.{register, is_bound, bound_name, transition_renamed, state_renamed, bound_parts, IsBindingOf, AreRegisters}
 use Rattle.hls_binding_laws.specs.Conflicts.{Conflict, IsShared, Clobbers}

@@ -4,7 +4,7 @@ use Rattle.fs_model.specs.Machines.{Fsmd, State}
 use Rattle.fs_model.specs.Stores.{Store}
 use Rattle.fs_model.specs.Runs.{output}
 use Rattle.fs_model.specs.Renamed.{transition_over}
-use Rattle.fs_rules.specs.SoundParts.{branch_count}
+use Rattle.fs_ast.specs.SoundParts.{branch_count}
 use Rattle.fs_cut.specs.Paths.{branch_at, target_of}
 use Rattle.hls_binding_laws.specs.Liveness.{writes, IsLive}
 use Rattle.hls_binding_laws.specs.Bindings.{is_scalar_local}

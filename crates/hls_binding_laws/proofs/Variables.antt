@@ -10,7 +10,7 @@ use Rattle.std.proofs.lemmas.Option.{slice_get_past, slice_get_within}
 use Rattle.std.proofs.lemmas.List.Elements.{filter-append}
 use Rattle.std.proofs.lemmas.Grind.{flat_map-append}
 use Rattle.std.proofs.lemmas.Bool.{lt-ltb, ltb-false, ltb-true}
-use Rattle.base_lemmas.proofs.Lists.{bytes_eq-true, element_at}
+use Rattle.fs_model.proofs.Lists.{bytes_eq-true, element_at}
 use Rattle.fs_model.specs.declared.parts.Role.{Role}
 use Rattle.fs_model.specs.declared.parts.Role.TheVariants.{Local, Input, Output}
 use Rattle.fs_model.specs.declared.parts.Sort.{Sort}
@@ -20,8 +20,8 @@ use Rattle.fs_model.specs.Source.{Declaration}
 use Rattle.fs_model.specs.Stores.{Store}
 use Rattle.fs_model.specs.Runs.{Content, content, output_from, is_output, is_scalar}
 use Rattle.fs_model.specs.Runs as runs
-use Rattle.fs_rules.specs.SoundParts.{names_differ}
-use Rattle.fs_rules.specs.MachineOfParts.{place_or_end, names_of, variables_of, declared_by}
+use Rattle.fs_ast.specs.SoundParts.{names_differ}
+use Rattle.fs_ast.specs.MachineOfParts.{place_or_end, names_of, variables_of, declared_by}
 use Rattle.hls_binding_laws.proofs.Renaming.{Agree}
 use Rattle.hls_binding_laws.specs.Bindings.{is_local, is_scalar_local, register, is_bound, stays, declaration_without_bound, remaining_declarations}
 use Rattle.hls_binding_laws.specs.Bindings.{of_registers, IsBindingOf, AreRegisters}

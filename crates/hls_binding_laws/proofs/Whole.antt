@@ -4,8 +4,8 @@ use Rattle.std.proofs.Common.{None}
 use Rattle.std.specs.Prelude.{◌==◌, ◌&&◌, ◌||◌, not, nat_lt, slice_get}
 use Rattle.std.specs.List.{list_all, slice_index_or}
 use Rattle.std.proofs.lemmas.Bool.{eqb-false, eqb-true}
-use Rattle.base_lemmas.proofs.Lists.{length_map, map_map}
-use Rattle.base_lemmas.proofs.Options.{is_none-map}
+use Rattle.fs_model.proofs.Lists.{length_map, map_map}
+use Rattle.fs_model.proofs.Options.{is_none-map}
 use Rattle.fs_model.specs.declared.parts.Role.{Role}
 use Rattle.fs_model.specs.declared.parts.Role.TheVariants.{Input, Output, Local}
 use Rattle.fs_model.specs.declared.parts.Sort.{Sort}
@@ -17,12 +17,12 @@ use Rattle.fs_model.specs.Source.{Source}
 use Rattle.fs_model.specs.Machines.{Fsmd, State, transitions_of}
 use Rattle.fs_model.specs.Runs.{is_scalar, is_array, is_port, is_input}
 use Rattle.fs_model.specs.Trees.{branches_of}
-use Rattle.fs_rules.specs.MachineOfParts.{variables_of, machine_of}
-use Rattle.fs_rules.specs.SoundParts.{IsSound, IsSoundTransition, names_differ, ends_open, has_sort, scalar_at, array_at, port_at, input_at, is_input_of}
-use Rattle.fs_rules.specs.SoundParts.{assigned_in, occurs, all_differ, scalars_in_condition, arrays_in_condition, scalars_in_assignments, arrays_in_assignments}
-use Rattle.fs_rules.specs.SoundParts.{ports_in_assignments, branch_count, first_transition_target, is_cutpoint, reaches_cutpoint}
-use Rattle.fs_rules.specs.Rules.{IsEndless, BreaksNoRule}
-use Rattle.fs_rules.proofs.Uses.{emits_over}
+use Rattle.fs_ast.specs.MachineOfParts.{variables_of, machine_of}
+use Rattle.fs_ast.specs.SoundParts.{IsSound, IsSoundTransition, names_differ, ends_open, has_sort, scalar_at, array_at, port_at, input_at, is_input_of}
+use Rattle.fs_ast.specs.SoundParts.{assigned_in, occurs, all_differ, scalars_in_condition, arrays_in_condition, scalars_in_assignments, arrays_in_assignments}
+use Rattle.fs_ast.specs.SoundParts.{ports_in_assignments, branch_count, first_transition_target, is_cutpoint, reaches_cutpoint}
+use Rattle.fs_ast.specs.Rules.{IsEndless, BreaksNoRule}
+use Rattle.fs_ast.proofs.Uses.{emits_over}
 use Rattle.fs_ast.proofs.Kept.{no_state, get_mapped, not_endless}
 use Rattle.fs_ast_laws.proofs.Faultless.{IsFaultless}
 use Rattle.fs_ast_laws.proofs.Kept.{KeepsRules, lawful_where}

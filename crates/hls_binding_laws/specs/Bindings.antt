@@ -7,7 +7,7 @@ use Rattle.std.specs.Option.{unwrap_or, is_some}
 use Rattle.std.specs.Ordering.{nat_cmp}
 use Rattle.std.specs.Cmp.Lexicographic.{slice_cmp}
 use Rattle.std.specs.Str.{bytes_eq}
-use Rattle.fs_rules.specs.MachineOfParts.{place_or_end, names_of, variables_of}
+use Rattle.fs_ast.specs.MachineOfParts.{place_or_end, names_of, variables_of}
 use Rattle.fs_model.specs.declared.parts.Role.{Role}
 use Rattle.fs_model.specs.declared.parts.Role.TheVariants.{Local}
 use Rattle.fs_model.specs.declared.parts.Sort.TheVariants.{Scalar}

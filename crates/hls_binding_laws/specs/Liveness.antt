@@ -5,7 +5,7 @@ use Rattle.fs_model.specs.Terms.{Assignment, Assign, ArrayWrite, Emit}
 use Rattle.fs_model.specs.Machines.{Fsmd}
 use Rattle.fs_model.specs.Trees.{Branch}
 use Rattle.fs_model.specs.PartFolds.{scalars, uses_in_literal}
-use Rattle.fs_rules.specs.SoundParts.{scalars_in, assigned_in, occurs, branch_count}
+use Rattle.fs_ast.specs.SoundParts.{scalars_in, assigned_in, occurs, branch_count}
 use Rattle.fs_cut.specs.Paths.{branch_at, target_of}
 
 -- the scalars that an assignment reads: in its right side, its index or what it emits

@@ -2,7 +2,7 @@
 use Rattle.std.proofs.Common.{◌≡◌, ℕ, zero, suc, List, [], ◌∷◌, refl, sym, ◌∙◌, ap, ap₂, arith, Bool, true, false, Option, Some, None, length}
 use Rattle.std.specs.Prelude.{not, ◌&&◌, ◌||◌, nat_lt, cond, slice_get}
 use Rattle.std.specs.List.{slice_index_or}
-use Rattle.base_lemmas.proofs.Booleans.{and_false, or_false}
+use Rattle.fs_model.proofs.Booleans.{and_false, or_false}
 use Rattle.fs_rules.specs.SoundParts.{assigned_in, occurs}
 use Rattle.hls_line_rows.specs.Items.{Item, reads_of_item, changes, stored_in, emits, has_common_number, is_strict, is_weak}
 use Rattle.hls_line_rows.specs.ItemUnits.{used_by}

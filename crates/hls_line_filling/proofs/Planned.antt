@@ -3,7 +3,7 @@ use Rattle.std.proofs.Common.{◌≡◌, ℕ, suc, ◌<◌, List, [], ◌∷◌,
 use Rattle.std.specs.Prelude.{cond, slice_get}
 use Rattle.std.specs.List.{slice_index_or}
 use Rattle.std.proofs.lemmas.Option.{slice_get_within}
-use Rattle.base_lemmas.proofs.Lists.{element_at}
+use Rattle.fs_model.proofs.Lists.{element_at}
 use Rattle.hls_line_rows.specs.Items.{Item, is_strict}
 use Rattle.hls_line_rows.specs.ItemUnits.{Units}
 use Rattle.hls_line_rows.specs.Heights.{strict_edges_through, heights, greatest, chain_of}

@@ -4,7 +4,7 @@ use Rattle.std.specs.Prelude.{◌==◌, nat_lt, ◌&&◌, ◌||◌}
 use Rattle.std.specs.List.{list_all}
 use Rattle.std.proofs.lemmas.Bool.{both_ways, and_parts, and_from, false_from_ne_true}
 use Rattle.std.proofs.lemmas.Bool.Decides.{nat_tests}
-use Rattle.base_lemmas.proofs.Booleans.{or_true}
+use Rattle.fs_model.proofs.Booleans.{or_true}
 use Rattle.fs_model.specs.Terms.{Assign, ArrayWrite, Emit}
 use Rattle.fs_rules.specs.SoundParts.{assigned_in, occurs}
 use Rattle.hls_line_rows.specs.Items.{Item, read_in, reads_of_item, changes, stored_in, emits, has_common_number}

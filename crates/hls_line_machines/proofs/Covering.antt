@@ -5,10 +5,10 @@ use Rattle.std.specs.List.{slice_index_or}
 use Rattle.std.proofs.lemmas.Bool.Decides.{nat_tests}
 use Rattle.std.proofs.lemmas.Bool.{and_from, false_from_ne_true, not-true}
 use Rattle.std.proofs.lemmas.Option.{same_Some}
-use Rattle.base_lemmas.proofs.Booleans.{and_second, or_other}
+use Rattle.fs_model.proofs.Booleans.{and_second, or_other}
 use Rattle.fs_model.specs.Machines.{Fsmd, transitions_of}
 use Rattle.fs_model.specs.Trees.{Branch, branches_of}
-use Rattle.fs_rules.specs.SoundParts.{IsSound, is_cutpoint, reaches_cutpoint, first_transition_target}
+use Rattle.fs_ast.specs.SoundParts.{IsSound, is_cutpoint, reaches_cutpoint, first_transition_target}
 use Rattle.fs_cut.proofs.Branches.{first_target, few}
 use Rattle.hls_line_machines.specs.StraightLines.{all_states, sources, is_only, is_straight, follows, next_state, line_from, straight_line_at, is_inner}
 use Rattle.hls_line_machines.specs.StraightLines.{is_first_of_line, StandsInLine}

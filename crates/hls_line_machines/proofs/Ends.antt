@@ -6,12 +6,12 @@ use Rattle.std.specs.List.{slice_index_or}
 use Rattle.std.proofs.lemmas.Bool.Decides.{nat_tests}
 use Rattle.std.proofs.lemmas.Bool.{not-false, not-true}
 use Rattle.fs_ast.proofs.Leaves.{length_leaves}
-use Rattle.base_lemmas.proofs.Booleans.{or_other}
+use Rattle.fs_model.proofs.Booleans.{or_other}
 use Rattle.fs_model.specs.Terms.{Guard, Test, Not, And, Or, Transition}
 use Rattle.fs_model.specs.Machines.{State, Fsmd, transitions_of}
 use Rattle.fs_model.specs.Trees.{Tree, Leaf, tree_of_guard, tree_of_condition, tree_of_transitions, branches_of, count_leaves}
-use Rattle.fs_rules.specs.SoundParts.{IsSound, occurs, ends_open, is_cutpoint, branch_count, reaches_cutpoint, first_transition_target}
-use Rattle.fs_rules.specs.Rules.{after_steps, IsEndless}
+use Rattle.fs_ast.specs.SoundParts.{IsSound, occurs, ends_open, is_cutpoint, branch_count, reaches_cutpoint, first_transition_target}
+use Rattle.fs_ast.specs.Rules.{after_steps, IsEndless}
 use Rattle.fs_cut.proofs.Branches.{first_target}
 use Rattle.hls_line_rows.specs.Items.{Item}
 use Rattle.hls_line_machines.specs.StraightLines.{all_states, is_straight, follows, next_state, exit_from, straight_line_at, exit_of, is_inner}

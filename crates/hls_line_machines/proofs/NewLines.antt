@@ -9,12 +9,12 @@ use Rattle.std.proofs.lemmas.List.{map-append}
 use Rattle.std.proofs.lemmas.List.FromFn.{get_or-map-range_with_len}
 use Rattle.std.proofs.lemmas.Map.Steps.{le-length_from_below}
 use Rattle.std.proofs.lemmas.Option.{same_Some}
-use Rattle.base_lemmas.proofs.Booleans.{and_first, and_second, or_other}
-use Rattle.base_lemmas.proofs.Lists.{one_element, length_map}
+use Rattle.fs_model.proofs.Booleans.{and_first, and_second, or_other}
+use Rattle.fs_model.proofs.Lists.{one_element, length_map}
 use Rattle.fs_model.specs.Terms.{Literal, Guard, Test, Not, And, Or, Transition}
 use Rattle.fs_model.specs.Machines.{State, Fsmd, transitions_of}
 use Rattle.fs_model.specs.Trees.{Tree, Empty, Leaf, Node, Branch, tree_of_guard, tree_of_condition, tree_of_transitions, leaves, branches_of, negated_literal}
-use Rattle.fs_rules.specs.SoundParts.{IsSound, occurs, is_cutpoint, branch_count, reaches_cutpoint, first_transition_target}
+use Rattle.fs_ast.specs.SoundParts.{IsSound, occurs, is_cutpoint, branch_count, reaches_cutpoint, first_transition_target}
 use Rattle.fs_cut.specs.Paths.{target_of}
 use Rattle.fs_cut.proofs.Branches.{target_in, some_branch, first_target, few}
 use Rattle.hls_line_rows.specs.Items.{Item}

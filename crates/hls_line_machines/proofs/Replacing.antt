@@ -5,13 +5,13 @@ use Rattle.std.specs.Prelude.{◌≢◌, ◌==◌, ◌&&◌, not, cond, slice_ge
 use Rattle.std.proofs.lemmas.Bool.Decides.{nat_tests}
 use Rattle.std.proofs.lemmas.List.FromFn.{get_or-map-range_with_len}
 use Rattle.std.proofs.lemmas.Bool.{false_from_ne_true, not-true}
-use Rattle.base_lemmas.proofs.Booleans.{and_first, and_second}
+use Rattle.fs_model.proofs.Booleans.{and_first, and_second}
 use Rattle.fs_model.specs.Terms.{Transition}
 use Rattle.fs_model.specs.Machines.{State, Fsmd, transitions_of}
 use Rattle.fs_model.specs.Stores.{Store}
 use Rattle.fs_model.specs.Meaning.{transition_taken, act_all}
 use Rattle.fs_model.specs.Runs.{Step, SameBehaviour}
-use Rattle.fs_rules.specs.SoundParts.{IsSound, branch_count, is_cutpoint}
+use Rattle.fs_ast.specs.SoundParts.{IsSound, branch_count, is_cutpoint}
 use Rattle.fs_cut.specs.Paths.{target_of, store_after}
 use Rattle.fs_cut.specs.Cuts.{branch_taken}
 use Rattle.fs_cut.proofs.Branches.{target_in, takes_branch, only_branch, step_taken, step_at}

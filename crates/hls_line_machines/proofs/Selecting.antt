@@ -3,13 +3,13 @@ use Rattle.std.proofs.Common.{◌≡◌, ℕ, suc, refl, sym, ◌∙◌, ap, ari
 use Rattle.std.specs.Prelude.{◌==◌, cond, option_map, slice_get}
 use Rattle.std.specs.List.{slice_index_or}
 use Rattle.std.proofs.lemmas.Bool.Decides.{nat_tests}
-use Rattle.base_lemmas.proofs.Booleans.{or_other}
+use Rattle.fs_model.proofs.Booleans.{or_other}
 use Rattle.fs_model.specs.Terms.{Transition}
 use Rattle.fs_model.specs.Machines.{State, Fsmd, transitions_of}
 use Rattle.fs_model.specs.Stores.{Store}
 use Rattle.fs_model.specs.Meaning.{condition_holds, transition_taken, act_all}
 use Rattle.fs_model.specs.Runs.{SameBehaviour}
-use Rattle.fs_rules.specs.SoundParts.{occurs}
+use Rattle.fs_ast.specs.SoundParts.{occurs}
 use Rattle.fs_ast.proofs.Opens.{takes_one}
 use Rattle.hls_line_machines.specs.RowMachines.{state_at}
 use Rattle.hls_line_machines.specs.MachineSelections.{selected_place, transition_renumbered, machine_of_states, IsClosedUnderTargets}

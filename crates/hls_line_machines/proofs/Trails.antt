@@ -5,10 +5,10 @@ use Rattle.std.specs.List.{list_any, slice_index_or}
 use Rattle.std.proofs.lemmas.Bool.Decides.{nat_tests}
 use Rattle.std.proofs.lemmas.Bool.{false_from_ne_true, not-true}
 use Rattle.std.proofs.lemmas.Option.{same_Some}
-use Rattle.base_lemmas.proofs.Booleans.{and_first, and_second, or_other}
+use Rattle.fs_model.proofs.Booleans.{and_first, and_second, or_other}
 use Rattle.fs_model.specs.Machines.{Fsmd, transitions_of}
 use Rattle.fs_model.specs.Trees.{Branch, branches_of}
-use Rattle.fs_rules.specs.SoundParts.{IsSound, branch_count, is_cutpoint, reaches_cutpoint, first_transition_target}
+use Rattle.fs_ast.specs.SoundParts.{IsSound, branch_count, is_cutpoint, reaches_cutpoint, first_transition_target}
 use Rattle.fs_cut.specs.Paths.{branch_at, target_of}
 use Rattle.fs_cut.proofs.Branches.{target_in, some_branch, first_target}
 use Rattle.hls_line_machines.specs.StraightLines.{all_states, sources, is_only, is_straight, follows, next_state, line_from, exit_from, is_inner}

@@ -2,7 +2,7 @@
 use Rattle.std.specs.Prelude.{◌≡◌, ℕ, suc, ◌==◌, true, cond, List, [], ◌∷◌, map, IsTrue, Some, slice_get}
 use Rattle.fs_model.specs.Terms.{Transition}
 use Rattle.fs_model.specs.Machines.{Fsmd, transitions_of}
-use Rattle.fs_rules.specs.SoundParts.{occurs, ends_open}
+use Rattle.fs_ast.specs.SoundParts.{occurs, ends_open}
 use Rattle.hls_line_machines.specs.RowMachines.{state_at}
 
 -- the place of a number in a list that has it

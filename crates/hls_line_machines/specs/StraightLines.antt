@@ -4,7 +4,7 @@ use Rattle.std.specs.Prelude.{length, Some, slice_get}
 use Rattle.std.specs.List.{range_with_len, list_any, flat_map}
 use Rattle.fs_model.specs.Machines.{Fsmd, transitions_of}
 use Rattle.fs_model.specs.Trees.{branches_of}
-use Rattle.fs_rules.specs.SoundParts.{is_cutpoint}
+use Rattle.fs_ast.specs.SoundParts.{is_cutpoint}
 use Rattle.fs_cut.specs.Paths.{branch_at, target_of}
 use Rattle.hls_line_rows.specs.Items.{Item}
 

@@ -3,8 +3,8 @@
 ghost use Rattle.std.specs.Prelude.{◌≡◌, ℕ, suc, ◌<◌, true, false, List, length};
 ghost use Rattle.fs_model.specs.Machines.{Fsmd};
 ghost use Rattle.fs_model.specs.Runs.{SameBehaviour};
-ghost use Rattle.fs_rules.specs.SoundParts.{IsSound};
-ghost use Rattle.fs_rules.specs.Rules.{IsEndless};
+ghost use Rattle.fs_ast.specs.SoundParts.{IsSound};
+ghost use Rattle.fs_ast.specs.Rules.{IsEndless};
 ghost use Rattle.hls_line_rows.specs.Items.{Item};
 ghost use Rattle.hls_line_machines.specs.StraightLines.{is_straight, follows, straight_line_at, is_first_of_line, StandsInLine};
 ghost use Rattle.hls_line_machines.specs.MachineSelections.{machine_of_states, selected_place, IsClosedUnderTargets};

@@ -4,7 +4,7 @@ use Rattle.std.specs.Prelude.{not, nat_lt, cond, max}
 use Rattle.std.specs.List.{list_all}
 use Rattle.std.proofs.lemmas.Bool.Decides.{nat_tests}
 use Rattle.std.proofs.lemmas.Bool.{ltb-true}
-use Rattle.base_lemmas.proofs.Booleans.{and_first, and_second}
+use Rattle.fs_model.proofs.Booleans.{and_first, and_second}
 use Rattle.hls_line_rows.specs.Items.{is_strict, is_weak}
 use Rattle.hls_line_rows.specs.Placings.{Placed, items_of, respects_edge, is_valid, all_below}
 use Rattle.hls_line_rows.specs.Heights.{strict_edges_through, height_over, heights, chain_of}

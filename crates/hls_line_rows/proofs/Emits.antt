@@ -4,7 +4,7 @@ use Rattle.std.specs.Prelude.{◌==◌, ◌&&◌, nat_lt, nat_le, cond}
 use Rattle.std.specs.List.{list_all}
 use Rattle.std.proofs.lemmas.Bool.Decides.{nat_tests}
 use Rattle.std.proofs.lemmas.Bool.{leb-true}
-use Rattle.base_lemmas.proofs.Booleans.{and_first, and_second, neither_second}
+use Rattle.fs_model.proofs.Booleans.{and_first, and_second, neither_second}
 use Rattle.fs_model.specs.Terms.{Assign, ArrayWrite, Emit}
 use Rattle.fs_rules.specs.SoundParts.{emit_count}
 use Rattle.hls_line_rows.specs.Items.{Item, emits, is_strict, is_weak}

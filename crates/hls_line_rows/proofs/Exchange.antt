@@ -4,8 +4,8 @@ use Rattle.std.proofs.lemmas.Bool.Decides.{nat_tests}
 use Rattle.std.specs.Prelude.{◌==◌, not, ◌&&◌, ◌||◌, cond, ℤ, ◌+ℤ◌, ◌-ℤ◌, ◌*ℤ◌, neg_ℤ}
 use Rattle.std.specs.Ordering.{int_eq}
 use Rattle.std.proofs.lemmas.Bool.{and_from}
-use Rattle.base_lemmas.proofs.Booleans.{and_first, and_second, neither_first, neither_second, not_or_second}
-use Rattle.base_integers.specs.Division.{quotient, remainder}
+use Rattle.fs_model.proofs.Booleans.{and_first, and_second, neither_first, neither_second, not_or_second}
+use Rattle.fs_model.specs.Division.{quotient, remainder}
 use Rattle.fs_model.specs.Terms.{Term, Number, Variable, Read, Sum, Difference, Product, Quotient, Remainder, Negative, Assignment, Assign, ArrayWrite, Emit}
 use Rattle.fs_model.specs.Stores.{Store, store_with_number, store_with_entry, store_with_emit}
 use Rattle.fs_model.specs.Meaning.{value, act, act_all}

@@ -6,7 +6,7 @@ use Rattle.std.specs.List.{list_all, range_with_len}
 use Rattle.std.proofs.lemmas.Bool.Decides.{nat_tests}
 use Rattle.std.proofs.lemmas.Bool.{and_from, not-true, lt-ltb}
 use Rattle.std.proofs.lemmas.Option.{same_Some}
-use Rattle.base_lemmas.proofs.Booleans.{and_first, and_second}
+use Rattle.fs_model.proofs.Booleans.{and_first, and_second}
 use Rattle.hls_line_rows.specs.ItemUnits.{Units, none_used, suffice}
 use Rattle.hls_line_rows.specs.Filling.{ItemGraph, Rows, place_item, leaves_row_open, is_ready, may_stand, higher_of, highest_number, next_item, more_units}
 use Rattle.hls_line_rows.specs.Filling.{row_filled, all_placed}

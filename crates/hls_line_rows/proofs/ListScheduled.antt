@@ -5,7 +5,7 @@ use Rattle.std.specs.Option.{is_none}
 use Rattle.std.proofs.lemmas.Bool.Decides.{nat_tests}
 use Rattle.std.proofs.lemmas.Bool.{and_from, not-true, lt-ltb}
 use Rattle.std.proofs.lemmas.Option.{same_Some}
-use Rattle.base_lemmas.proofs.Booleans.{and_second}
+use Rattle.fs_model.proofs.Booleans.{and_second}
 use Rattle.hls_line_rows.specs.ItemUnits.{Units, none_used, suffice}
 use Rattle.hls_line_rows.specs.Filling.{ItemGraph, Rows, place_item, is_before, is_by, leaves_row_open, is_ready, may_stand, higher_of, highest_number}
 use Rattle.hls_line_rows.specs.Filling.{next_item, more_units}

@@ -4,7 +4,7 @@ use Rattle.std.specs.Prelude.{◌==◌, not, nat_lt, cond}
 use Rattle.std.specs.List.{list_all}
 use Rattle.std.proofs.lemmas.Bool.Decides.{nat_tests}
 use Rattle.std.proofs.lemmas.Bool.{or_from, and_from, not-true}
-use Rattle.base_lemmas.proofs.Booleans.{and_first, and_second, neither_first, neither_second}
+use Rattle.fs_model.proofs.Booleans.{and_first, and_second, neither_first, neither_second}
 use Rattle.fs_model.specs.Terms.{Assign, ArrayWrite, Emit}
 use Rattle.fs_rules.specs.SoundParts.{assigned_in, all_differ, occurs}
 use Rattle.hls_line_rows.specs.Items.{Item, has_common_number, is_strict, is_weak}

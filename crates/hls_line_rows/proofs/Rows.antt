@@ -4,7 +4,7 @@ use Rattle.std.specs.Prelude.{◌==◌, not, nat_lt, ◌+◌, cond, filter}
 use Rattle.std.specs.List.{list_all}
 use Rattle.std.proofs.lemmas.Bool.Decides.{nat_tests}
 use Rattle.std.proofs.lemmas.Bool.{or_from}
-use Rattle.base_lemmas.proofs.Booleans.{and_first, and_second, neither_first, neither_second}
+use Rattle.fs_model.proofs.Booleans.{and_first, and_second, neither_first, neither_second}
 use Rattle.fs_model.specs.Stores.{Store}
 use Rattle.fs_model.specs.Meaning.{act, act_all}
 use Rattle.fs_rules.specs.SoundParts.{occurs}

@@ -4,11 +4,11 @@ use Rattle.std.proofs.Common.{is_some}
 use Rattle.std.specs.Prelude.{◌==◌, ◌||◌, not, cond}
 use Rattle.std.specs.Option.{option_or}
 use Rattle.std.specs.List.{list_any}
-use Rattle.base_lemmas.proofs.Booleans.{and_first}
+use Rattle.fs_model.proofs.Booleans.{and_first}
 use Rattle.fs_model.specs.Terms.{Assignment}
 use Rattle.fs_model.specs.Source.{Source}
 use Rattle.fs_model.specs.Machines.{Fsmd}
-use Rattle.fs_rules.specs.SoundParts.{IsSound}
+use Rattle.fs_ast.specs.SoundParts.{IsSound}
 use Rattle.hls_line_machines.specs.StraightLines.{all_states, is_straight, follows, next_state, line_from, straight_line_at, exit_of, is_inner}
 use Rattle.hls_line_machines.specs.StraightLines.{is_first_of_line, firsts}
 use Rattle.hls_line_machines.specs.RowMachines.{MoveOver, after_row, moves, all_moves}

@@ -7,19 +7,19 @@ use Rattle.std.proofs.lemmas.List.Sums.{length-filter, count_by-le-length}
 use Rattle.std.proofs.lemmas.List.FromFn.{length-range_with_len, length-map-range_with_len, get_or-map-range_with_len}
 use Rattle.std.proofs.lemmas.Option.{same_Some}
 use Rattle.std.proofs.lemmas.Bool.{le-leb}
-use Rattle.base_lemmas.proofs.Lists.{length_map, map_map}
+use Rattle.fs_model.proofs.Lists.{length_map, map_map}
 use Rattle.fs_model.specs.Limits.{most_states, most_branches, most_emits}
 use Rattle.fs_model.specs.Terms.{Assignment, Transition}
 use Rattle.fs_model.specs.PartFolds.{Listing, scalars, arrays, uses_in_assignment, uses_in_assignments}
 use Rattle.fs_model.specs.Source.{Source}
 use Rattle.fs_model.specs.Machines.{State, Fsmd, transitions_of}
 use Rattle.fs_model.specs.Trees.{branches_of}
-use Rattle.fs_rules.specs.MachineOfParts.{machine_of}
-use Rattle.fs_rules.specs.SoundParts.{IsSound, scalar_at, array_at, port_at, input_at, changed_by, assigned_in, all_differ, scalars_in_condition}
-use Rattle.fs_rules.specs.SoundParts.{arrays_in_condition, scalars_in_assignments, arrays_in_assignments, port_in, ports_in_assignments, emit_count}
-use Rattle.fs_rules.specs.SoundParts.{names_differ}
-use Rattle.fs_rules.specs.SoundParts.{occurs, is_open, ends_open, branch_count}
-use Rattle.fs_rules.specs.Rules.{IsEndless, BreaksNoRule}
+use Rattle.fs_ast.specs.MachineOfParts.{machine_of}
+use Rattle.fs_ast.specs.SoundParts.{IsSound, scalar_at, array_at, port_at, input_at, changed_by, assigned_in, all_differ, scalars_in_condition}
+use Rattle.fs_ast.specs.SoundParts.{arrays_in_condition, scalars_in_assignments, arrays_in_assignments, port_in, ports_in_assignments, emit_count}
+use Rattle.fs_ast.specs.SoundParts.{names_differ}
+use Rattle.fs_ast.specs.SoundParts.{occurs, is_open, ends_open, branch_count}
+use Rattle.fs_ast.specs.Rules.{IsEndless, BreaksNoRule}
 use Rattle.fs_ast.proofs.Kept.{no_state, get_mapped}
 use Rattle.fs_ast_laws.proofs.Repeats.{kept_differ}
 use Rattle.fs_ast_laws.proofs.Faultless.{IsFaultless, of_sound}

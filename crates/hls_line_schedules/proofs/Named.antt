@@ -3,13 +3,13 @@ use Rattle.std.proofs.Common.{◌≡◌, ℕ, zero, suc, refl, sym, ◌∙◌, a
 use Rattle.std.specs.Prelude.{◌==◌, cond}
 use Rattle.std.proofs.Math.ListN.{get_or-map}
 use Rattle.std.proofs.lemmas.List.{map-append}
-use Rattle.base_lemmas.proofs.Lists.{map_map}
+use Rattle.fs_model.proofs.Lists.{map_map}
 use Rattle.fs_model.specs.Terms.{Assignment, Transition}
 use Rattle.fs_model.specs.Renamed.{assignment_over}
 use Rattle.fs_model.specs.Source.{SourceTransition, Source}
 use Rattle.fs_model.specs.Machines.{State, Fsmd, transitions_of}
-use Rattle.fs_rules.specs.MachineOfParts.{place_or_end, variables_of, names_of, state_names, transition_spelled, state_spelled, machine_of}
-use Rattle.fs_rules.specs.SoundParts.{IsSound}
+use Rattle.fs_ast.specs.MachineOfParts.{place_or_end, variables_of, names_of, state_names, transition_spelled, state_spelled, machine_of}
+use Rattle.fs_ast.specs.SoundParts.{IsSound}
 use Rattle.hls_line_rows.specs.Placings.{PlacedOver, join_assignments, row_at, rows_from, rows_of}
 use Rattle.hls_line_rows.specs.ItemUnits.{Units}
 use Rattle.hls_line_rows.specs.Filling.{Rows, Filled, row_or, placed_from, placed_by, graph_of, filling_of}

@@ -4,7 +4,7 @@ use Rattle.std.specs.Prelude.{◌==◌, cond, filter}
 use Rattle.std.specs.List.{list_all, slice_index_or, flat_map}
 use Rattle.std.proofs.lemmas.List.Folds.{list_all-append}
 use Rattle.std.proofs.lemmas.Bool.{and_from}
-use Rattle.base_lemmas.proofs.Booleans.{and_first, and_second}
+use Rattle.fs_model.proofs.Booleans.{and_first, and_second}
 use Rattle.fs_model.specs.Terms.{Assignment}
 use Rattle.hls_line_rows.specs.Placings.{PlacedOver, join_assignments, row_at}
 use Rattle.hls_line_rows.specs.Filling.{Rows, Filled, placed_from, placed_by}

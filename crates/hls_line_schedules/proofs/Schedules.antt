@@ -3,13 +3,13 @@ use Rattle.std.proofs.Common.{◌≡◌, ℕ, zero, suc, ◌<◌, ◌≤◌, ref
 use Rattle.std.specs.Prelude.{◌≢◌, not, cond, slice_get}
 use Rattle.std.specs.List.{slice_index_or}
 use Rattle.std.proofs.lemmas.Bool.{not-true}
-use Rattle.base_lemmas.proofs.Booleans.{and_first}
-use Rattle.base_lemmas.proofs.Lists.{one_element, length_map}
+use Rattle.fs_model.proofs.Booleans.{and_first}
+use Rattle.fs_model.proofs.Lists.{one_element, length_map}
 use Rattle.fs_model.specs.Terms.{Transition}
 use Rattle.fs_model.specs.Machines.{Fsmd, transitions_of}
 use Rattle.fs_model.specs.Runs.{SameBehaviour}
 use Rattle.fs_model.specs.Trees.{Branch, branches_of}
-use Rattle.fs_rules.specs.SoundParts.{IsSound, is_cutpoint}
+use Rattle.fs_ast.specs.SoundParts.{IsSound, is_cutpoint}
 use Rattle.fs_cut.specs.Paths.{branch_at}
 use Rattle.fs_ast.proofs.OneBranch.{only_transition}
 use Rattle.fs_cut.proofs.Branches.{some_branch, few}

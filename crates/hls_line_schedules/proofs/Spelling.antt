@@ -9,15 +9,15 @@ use Rattle.std.proofs.lemmas.Slice.Eq.{bytes_eq-Decides}
 use Rattle.std.proofs.lemmas.List.FromFn.{get_or-map-range_with_len}
 use Rattle.std.proofs.Math.ListN.{get_or-map}
 use Rattle.std.proofs.lemmas.Bool.{false_from_ne_true, not-true}
-use Rattle.base_lemmas.proofs.Booleans.{and_first, and_second}
-use Rattle.base_lemmas.proofs.Numbers.{eqb_suc}
-use Rattle.base_lemmas.proofs.Lists.{length_map, map_map}
-use Rattle.base_lemmas.proofs.Quantifiers.{list_any_map}
+use Rattle.fs_model.proofs.Booleans.{and_first, and_second}
+use Rattle.fs_model.proofs.Numbers.{eqb_suc}
+use Rattle.fs_model.proofs.Lists.{length_map, map_map}
+use Rattle.fs_model.proofs.Quantifiers.{list_any_map}
 use Rattle.fs_model.specs.Terms.{Transition}
 use Rattle.fs_model.specs.Source.{SourceTransition, SourceState, Source}
 use Rattle.fs_model.specs.Machines.{State, Fsmd, transitions_of}
-use Rattle.fs_rules.specs.MachineOfParts.{place_or_end, variables_of, state_names, transition_spelled, state_spelled, machine_of}
-use Rattle.fs_rules.specs.SoundParts.{IsSound, names_differ}
+use Rattle.fs_ast.specs.MachineOfParts.{place_or_end, variables_of, state_names, transition_spelled, state_spelled, machine_of}
+use Rattle.fs_ast.specs.SoundParts.{IsSound, names_differ}
 use Rattle.fs_ast_laws.proofs.Repeats.{is_listed}
 use Rattle.hls_line_rows.specs.Items.{Item}
 use Rattle.hls_line_machines.specs.StraightLines.{all_states, is_straight}

@@ -5,7 +5,7 @@ use Rattle.std.specs.Prelude.{◌==◌, cond, slice_get}
 use Rattle.std.specs.List.{slice_index_or}
 use Rattle.fs_model.specs.Terms.{Assignment, Transition}
 use Rattle.fs_model.specs.Machines.{State, Fsmd, transitions_of}
-use Rattle.fs_rules.specs.SoundParts.{IsSound}
+use Rattle.fs_ast.specs.SoundParts.{IsSound}
 use Rattle.hls_line_rows.specs.Items.{Item}
 use Rattle.hls_line_rows.specs.Placings.{PlacedOver, Placed, join_assignments, row_at, rows_from}
 use Rattle.hls_line_machines.specs.StraightLines.{all_states, straight_line_at, exit_of, is_first_of_line, firsts, items_at}

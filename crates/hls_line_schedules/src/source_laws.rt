@@ -4,9 +4,9 @@ ghost use Rattle.std.specs.Prelude.{◌≡◌, ℕ, ◌<◌, IsTrue, Option, Som
 ghost use Rattle.fs_model.specs.Source.{Source};
 ghost use Rattle.fs_model.specs.Machines.{Fsmd};
 ghost use Rattle.fs_model.specs.WellFormed.{is_well_formed};
-ghost use Rattle.fs_rules.specs.MachineOfParts.{machine_of};
-ghost use Rattle.fs_rules.specs.SoundParts.{IsSound};
-ghost use Rattle.fs_rules.specs.Rules.{BreaksNoRule};
+ghost use Rattle.fs_ast.specs.MachineOfParts.{machine_of};
+ghost use Rattle.fs_ast.specs.SoundParts.{IsSound};
+ghost use Rattle.fs_ast.specs.Rules.{BreaksNoRule};
 ghost use Rattle.hls_line_rows.specs.ItemUnits.{Units};
 ghost use Rattle.hls_line_schedules.specs.Schedules.{IsWithin, schedule_of};
 ghost use Rattle.hls_line_schedules.specs.SourceRows.{named_moves, RowEffect, first_row_effect};

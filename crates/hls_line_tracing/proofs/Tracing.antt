@@ -7,13 +7,13 @@ use Rattle.std.proofs.lemmas.Bool.Decides.{nat_tests}
 use Rattle.std.proofs.lemmas.List.{get_or-map, length-map}
 use Rattle.std.proofs.lemmas.Option.{slice_get-map, slice_get-get_or}
 use Rattle.std.proofs.lemmas.Bool.{false_from_ne_true, not-true}
-use Rattle.base_lemmas.proofs.Booleans.{and_second, or_other}
+use Rattle.fs_model.proofs.Booleans.{and_second, or_other}
 use Rattle.fs_model.specs.declared.parts.StateId.{StateId}
 use Rattle.fs_model.specs.declared.parts.Branch.{Branch as CodeBranch}
 use Rattle.fs_model.specs.Machines.{Fsmd, transitions_of}
 use Rattle.fs_model.specs.Trees.{Branch, branches_of}
 use Rattle.fs_model.specs.View.{assignment_of, branch_of}
-use Rattle.fs_rules.specs.SoundParts.{IsSound, is_cutpoint, reaches_cutpoint, first_transition_target}
+use Rattle.fs_ast.specs.SoundParts.{IsSound, is_cutpoint, reaches_cutpoint, first_transition_target}
 use Rattle.fs_cut.proofs.Branches.{first_target, no_branch}
 use Rattle.fs_cut.proofs.Loops.{range_step, has_first, more}
 use Rattle.hls_line_machines.specs.StraightLines.{all_states, sources, is_only, is_straight, follows, next_state, line_from, straight_line_at, exit_from}

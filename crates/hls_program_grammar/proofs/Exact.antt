@@ -3,7 +3,7 @@ use Rattle.std.proofs.Common.{◌≡◌, ℕ, ◌≤◌, Bool, true, false, cond
 use Rattle.std.proofs.Common.{append_assoc, inl, inr, arith}
 use Rattle.std.specs.Prelude.{◌⊎◌}
 use Rattle.std.proofs.lemmas.List.{append-nil}
-use Rattle.base_lemmas.proofs.Booleans.{true_and_false}
+use Rattle.fs_model.proofs.Booleans.{true_and_false}
 use Rattle.fs_grammar.specs.declared.fault.TextKind.{TextKind}
 use Rattle.fs_grammar.specs.declared.fault.TextKind.TheVariants.{BadByte, BadWord, NumberTooBig, Unexpected, Operators, Nested, Ended}
 use Rattle.fs_grammar.specs.declared.fault.TextFault.{TextFault}

@@ -2,7 +2,7 @@
 use Rattle.std.proofs.Common.{◌≡◌, ℕ, ◌≤◌, List, [], ◌∷◌, ◌++◌, Option, Some, None, refl, sym, ap, subst, ◌∙◌, append_assoc, arith}
 use Rattle.std.specs.Prelude.{Bool, true, false, nat_le, pos, IfSome, IsTrue}
 use Rattle.std.proofs.lemmas.Bool.{leb-true, and_parts}
-use Rattle.base_lemmas.proofs.Booleans.{true_and_false}
+use Rattle.fs_model.proofs.Booleans.{true_and_false}
 use Rattle.fs_model.specs.Terms as terms
 use Rattle.fs_model.specs.Source.{Declaration}
 use Rattle.fs_grammar.specs.declared.format.Format.TheVariants.{One}

@@ -4,7 +4,7 @@ use Rattle.std.specs.Prelude.{◌&&◌, nat_le, not, Some, IsTrue}
 use Rattle.std.specs.List.{list_all}
 use Rattle.std.proofs.lemmas.List.Folds.{list_all-append}
 use Rattle.std.proofs.lemmas.Bool.{and_from}
-use Rattle.base_lemmas.proofs.Booleans.{and_first, and_second}
+use Rattle.fs_model.proofs.Booleans.{and_first, and_second}
 use Rattle.fs_model.specs.Limits.{most_operators}
 use Rattle.fs_model.specs.Terms.{Term, Number, Variable, Read, Sum, Difference, Product, Quotient, Remainder, Negative, Guard, Test, Not, And, Or, Assignment}
 use Rattle.fs_model.specs.Terms.{Assign, ArrayWrite, Emit}

@@ -3,11 +3,11 @@ use Rattle.std.proofs.Common.{◌≡◌, ℕ, ◌+◌, ◌<◌, ◌≤◌, List,
 use Rattle.std.specs.List.{All}
 use Rattle.std.proofs.lemmas.List.{get_or-map}
 use Rattle.std.proofs.lemmas.List.Elements.{All-filter, All-map, filter_passes}
-use Rattle.base_lemmas.proofs.Lists.{length_map}
+use Rattle.fs_model.proofs.Lists.{length_map}
 use Rattle.fs_model.specs.Source.{Source}
 use Rattle.fs_model.specs.Machines.{Fsmd}
 use Rattle.fs_model.specs.Runs.{SameBehaviour}
-use Rattle.fs_rules.specs.SoundParts.{IsSound}
+use Rattle.fs_ast.specs.SoundParts.{IsSound}
 use Rattle.hls_line_machines.specs.StraightLines.{all_states, is_first_of_line, firsts}
 use Rattle.hls_line_machines.specs.RowMachines.{MoveOver}
 use Rattle.hls_line_machines.proofs.Among.{range_within}

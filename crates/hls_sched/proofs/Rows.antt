@@ -6,11 +6,11 @@ use Rattle.std.specs.List.{All, flat_map}
 use Rattle.std.proofs.lemmas.Bool.Decides.{nat_tests}
 use Rattle.std.proofs.lemmas.List.{drop_more, get_or-map, map_push, map-append}
 use Rattle.std.proofs.lemmas.List.Elements.{All-push}
-use Rattle.base_lemmas.proofs.Lists.{length_map}
+use Rattle.fs_model.proofs.Lists.{length_map}
 use Rattle.fs_model.specs.declared.parts.StateId.{StateId}
 use Rattle.fs_model.specs.Terms.{Assignment}
 use Rattle.fs_model.specs.Source.{Source}
-use Rattle.fs_rules.proofs.Turns.{flat_push}
+use Rattle.fs_ast.proofs.Turns.{flat_push}
 use Rattle.hls_line_rows.specs.Placings.{PlacedOver, join_assignments, row_at, rows_from}
 use Rattle.hls_line_rows.specs.Filling.{Rows, Filled, is_before, is_in, row_or, placed_from}
 use Rattle.hls_line_machines.specs.RowMachines.{MoveOver, after_row, moves}

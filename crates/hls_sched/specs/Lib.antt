@@ -1,3 +1,4 @@
 pub mod RowMoves
 pub mod CodeLines
 pub mod Reports
+pub use Rattle.hls_unit_limits.specs.Over

@@ -7,15 +7,15 @@ use Rattle.std.proofs.lemmas.List.{get_or-map, length-map}
 use Rattle.std.proofs.lemmas.List.Folds.{list_all-append}
 use Rattle.std.proofs.lemmas.Option.{slice_get-get_or, slice_get_within}
 use Rattle.std.proofs.lemmas.Bool.{and_from}
-use Rattle.base_lemmas.proofs.Booleans.{and_first, and_second}
-use Rattle.base_lemmas.proofs.Quantifiers.{list_all_weaker}
+use Rattle.fs_model.proofs.Booleans.{and_first, and_second}
+use Rattle.fs_model.proofs.Quantifiers.{list_all_weaker}
 use Rattle.fs_model.specs.declared.parts.Sort.{Sort}
 use Rattle.fs_model.specs.declared.parts.VarInfo.{VarInfo}
 use Rattle.fs_model.specs.Runs.{is_scalar, is_array}
 use Rattle.fs_model.specs.Terms.{Term, Number, Variable, Read, Sum, Difference, Product, Quotient, Remainder, Negative, Assignment, Assign, ArrayWrite, Emit}
 use Rattle.fs_model.specs.Machines.{Fsmd, transitions_of}
 use Rattle.fs_model.specs.Trees.{branches_of}
-use Rattle.fs_rules.specs.SoundParts.{IsSound, has_sort, scalar_at, array_at, scalars_in, arrays_in, scalars_in_assignment, arrays_in_assignment, assigned_in}
+use Rattle.fs_ast.specs.SoundParts.{IsSound, has_sort, scalar_at, array_at, scalars_in, arrays_in, scalars_in_assignment, arrays_in_assignment, assigned_in}
 use Rattle.fs_ast.specs.Branches.{is_sound_assignment}
 use Rattle.fs_ast.proofs.Lifted.{branch_sound}
 use Rattle.fs_cut.specs.Paths.{branch_at}

@@ -5,10 +5,10 @@ use Rattle.std.specs.List.{list_all}
 use Rattle.std.specs.Option.{is_none}
 use Rattle.std.proofs.lemmas.List.Folds.{list_all-append}
 use Rattle.std.proofs.lemmas.Bool.{not-true}
-use Rattle.base_lemmas.proofs.Booleans.{and_first, and_second, and_true}
+use Rattle.fs_model.proofs.Booleans.{and_first, and_second, and_true}
 use Rattle.fs_model.specs.Terms.{Literal, Guard, Test, Not, And, Or, Assignment, Transition}
 use Rattle.fs_model.specs.Trees.{Tree, Empty, Leaf, Node, Branch, tree_of_guard, tree_of_condition, tree_of_transitions, leaves, branches_of, negated_literal}
-use Rattle.fs_rules.specs.SoundParts.{ends_open, is_open}
+use Rattle.fs_ast.specs.SoundParts.{ends_open, is_open}
 
 swapped : (a b : Bool) → (a && b) ≡ (b && a)
 swapped true true = refl

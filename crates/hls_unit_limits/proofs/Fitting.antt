@@ -7,11 +7,11 @@ use Rattle.std.proofs.lemmas.Bool.Decides.{nat_tests}
 use Rattle.std.proofs.lemmas.List.{get_or_past}
 use Rattle.std.proofs.lemmas.List.Sums.{AllPass-from_list_all, list_all-from_AllPass}
 use Rattle.std.proofs.lemmas.Option.{slice_get-get_or, slice_get_within, get_or_from_slice_get}
-use Rattle.base_lemmas.proofs.Options.{is_none-map}
+use Rattle.fs_model.proofs.Options.{is_none-map}
 use Rattle.fs_model.specs.Terms.{Transition}
 use Rattle.fs_model.specs.Machines.{Fsmd, transitions_of}
 use Rattle.fs_model.specs.Trees.{Branch, branches_of}
-use Rattle.fs_rules.specs.SoundParts.{IsSound}
+use Rattle.fs_ast.specs.SoundParts.{IsSound}
 use Rattle.fs_cut.proofs.Loops.{range_map_step}
 use Rattle.hls_unit_counts.specs.declared.units.Unit.{Unit as Kind}
 use Rattle.hls_unit_counts.specs.declared.units.Unit.TheVariants.{Add, Mul, Div, Mem}

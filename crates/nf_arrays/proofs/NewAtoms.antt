@@ -1,7 +1,7 @@
 -- New atoms.
 use Rattle.std.proofs.Common.{◌≡◌, ◌<◌, ◌^◌, ◌≤◌, ℤ, Bool, true, false, ◌&&◌, not, unsigned_abs, arith, ap, ◌∙◌, Option, None, Some, MatchOption}
 use Rattle.std.proofs.lemmas.Bool.{leb-true, and_from}
-use Rattle.base_lemmas.proofs.Booleans.{and_first}
+use Rattle.base_laws.proofs.Booleans.{and_first}
 use Rattle.nf_terms.specs.NormalTerms.{Polynomial, Quotient, Remainder, One, Times, Zero, Plus}
 use Rattle.nf_terms.specs.Measures.{weight_of}
 use Rattle.nf_terms.specs.Normal.{IsNormal, ordered, is_constant, constant_part, is_light, narrow_inside}

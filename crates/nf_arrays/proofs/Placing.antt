@@ -2,7 +2,7 @@
 use Rattle.std.proofs.Common.{◌≡◌, ℕ, ◌+◌, ◌<◌, ◌≤◌, ◌-◌, ◌^◌, min, max, ℤ, Bool, true, false, ◌&&◌, ◌||◌, not, int_lt, arith, refl, ap, sym, subst, ◌∙◌}
 use Rattle.std.proofs.lemmas.Int.{ints}
 use Rattle.std.proofs.lemmas.Bool.{or_from, and_from, or_right, not-true}
-use Rattle.base_lemmas.proofs.Booleans.{and_first, and_second, neither_first, neither_second, by_test}
+use Rattle.base_laws.proofs.Booleans.{and_first, and_second, neither_first, neither_second, by_test}
 use Rattle.nf_terms.specs.NormalTerms.{Polynomial, ArrayTerm, Writes, Over, NoWrites, Write}
 use Rattle.nf_terms.specs.Order.{same_polynomial}
 use Rattle.nf_terms.specs.Measures.{size_of, depth_of, size_of_writes, depth_of_writes, size_of_array, depth_of_array}

@@ -1,7 +1,7 @@
 -- Tidy writes, write by write, and the beginnings of tidy writes.
 use Rattle.std.proofs.Common.{◌≡◌, ◌≤◌, Bool, true, false, ◌&&◌, ◌||◌, not, cond, arith, refl}
 use Rattle.std.proofs.lemmas.Bool.{and_from}
-use Rattle.base_lemmas.proofs.Booleans.{and_first, and_second, not_or_second}
+use Rattle.base_laws.proofs.Booleans.{and_first, and_second, not_or_second}
 use Rattle.nf_terms.specs.NormalTerms.{Polynomial, ArrayTerm, Writes, Read, Over, NoWrites, Write}
 use Rattle.nf_terms.specs.Order.{same_polynomial}
 use Rattle.nf_terms.specs.Measures.{size_of_writes, depth_of_writes}

@@ -3,9 +3,9 @@ use Rattle.std.proofs.Common.{◌≡◌, ◌+◌, ℤ, Bool, true, false, ◌&&�
 use Rattle.std.proofs.lemmas.Int.{ints}
 use Rattle.std.specs.Ordering.{int_eq}
 use Rattle.std.specs.Cmp.{signed_Decides}
-use Rattle.base_lemmas.proofs.Booleans.{and_first, and_second, by_test}
-use Rattle.base_lemmas.proofs.Integers.{int_eq-true}
-use Rattle.base_integers.specs.Division.{quotient, remainder}
+use Rattle.base_laws.proofs.Booleans.{and_first, and_second, by_test}
+use Rattle.base_laws.proofs.Integers.{int_eq-true}
+use Rattle.base_laws.specs.Division.{quotient, remainder}
 use Rattle.nf_terms.specs.NormalTerms.{Atom, Polynomial, ArrayTerm, Writes, Read, Quotient, Remainder, One, Times, Zero, Plus, Over, NoWrites, Write}
 use Rattle.nf_terms.specs.NormalTerms.{polynomial_of_number}
 use Rattle.nf_terms.specs.Order.{same_polynomial}

@@ -1,6 +1,6 @@
 -- New atoms, quotients and remainders.
 use Rattle.std.specs.Prelude.{◌+◌, ◌*◌, ◌≤◌, ◌&&◌, IsTrue, cond, pos}
-use Rattle.base_integers.specs.Division.{quotient, remainder}
+use Rattle.base_laws.specs.Division.{quotient, remainder}
 use Rattle.nf_terms.specs.NormalTerms.{Atom, Polynomial, Quotient, Remainder, One, Times, Zero, Plus, polynomial_of_number}
 use Rattle.nf_terms.specs.Measures.{size_of, depth_of, size_of_atom, depth_of_atom}
 use Rattle.nf_terms.specs.Normal.{ordered_atom, narrow_atom, is_constant}

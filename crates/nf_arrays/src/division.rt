@@ -1,7 +1,7 @@
 //! Quotients and remainders.
 
 ghost use Rattle.std.specs.Prelude.{◌≡◌, ◌^◌, ◌<◌, true, false, unsigned_abs, MatchOption};
-ghost use Rattle.base_integers.specs.Division.{quotient as quotient_in, remainder as remainder_in};
+ghost use Rattle.base_laws.specs.Division.{quotient as quotient_in, remainder as remainder_in};
 ghost use Rattle.nf_terms.specs.NormalTerms.{polynomial_of_number};
 ghost use Rattle.nf_terms.specs.Normal.{is_constant};
 ghost use Rattle.nf_terms.specs.Computed.{Answers, Done};
@@ -9,7 +9,7 @@ ghost use Rattle.nf_terms.specs.Normal.{constant_sum};
 ghost use Rattle.nf_arrays.specs.NewAtoms.{quotient_of, remainder_of};
 
 use crate::atoms::new_atom;
-use base_integers::{quotient, remainder};
+use base_laws::{quotient, remainder};
 use nf_sums::sums::constant_of;
 use nf_terms::poly::Poly;
 use nf_terms::stop::NfStop;

@@ -1,7 +1,7 @@
 -- With an atom the atoms in it are there, so that a put adds what is not there, from the inside out.
 use Rattle.std.proofs.Common.{◌≡◌, ◌≤◌, Bool, true, false, ◌&&◌, ◌||◌, cond, List, [], ◌∷◌, ◌++◌, length, map, arith, refl, ap, sym, subst, ◌∙◌}
 use Rattle.std.proofs.lemmas.Bool.{and_from}
-use Rattle.base_lemmas.proofs.Booleans.{and_first, and_second}
+use Rattle.fs_model.proofs.Booleans.{and_first, and_second}
 use Rattle.nf_terms.specs.NormalTerms.{Atom, Monomial, Polynomial, ArrayTerm, Writes, Symbol, Read, Quotient, Remainder, One, Times, Zero, Plus, Over, NoWrites}
 use Rattle.nf_terms.specs.NormalTerms.{Write as WriteTerm, writes_of}
 use Rattle.nf_terms.specs.Order.{same_atom}

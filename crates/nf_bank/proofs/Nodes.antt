@@ -6,7 +6,7 @@ use Rattle.std.proofs.lemmas.List.Folds.{list_any-append}
 use Rattle.std.proofs.Math.Seq.{take-append_seam}
 use Rattle.std.proofs.lemmas.List.Quantifiers.{position-Some}
 use Rattle.std.specs.List.{list_any, position, slice_get}
-use Rattle.base_lemmas.proofs.Booleans.{or_false}
+use Rattle.fs_model.proofs.Booleans.{or_false}
 use Rattle.nf_terms.specs.NormalTerms.{Atom}
 use Rattle.nf_terms.specs.Order.{same_atom}
 use Rattle.nf_bank.specs.declared.node.Node.{Node}

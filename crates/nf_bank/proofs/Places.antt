@@ -6,8 +6,8 @@ use Rattle.std.proofs.lemmas.List.Quantifiers.{position-Some}
 use Rattle.std.specs.List.{position_or_len, position, slice_get}
 use Rattle.std.specs.Ordering.{is_eq}
 use Rattle.std.proofs.lemmas.Bool.{or_left, or_right, not-true, lt-ltb}
-use Rattle.base_lemmas.proofs.Booleans.{neither_first, neither_second}
-use Rattle.base_lemmas.proofs.Orderings.{is_eq-true}
+use Rattle.fs_model.proofs.Booleans.{neither_first, neither_second}
+use Rattle.fs_model.proofs.Orderings.{is_eq-true}
 use Rattle.nf_terms.specs.NormalTerms.{Atom}
 use Rattle.nf_terms.specs.Order.{cmp_atom, same_atom}
 use Rattle.nf_terms.specs.TermKeys.{atom_ties, atom_same}

@@ -2,7 +2,7 @@
 use Rattle.std.proofs.Common.{◌≡◌, ℕ, ◌+◌, ◌<◌, ◌≤◌, ℤ, true, ◌&&◌, Some, List, [], ◌∷◌, ◌++◌, length, map, take, drop, get_or, arith, ap, sym, subst, ◌∙◌}
 use Rattle.std.proofs.lemmas.List.{map_push, map_more, take_all}
 use Rattle.std.proofs.lemmas.Bool.{and_from}
-use Rattle.base_lemmas.proofs.Lists.{drop_next}
+use Rattle.fs_model.proofs.Lists.{drop_next}
 use Rattle.nf_terms.specs.NormalTerms.{Atom, Monomial, Polynomial, ArrayTerm, Over, monomial_of, polynomial_of, writes_of}
 use Rattle.nf_terms.specs.View.{atom_in, monomial_in, polynomial_in, term_in, write_in}
 use Rattle.nf_terms.specs.declared.tree.Atom.{Atom as AtomTree}

@@ -8,7 +8,7 @@ use Rattle.std.specs.Borrow.{Bor}
 use Rattle.std.specs.BTreeMap.{BTreeMap}
 use Rattle.std.specs.BTreeSet.{BTreeSet}
 use Rattle.std.proofs.lemmas.Int.{ints}
-use Rattle.nf_sums.proofs.Constants.{equal_of_same}
+use Rattle.nf_rel.proofs.Constants.{equal_of_same}
 use Rattle.nf_terms.specs.NormalTerms.{Polynomial}
 use Rattle.nf_terms.specs.Order.{cmp_polynomial, same_polynomial}
 use Rattle.nf_terms.specs.Comparison.{polynomials_equal}

@@ -11,7 +11,7 @@ use Rattle.std.specs.Borrow.{Bor}
 use Rattle.std.specs.List.{list_any}
 use Rattle.std.proofs.lemmas.Int.{ints}
 use Rattle.std.proofs.lemmas.Bool.{or_from}
-use Rattle.base_lemmas.proofs.Booleans.{and_true}
+use Rattle.nf_terms.proofs.Booleans.{and_true}
 use Rattle.nf_terms.specs.NormalTerms.{Polynomial}
 use Rattle.nf_terms.specs.Order.{cmp_polynomial}
 use Rattle.nf_rel.specs.Literals.{NormalLiteral, meets_along, meets_all, is_refuted_along}

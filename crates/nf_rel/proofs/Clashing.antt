@@ -5,8 +5,8 @@ use Rattle.std.specs.List.{list_any, list_all, slice_get, position_from}
 use Rattle.std.specs.Option.{is_some}
 use Rattle.std.proofs.lemmas.Bool.{or_left, and_from, or_right, false_from_ne_true}
 use Rattle.nf_sums.proofs.Constants.{equal_of_same}
-use Rattle.base_lemmas.proofs.Booleans.{and_first, and_second, neither_first, neither_second}
-use Rattle.base_lemmas.proofs.Options.{is_some-map}
+use Rattle.fs_model.proofs.Booleans.{and_first, and_second, neither_first, neither_second}
+use Rattle.fs_model.proofs.Options.{is_some-map}
 use Rattle.nf_terms.specs.NormalTerms.{Polynomial}
 use Rattle.nf_terms.specs.Order.{same_polynomial}
 use Rattle.nf_rel.specs.declared.kind.Kind.{Kind}

@@ -5,8 +5,8 @@ use Rattle.std.specs.Ordering.{int_eq}
 use Rattle.std.specs.Cmp.{signed_Decides}
 use Rattle.std.proofs.lemmas.Int.{ints}
 use Rattle.std.proofs.lemmas.Bool.{and_from, not-false}
-use Rattle.base_lemmas.proofs.Booleans.{and_first}
-use Rattle.base_lemmas.proofs.Integers.{int_eq-true}
+use Rattle.fs_model.proofs.Booleans.{and_first}
+use Rattle.fs_model.proofs.Integers.{int_eq-true}
 use Rattle.nf_terms.specs.NormalTerms.{Polynomial}
 use Rattle.nf_terms.specs.Order.{same_polynomial}
 use Rattle.nf_sums.proofs.Constants.{equal_of_same}

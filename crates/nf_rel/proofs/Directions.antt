@@ -7,7 +7,7 @@ use Rattle.std.proofs.Math.Nat.{div-le_self}
 use Rattle.std.specs.Int.{int_div_euclid}
 use Rattle.std.specs.Ordering.{int_eq}
 use Rattle.std.specs.Cmp.{signed_Decides}
-use Rattle.base_lemmas.proofs.Integers.{unsigned_abs-add, unsigned_abs-neg}
+use Rattle.fs_model.proofs.Integers.{unsigned_abs-add, unsigned_abs-neg}
 use Rattle.nf_terms.specs.NormalTerms.{Polynomial, One, Times, Zero, Plus}
 use Rattle.nf_terms.specs.Measures.{weight_of}
 use Rattle.nf_terms.specs.Normal.{IsNormal, ordered, part_with_atoms}

@@ -10,3 +10,4 @@ pub mod Divided
 pub mod Directions
 pub mod NormalForms
 pub mod NormalLaws
+pub use Rattle.nf_sums.proofs.Constants

@@ -9,7 +9,7 @@ use Rattle.std.proofs.lemmas.Int.{ints}
 use Rattle.std.proofs.lemmas.Bool.{le-leb, eq-eqb, and_from}
 use Rattle.std.proofs.lemmas.Nat.Gcd.{dvd_refl, dvd-zero, dvd_trans}
 use Rattle.std.proofs.Math.Nat.{mul-dvd-mul_left, dvd_of_mul-dvd-mul_left, eq-one_of_dvd-one}
-use Rattle.base_lemmas.proofs.Integers.{unsigned_abs-neg}
+use Rattle.fs_model.proofs.Integers.{unsigned_abs-neg}
 use Rattle.nf_terms.specs.NormalTerms.{Polynomial, One, Times, Zero, Plus}
 use Rattle.nf_terms.specs.Measures.{size_of, depth_of}
 use Rattle.nf_terms.specs.TermLimits.{weight_limit, size_limit, depth_limit}

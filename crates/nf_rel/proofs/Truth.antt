@@ -10,7 +10,7 @@ use Rattle.nf_terms.specs.TermMeaning.{Valuation, value_of}
 use Rattle.std.specs.List.{list_any}
 use Rattle.std.proofs.lemmas.Bool.{and_from, false_from_ne_true, not-true}
 use Rattle.nf_sums.proofs.Constants.{equal_of_same}
-use Rattle.base_lemmas.proofs.Booleans.{and_first, and_second}
+use Rattle.fs_model.proofs.Booleans.{and_first, and_second}
 use Rattle.nf_rel.specs.declared.kind.Kind.{Kind}
 use Rattle.nf_rel.specs.declared.kind.Kind.TheVariants.{Ge, Le, Eq, Ne}
 use Rattle.nf_rel.specs.Literals.{NormalLiteral, True, False, Is, meets, is_true_in, all_true_in, negate, bounds_clash, clash, is_false, meets_along, meets_all}

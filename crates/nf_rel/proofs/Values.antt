@@ -12,7 +12,7 @@ use Rattle.nf_terms.specs.NormalTerms.{Polynomial}
 use Rattle.nf_terms.specs.Normal.{part_with_atoms, constant_sum}
 use Rattle.nf_terms.specs.TermMeaning.{Valuation, value_of}
 use Rattle.nf_terms.specs.RawSums.{raw_negation}
-use Rattle.base_integers.proofs.Ring.{neg-mul_z, mul-neg_z}
+use Rattle.fs_model.proofs.Ring.{neg-mul_z, mul-neg_z}
 use Rattle.nf_sums.proofs.Forms.{negation_value}
 use Rattle.nf_terms.specs.Computed.{Done, after}
 use Rattle.nf_sums.specs.Operations.{normal_difference}

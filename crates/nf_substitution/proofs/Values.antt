@@ -2,8 +2,8 @@
 use Rattle.std.proofs.Common.{◌≡◌, ℤ, ◌+ℤ◌, ◌*ℤ◌, List, [], ◌∷◌, ◌++◌, map, append_assoc, arith, refl, ap, ap₂, sym, ◌∙◌}
 use Rattle.std.proofs.lemmas.List.{append-nil}
 use Rattle.std.proofs.lemmas.Int.{ints}
-use Rattle.base_integers.specs.Division.{quotient, remainder}
-use Rattle.base_integers.proofs.Ring.{mul_assoc_z}
+use Rattle.fs_model.specs.Division.{quotient, remainder}
+use Rattle.fs_model.proofs.Ring.{mul_assoc_z}
 use Rattle.std.specs.Prelude.{cond, nat_le, unsigned_abs, Bool, true, false}
 use Rattle.nf_terms.specs.TermLimits.{weight_limit}
 use Rattle.nf_terms.specs.NormalTerms.{Atom, Monomial, Polynomial, ArrayTerm, Writes, Symbol, Read, Quotient, Remainder, One, Times, Zero, Plus, Over, NoWrites}

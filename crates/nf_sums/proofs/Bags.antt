@@ -6,7 +6,7 @@ use Rattle.nf_terms.specs.TermMeaning.{Valuation, value_of_atom, value_of_monomi
 use Rattle.nf_terms.specs.RawSums.{monomial_product, occurrences, as_often, same_bag}
 use Rattle.nf_sums.specs.OrderedSums.{IgnoresOrder, fits_atom, fits_monomial}
 use Rattle.nf_sums.proofs.Worth.{one_for, value-joined}
-use Rattle.base_integers.proofs.Ring.{mul_assoc_z}
+use Rattle.nf_terms.proofs.Ring.{mul_assoc_z}
 use lib.IntN.{*ℤ_comm}
 
 and_swap : (a b c : Bool) → a && (b && c) ≡ b && (a && c)

@@ -6,16 +6,16 @@ use Rattle.std.specs.declared.cmp.Ordering.TheVariants.{Less, Equal, Greater}
 use Rattle.std.specs.Ordering.{int_eq, is_lt, ordering_reverse}
 use Rattle.std.specs.Cmp.{signed_Decides}
 use Rattle.std.proofs.lemmas.Bool.{and_from}
-use Rattle.base_lemmas.proofs.Booleans.{and_first, and_second, by_test}
-use Rattle.base_lemmas.proofs.Orderings.{is_lt-true}
-use Rattle.base_lemmas.proofs.Integers.{unsigned_abs-add}
+use Rattle.nf_terms.proofs.Booleans.{and_first, and_second, by_test}
+use Rattle.nf_terms.proofs.Orderings.{is_lt-true}
+use Rattle.nf_terms.proofs.Integers.{unsigned_abs-add}
 use Rattle.nf_terms.specs.NormalTerms.{Monomial, Polynomial, Zero, Plus}
 use Rattle.nf_terms.specs.Order.{cmp_monomial}
 use Rattle.nf_terms.specs.TermKeys.{monomial_ties}
 use Rattle.nf_terms.specs.Comparison.{monomials_total}
 use Rattle.nf_terms.specs.Measures.{size_of, weight_of, size_of_monomial}
 use Rattle.nf_terms.specs.Normal.{ordered, ordered_monomial, monomial_rises}
-use Rattle.base_integers.proofs.Ring.{add-mul_z}
+use Rattle.nf_terms.proofs.Ring.{add-mul_z}
 use Rattle.nf_sums.specs.OrderedSums.{worth_of, IgnoresOrder, polynomial_fits, fits_monomial}
 use Rattle.nf_terms.proofs.Partings.{rises_through, ordered_term, term_ordered}
 use Rattle.nf_sums.proofs.Bags.{size_worth, size_ignores, fits_ignores, fits_again}

@@ -2,7 +2,7 @@
 use Rattle.std.proofs.Common.{◌≡◌, Bool, true, false, refl, ap, sym, ◌∙◌, arith}
 use Rattle.std.proofs.lemmas.Int.{ints}
 use Rattle.std.specs.Ordering.{is_eq}
-use Rattle.base_lemmas.proofs.Orderings.{is_eq-true}
+use Rattle.nf_terms.proofs.Orderings.{is_eq-true}
 use Rattle.nf_terms.specs.NormalTerms.{Polynomial, One, Times, Zero, Plus, polynomial_of_number}
 use Rattle.nf_terms.specs.Order.{cmp_polynomial, same_polynomial}
 use Rattle.nf_terms.specs.TermKeys.{polynomial_ties, polynomial_same}

@@ -4,7 +4,7 @@ use Rattle.std.proofs.Common.{sym, subst, ◌∙◌}
 use Rattle.std.specs.Prelude.{◌⊎◌}
 use Rattle.std.proofs.lemmas.Int.{ints}
 use Rattle.std.proofs.lemmas.Bool.{leb-true, le-leb, and_from}
-use Rattle.base_lemmas.proofs.Booleans.{by_test}
+use Rattle.nf_terms.proofs.Booleans.{by_test}
 use Rattle.nf_terms.specs.NormalTerms.{Polynomial, polynomial_of_number}
 use Rattle.nf_terms.specs.Measures.{size_of, weight_of, depth_of}
 use Rattle.nf_terms.specs.TermMeaning.{Valuation, value_of}

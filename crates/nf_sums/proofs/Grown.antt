@@ -1,7 +1,7 @@
 -- Sums that grow by the monomials of another, one by one.
 use Rattle.std.proofs.Common.{◌≡◌, ℕ, ◌+◌, ◌≤◌, ◌<◌, ℤ, ◌+ℤ◌, true, List, length, get_or, drop, arith, ap, subst, ◌∙◌}
 use Rattle.std.proofs.lemmas.Int.{ints}
-use Rattle.base_lemmas.proofs.Booleans.{and_first, and_second}
+use Rattle.nf_terms.proofs.Booleans.{and_first, and_second}
 use Rattle.nf_terms.specs.NormalTerms.{Monomial, Polynomial, Zero, Plus, polynomial_of}
 use Rattle.nf_terms.specs.View.{monomial_in}
 use Rattle.nf_terms.specs.declared.tree.MonoTree.{MonoTree}

@@ -6,9 +6,9 @@ use Rattle.std.specs.Ordering.{int_eq, is_lt}
 use Rattle.std.specs.Cmp.{signed_Decides}
 use Rattle.std.specs.declared.cmp.Ordering.TheVariants.{Equal}
 use Rattle.std.proofs.lemmas.Bool.{and_from}
-use Rattle.base_lemmas.proofs.Booleans.{and_first, and_second}
-use Rattle.base_lemmas.proofs.Orderings.{is_lt-true}
-use Rattle.base_lemmas.proofs.Integers.{unsigned_abs-add}
+use Rattle.nf_terms.proofs.Booleans.{and_first, and_second}
+use Rattle.nf_terms.proofs.Orderings.{is_lt-true}
+use Rattle.nf_terms.proofs.Integers.{unsigned_abs-add}
 use Rattle.nf_terms.specs.NormalTerms.{Monomial, polynomial_of}
 use Rattle.nf_terms.specs.Order.{cmp_monomial}
 use Rattle.nf_terms.specs.TermKeys.{monomial_ties}
@@ -18,7 +18,7 @@ use Rattle.nf_sums.specs.OrderedSums.{fits_monomial, IsOrderedSum, term_unless_z
 use Rattle.nf_sums.proofs.Sorted.{follows, good_of, sorted_move, sorted_insert, sorted_drop, sorted_change, back_of}
 use Rattle.nf_sums.proofs.Terms.{Rises, rises_of, ordered_of, good_term, before_term, term_worth, term_size, term_weight, terms_fit, term_worth-append}
 use Rattle.nf_sums.proofs.Terms.{term_size-append, term_weight-append, terms_fit-append}
-use Rattle.base_integers.proofs.Ring.{add-mul_z}
+use Rattle.nf_terms.proofs.Ring.{add-mul_z}
 
 before_trans : (r s t : Monomial × ℤ) → before_term r s ≡ true → before_term s t ≡ true → before_term r t ≡ true
 before_trans r s t p q = ap is_lt (monomials_total.trans r.0 s.0 t.0 (is_lt-true _ p) (is_lt-true _ q))

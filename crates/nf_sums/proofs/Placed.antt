@@ -6,8 +6,8 @@ use Rattle.std.specs.declared.cmp.Ordering.TheVariants.{Less, Equal, Greater}
 use Rattle.std.specs.Cmp.{signed_Decides}
 use Rattle.std.specs.Ordering.{is_lt, is_eq, int_eq, ordering_reverse}
 use Rattle.std.proofs.lemmas.Bool.{and_from}
-use Rattle.base_lemmas.proofs.Booleans.{and_first, and_second, by_test}
-use Rattle.base_lemmas.proofs.Orderings.{is_eq-true, is_lt-true}
+use Rattle.nf_terms.proofs.Booleans.{and_first, and_second, by_test}
+use Rattle.nf_terms.proofs.Orderings.{is_eq-true, is_lt-true}
 use Rattle.nf_terms.specs.NormalTerms.{Monomial, Polynomial, Zero, Plus}
 use Rattle.nf_terms.specs.View.{monomial_in}
 use Rattle.nf_terms.specs.Order.{cmp_monomial}

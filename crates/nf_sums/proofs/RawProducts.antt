@@ -3,7 +3,7 @@ use Rattle.std.proofs.Common.{◌≡◌, ◌+◌, ◌*◌, ◌≤◌, ℤ, true,
 use Rattle.std.proofs.Math.Nat.{add-mul, mul-add}
 use Rattle.std.proofs.lemmas.Int.{unsigned_abs-mul}
 use Rattle.std.proofs.lemmas.Bool.{and_from}
-use Rattle.base_lemmas.proofs.Booleans.{and_first, and_second}
+use Rattle.nf_terms.proofs.Booleans.{and_first, and_second}
 use Rattle.nf_terms.specs.NormalTerms.{Monomial, Polynomial, Zero, Plus}
 use Rattle.nf_terms.specs.Measures.{size_of, size_of_monomial, weight_of}
 use Rattle.nf_terms.specs.Normal.{ordered, ordered_monomial}

@@ -1,7 +1,7 @@
 -- Lists that are in order.
 use Rattle.std.proofs.Common.{◌≡◌, Bool, true, ◌&&◌, List, [], ◌∷◌, ◌++◌, refl, sym, subst, append_assoc}
 use Rattle.std.proofs.lemmas.Bool.{and_from}
-use Rattle.base_lemmas.proofs.Booleans.{and_first, and_second}
+use Rattle.nf_terms.proofs.Booleans.{and_first, and_second}
 
 -- whether y may stand next after x
 abbrev pub follows : {A : Type 0} → (A → A → Bool) → A → List A → Bool

@@ -3,8 +3,8 @@ use Rattle.std.proofs.Common.{◌≡◌, ℤ, Bool, true, false, ◌&&◌, cond,
 use Rattle.std.specs.declared.cmp.Ordering.TheVariants.{Less}
 use Rattle.std.specs.Ordering.{is_le, ordering_reverse}
 use Rattle.std.proofs.lemmas.Bool.{and_from}
-use Rattle.base_lemmas.proofs.Booleans.{and_first, and_second, by_test}
-use Rattle.base_lemmas.proofs.Orderings.{is_le-false}
+use Rattle.nf_terms.proofs.Booleans.{and_first, and_second, by_test}
+use Rattle.nf_terms.proofs.Orderings.{is_le-false}
 use Rattle.nf_terms.specs.NormalTerms.{Atom, Monomial, One, Times}
 use Rattle.nf_terms.specs.Order.{cmp_atom}
 use Rattle.nf_terms.specs.Normal.{ordered_atom, ordered_monomial, atom_rises}

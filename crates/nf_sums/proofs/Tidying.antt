@@ -1,8 +1,8 @@
 -- Arrays in order are tidied already.
 use Rattle.std.proofs.Common.{◌≡◌, Bool, true, false, ◌&&◌, ◌||◌, not, cond, int_lt, refl, ap, sym, ◌∙◌}
 use Rattle.std.proofs.lemmas.Bool.{not-true}
-use Rattle.base_lemmas.proofs.Booleans.{and_first, and_second}
-use Rattle.base_lemmas.proofs.Integers.{int_lt-turned}
+use Rattle.nf_terms.proofs.Booleans.{and_first, and_second}
+use Rattle.nf_terms.proofs.Integers.{int_lt-turned}
 use Rattle.nf_terms.specs.NormalTerms.{Polynomial, ArrayTerm, Writes, Over, NoWrites, Write}
 use Rattle.nf_terms.specs.Normal.{ordered, ordered_writes, ordered_array, is_written, write_rises, differ_by_constant, constant_part, constant_sum}
 use Rattle.nf_terms.specs.Tidied.{last_writes, with_write, rising_stretches, tidy_array}

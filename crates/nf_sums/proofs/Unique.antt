@@ -6,9 +6,9 @@ use Rattle.std.specs.declared.cmp.Ordering.{Ordering}
 use Rattle.std.specs.declared.cmp.Ordering.TheVariants.{Less, Equal, Greater}
 use Rattle.std.specs.Ordering.{int_eq, is_lt, is_le, is_eq, ordering_reverse}
 use Rattle.std.specs.Cmp.{signed_Decides}
-use Rattle.base_lemmas.proofs.Booleans.{and_first, and_second}
-use Rattle.base_lemmas.proofs.Orderings.{is_eq-true, is_lt-true}
-use Rattle.base_lemmas.proofs.Numbers.{eqb_self}
+use Rattle.nf_terms.proofs.Booleans.{and_first, and_second}
+use Rattle.nf_terms.proofs.Orderings.{is_eq-true, is_lt-true}
+use Rattle.nf_terms.proofs.Numbers.{eqb_self}
 use Rattle.nf_terms.specs.NormalTerms.{Atom, Monomial, Polynomial, One, Times, Zero, Plus}
 use Rattle.nf_terms.specs.Order.{cmp_atom, cmp_monomial, same_atom}
 use Rattle.nf_terms.specs.TermKeys.{atom_ties, atom_same, monomial_ties, monomial_same}

@@ -1,7 +1,7 @@
 -- The limits of depth and weight, atom by atom.
 use Rattle.std.proofs.Common.{◌≡◌, ◌≤◌, true, nat_le, arith, refl}
 use Rattle.std.proofs.lemmas.Bool.{leb-true, le-leb, and_from}
-use Rattle.base_lemmas.proofs.Booleans.{and_first, and_second}
+use Rattle.nf_terms.proofs.Booleans.{and_first, and_second}
 use Rattle.nf_terms.specs.NormalTerms.{Monomial, Polynomial, One, Times, Zero, Plus}
 use Rattle.nf_terms.specs.Measures.{depth_of, depth_of_atom, depth_of_monomial}
 use Rattle.nf_terms.specs.TermLimits.{depth_limit}

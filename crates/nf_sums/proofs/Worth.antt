@@ -6,7 +6,7 @@ use Rattle.nf_terms.specs.TermMeaning.{Valuation, value_of_atom, value_of_monomi
 use Rattle.nf_terms.specs.RawSums.{raw_sum, raw_negation, raw_difference, monomial_product, raw_multiple, raw_product, same_bag, total}
 use Rattle.nf_terms.proofs.Partings.{value-sum}
 use Rattle.nf_sums.specs.OrderedSums.{worth_of}
-use Rattle.base_integers.proofs.Ring.{add-mul_z, mul-add_z, neg-mul_z, mul_assoc_z, mul_mul_z, one-mul_z}
+use Rattle.nf_terms.proofs.Ring.{add-mul_z, mul-add_z, neg-mul_z, mul_assoc_z, mul_mul_z, one-mul_z}
 use lib.IntN.{zero-*ℤ, *ℤ-zero}
 
 pub worth-sum : (f : Monomial → ℤ) (p q : Polynomial) → worth_of f (raw_sum p q) ≡ worth_of f p +ℤ worth_of f q

@@ -1,8 +1,8 @@
 -- Valuations that agree on the symbols of a term, each as it is used, give it the same value.
 use Rattle.std.proofs.Common.{◌≡◌, ◌+ℤ◌, ◌*ℤ◌, Bool, true, refl, List, [], ◌∷◌, ◌++◌, map}
 use Rattle.std.specs.List.{list_all}
-use Rattle.base_lemmas.proofs.Booleans.{and_first}
-use Rattle.base_integers.specs.Division.{quotient, remainder}
+use Rattle.fs_model.proofs.Booleans.{and_first}
+use Rattle.fs_model.specs.Division.{quotient, remainder}
 use Rattle.nf_terms.specs.NormalTerms.{Atom, Monomial, Polynomial, ArrayTerm, Writes, Symbol, Read, Quotient, Remainder, One, Times, Zero, Plus, Over, NoWrites}
 use Rattle.nf_terms.specs.NormalTerms.{Write}
 use Rattle.nf_terms.specs.Lists.{ListTerm}

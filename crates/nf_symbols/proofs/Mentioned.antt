@@ -3,7 +3,7 @@ use Rattle.std.proofs.Common.{◌≡◌, Bool, true, false, ◌||◌, ◌&&◌, 
 use Rattle.std.specs.Prelude.{not}
 use Rattle.std.specs.List.{list_all}
 use Rattle.std.proofs.lemmas.List.Folds.{list_all-append}
-use Rattle.base_lemmas.proofs.Booleans.{not_or}
+use Rattle.fs_model.proofs.Booleans.{not_or}
 use Rattle.nf_terms.specs.NormalTerms.{Atom, Monomial, Polynomial, ArrayTerm, Writes, Symbol, Read, Quotient, Remainder, One, Times, Zero, Plus, Over, NoWrites}
 use Rattle.nf_terms.specs.NormalTerms.{Write}
 use Rattle.nf_terms.specs.Lists.{mentions_items, mentions_list_base}

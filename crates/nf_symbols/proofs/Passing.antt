@@ -3,7 +3,7 @@ use Rattle.std.proofs.Common.{◌≡◌, Bool, true, sym, ◌∙◌, List, ◌++
 use Rattle.std.specs.List.{list_all}
 use Rattle.std.proofs.lemmas.List.Folds.{list_all-append}
 use Rattle.std.proofs.lemmas.Bool.{and_from}
-use Rattle.base_lemmas.proofs.Booleans.{and_first, and_second}
+use Rattle.fs_model.proofs.Booleans.{and_first, and_second}
 
 module _ {X : Type 0} (test : X → Bool) (xs ys : List X) where
   pub front : list_all test (xs ++ ys) ≡ true → list_all test xs ≡ true

@@ -1,7 +1,7 @@
 -- A substituted term has the symbols of the vector's forms.
 use Rattle.std.proofs.Common.{◌≡◌, Bool, true, refl, ap, sym, ◌∙◌, List, [], ◌∷◌, ◌++◌}
 use Rattle.std.specs.List.{list_all}
-use Rattle.base_lemmas.proofs.Booleans.{and_first}
+use Rattle.fs_model.proofs.Booleans.{and_first}
 use Rattle.nf_terms.specs.NormalTerms.{Atom, Monomial, Polynomial, ArrayTerm, Writes, Symbol, Read, Quotient, Remainder, One, Times, Zero, Plus, Over, NoWrites}
 use Rattle.nf_terms.specs.NormalTerms.{Write}
 use Rattle.nf_terms.specs.Lists.{ListTerm}
@@ -18,9 +18,9 @@ use Rattle.nf_terms.specs.declared.tree.SeqBase.TheVariants as list
 use Rattle.nf_terms.specs.declared.form.Nf.{Nf}
 use Rattle.nf_sums.specs.Operations.{normal_sum, normal_product, number}
 use Rattle.nf_sums.proofs.Values.{goes_done}
-use Rattle.nf_arrays.specs.NewAtoms.{quotient_of, remainder_of}
-use Rattle.nf_arrays.specs.Writes.{write_array, read_at}
-use Rattle.nf_arrays.specs.Pushes.{list_with_item}
+use Rattle.nf_substitution.specs.NewAtoms.{quotient_of, remainder_of}
+use Rattle.nf_substitution.specs.Writes.{write_array, read_at}
+use Rattle.nf_substitution.specs.Pushes.{list_with_item}
 use Rattle.nf_substitution.specs.Vectors.{number_at, array_of_base, list_of_base}
 use Rattle.nf_substitution.specs.Substitution.{atom_substituted, atoms_substituted, terms_substituted, writes_substituted, array_substituted}
 use Rattle.nf_substitution.specs.Substitution.{polynomial_substituted}

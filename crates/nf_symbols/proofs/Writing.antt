@@ -1,7 +1,7 @@
 -- Reads, writes, quotients, remainders and pushes have the symbols of their operands.
 use Rattle.std.proofs.Common.{◌≡◌, ◌+◌, cond, Bool, true, false, ◌&&◌, refl, ap, sym, ◌∙◌, List, [], ◌∷◌, ◌++◌}
 use Rattle.std.specs.List.{list_all}
-use Rattle.base_integers.specs.Division.{quotient, remainder}
+use Rattle.fs_model.specs.Division.{quotient, remainder}
 use Rattle.nf_terms.specs.NormalTerms.{Atom, Polynomial, ArrayTerm, Writes, Read, Quotient, Remainder, One, Times, Zero, Over, NoWrites, Write}
 use Rattle.nf_terms.specs.NormalTerms.{polynomial_of_number}
 use Rattle.nf_terms.specs.Lists.{ListTerm, size_of_list, depth_of_list}
@@ -17,9 +17,9 @@ use Rattle.fs_model.specs.declared.sides.Pos.{Pos}
 use Rattle.nf_terms.specs.declared.tree.Base.{Base}
 use Rattle.nf_terms.specs.declared.tree.Base.TheVariants as base
 use Rattle.nf_sums.proofs.Values.{small_is}
-use Rattle.nf_arrays.specs.NewAtoms.{polynomial_of_atom, new_atom, quotient_of, remainder_of}
-use Rattle.nf_arrays.specs.Writes.{written_last, with_last_write, write_array, are_apart, stop_at, prefix_for, last_value, read_here, read_at}
-use Rattle.nf_arrays.specs.Pushes.{with_last_item, list_with_item}
+use Rattle.nf_substitution.specs.NewAtoms.{polynomial_of_atom, new_atom, quotient_of, remainder_of}
+use Rattle.nf_substitution.specs.Writes.{written_last, with_last_write, write_array, are_apart, stop_at, prefix_for, last_value, read_here, read_at}
+use Rattle.nf_substitution.specs.Pushes.{with_last_item, list_with_item}
 use Rattle.nf_symbols.proofs.Passing.{front, back, together}
 use Rattle.nf_symbols.proofs.Results.{number_within}
 

@@ -1,8 +1,8 @@
 -- A term's value depends on the symbols that it mentions, and on no others.
 use Rattle.std.proofs.Common.{◌≡◌, ◌+ℤ◌, ◌*ℤ◌, Bool, true, ◌||◌, ◌==◌, List, [], ◌∷◌, ◌++◌, map, refl}
 use Rattle.std.proofs.lemmas.Bool.{or_left, and_from, or_right}
-use Rattle.base_lemmas.proofs.Numbers.{eqb_self}
-use Rattle.base_integers.specs.Division.{quotient, remainder}
+use Rattle.fs_model.proofs.Numbers.{eqb_self}
+use Rattle.fs_model.specs.Division.{quotient, remainder}
 use Rattle.nf_terms.specs.NormalTerms.{Atom, Monomial, Polynomial, ArrayTerm, Writes, Symbol, Read, Quotient, Remainder, One, Times, Zero, Plus, Over, NoWrites}
 use Rattle.nf_terms.specs.NormalTerms.{Write}
 use Rattle.nf_terms.specs.TermMeaning.{Valuation, contents_after_write, contents_of_base, value_of_atom, value_of_monomial, value_of, contents_after, contents}

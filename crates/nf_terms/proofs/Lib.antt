@@ -11,3 +11,8 @@ pub mod Simple
 pub mod Items
 pub mod Steps
 pub mod Computed
+pub use Rattle.fs_model.proofs.Booleans
+pub use Rattle.fs_model.proofs.Integers
+pub use Rattle.fs_model.proofs.Numbers
+pub use Rattle.fs_model.proofs.Orderings
+pub use Rattle.fs_model.proofs.Ring

@@ -1,7 +1,7 @@
 -- The parts of a normal term are normal.
 use Rattle.std.proofs.Common.{◌≡◌, ◌+◌, ◌≤◌, max, true, ◌&&◌, not, arith}
 use Rattle.std.proofs.lemmas.Bool.{and_from}
-use Rattle.base_lemmas.proofs.Booleans.{and_first, and_second}
+use Rattle.fs_model.proofs.Booleans.{and_first, and_second}
 use Rattle.nf_terms.specs.NormalTerms.{Atom, Monomial, Polynomial, Writes, Symbol, Read, Quotient, Remainder, One, Times, Zero, Plus, Over, NoWrites, Write}
 use Rattle.nf_terms.specs.Measures.{size_of_atom, size_of_monomial, size_of, size_of_writes, depth_of_atom, depth_of_monomial, depth_of, depth_of_writes}
 use Rattle.nf_terms.specs.TermLimits.{size_limit, depth_limit}

@@ -1,9 +1,9 @@
 -- What is reduced stays normal.
 use Rattle.std.proofs.Common.{◌≡◌, ◌≤◌, ℤ, true, refl, arith}
 use Rattle.std.proofs.lemmas.Bool.{le-leb, and_from}
-use Rattle.base_lemmas.proofs.Booleans.{and_first, and_second}
-use Rattle.base_lemmas.proofs.Orderings.{is_lt-true}
-use Rattle.base_lemmas.proofs.Integers.{int_eq_zero-false, not_zero}
+use Rattle.fs_model.proofs.Booleans.{and_first, and_second}
+use Rattle.fs_model.proofs.Orderings.{is_lt-true}
+use Rattle.fs_model.proofs.Integers.{int_eq_zero-false, not_zero}
 use Rattle.nf_terms.specs.NormalTerms.{Monomial, Polynomial, One, Times, Zero, Plus}
 use Rattle.nf_terms.specs.Order.{cmp_monomial}
 use Rattle.nf_terms.specs.Measures.{size_of, depth_of, weight_of}

@@ -1,7 +1,7 @@
 -- What terms mean.
 use Rattle.std.specs.Prelude.{ℤ, pos, ◌+ℤ◌, ◌*ℤ◌, cond, List, [], ◌++◌, map}
 use Rattle.std.specs.Ordering.{int_eq}
-use Rattle.base_integers.specs.Division.{quotient, remainder}
+use Rattle.fs_model.specs.Division.{quotient, remainder}
 use Rattle.nf_terms.specs.NormalTerms.{Atom, Monomial, Polynomial, ArrayTerm, Writes, Symbol, Read, Quotient, Remainder, One}
 use Rattle.nf_terms.specs.NormalTerms.{Times, Zero, Plus, Over, NoWrites, Write}
 use Rattle.nf_terms.specs.Lists.{ListTerm}

@@ -1,6 +1,6 @@
 -- What of a fact a post entails is true of what its vector means.
 use Rattle.std.proofs.Common.{◌≡◌, Bool, true, ap, ap₂, sym, ◌∙◌, List, Option, Some, None}
-use Rattle.base_lemmas.proofs.Orderings.{is_eq-true}
+use Rattle.fs_model.proofs.Orderings.{is_eq-true}
 use Rattle.fs_model.specs.Meaning.{relates}
 use Rattle.nf_terms.specs.Order.{cmp_polynomial, cmp_array}
 use Rattle.nf_terms.specs.Lists.{cmp_list}

@@ -6,8 +6,8 @@ use Rattle.std.specs.List.{list_all}
 use Rattle.std.proofs.lemmas.Int.{ints}
 use Rattle.std.proofs.lemmas.List.{append-nil}
 use Rattle.std.proofs.lemmas.Bool.{and_from}
-use Rattle.base_lemmas.proofs.Booleans.{and_first, and_second, neither_second}
-use Rattle.base_lemmas.proofs.Numbers.{eqb_self}
+use Rattle.fs_model.proofs.Booleans.{and_first, and_second, neither_second}
+use Rattle.fs_model.proofs.Numbers.{eqb_self}
 use Rattle.nf_terms.specs.NormalTerms.{Polynomial, polynomial_of_symbol}
 use Rattle.nf_terms.specs.Order.{same_polynomial}
 use Rattle.nf_terms.specs.Forms.{same_form}

@@ -2,7 +2,7 @@
 use Rattle.std.proofs.Common.{◌≡◌, ℕ, zero, suc, ◌+◌, ◌-◌, ◌<◌, ℤ, true, ap, sym, subst, ◌∙◌, arith, List, [], ◌∷◌, ◌++◌, length, map, take, drop}
 use Rattle.std.proofs.lemmas.List.{length-drop}
 use Rattle.std.proofs.Math.Seq.{take-length}
-use Rattle.base_lemmas.proofs.Integers.{not_zero}
+use Rattle.fs_model.proofs.Integers.{not_zero}
 use Rattle.nf_terms.specs.NormalTerms.{polynomial_of}
 use Rattle.nf_terms.specs.Normal.{IsNormal, ordered}
 use Rattle.nf_terms.specs.Reduced.{Reduces, Ended, Dropped, Kept}

@@ -5,3 +5,5 @@ pub mod Rebases
 pub mod RebaseSteps
 pub mod Strength
 pub mod View
+pub use Rattle.nf_substitution.specs.SamePlaces
+pub use Rattle.nf_substitution.specs.Vectors

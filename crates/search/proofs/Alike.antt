@@ -5,16 +5,15 @@ use Rattle.std.proofs.lemmas.Result.{IfOk-weaker}
 use Rattle.fs_model.specs.Machines.{Fsmd}
 use Rattle.fs_cut.specs.Paths.{Point}
 use Rattle.fs_model.specs.declared.sides.Side.{Side}
-use Rattle.alike_behaviour.specs.Alike.{Alike}
+use Rattle.alike_behaviour.specs.Alike.{Alike, WhereAlike}
 use Rattle.search_tables.specs.declared.moves.Move.{Move}
 use Rattle.search_tables.specs.declared.outcome.Outcome.{Outcome}
 use Rattle.search_tables.specs.declared.outcome.Outcome.TheVariants as outcomes
-use Rattle.search_tables.specs.SearchTables.{MachinePair}
+use Rattle.search_tables.specs.SearchTables.{MachinePair, machines}
 use Rattle.search_tables.specs.Obstacles.{Obstacle, Stuck, Spin, IsObstacle}
 use Rattle.search_tables.specs.View.{Points, points_in}
-use Rattle.alike_searches.specs.Where.{WhereAlike}
 use Rattle.alike_searches.proofs.Obstacles.{never_stuck, never_spins}
-use Rattle.search.specs.SearchOutcomes.{machines, StopsAtObstacle, IsSearchOutcome, ClosesOrMeetsLimit}
+use Rattle.search.specs.SearchOutcomes.{StopsAtObstacle, IsSearchOutcome, ClosesOrMeetsLimit}
 
 is_obstacle : (m : MachinePair) (moves : List Move) (points : List Points) (o : Obstacle) → StopsAtObstacle m moves points o → IsObstacle m moves o
 is_obstacle m moves points o s = record { table = s.table; makes = s.makes; stands = s.stands }

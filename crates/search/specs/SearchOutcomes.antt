@@ -1,7 +1,6 @@
 -- How a search ends.
 use Rattle.std.specs.Prelude.{◌≡◌, ◌+◌, ◌*◌, ◌≤◌, ℕ, List, length, map, None}
-use Rattle.fs_rules.specs.SoundParts.{IsSound}
-use Rattle.fs_model.specs.Machines.{Fsmd}
+use Rattle.fs_ast.specs.SoundParts.{IsSound}
 use Rattle.cert_bisimulation.specs.Tables.{Node as CertificateNode}
 use Rattle.sym_facts.specs.Facts.{Fact, most_literals}
 use Rattle.sym_facts.specs.Starts.{start_fact}
@@ -20,9 +19,6 @@ use Rattle.search_tables.specs.LoneMoves.{lone_moves}
 use Rattle.search_tables.specs.Certifying.{Certifies}
 use Rattle.search_tables.specs.Obstacles.{Obstacle, Stuck, Spin, Wide, Large, Exhausted, StandsIn}
 use Rattle.search_tables.specs.View.{Points, points_in, points_at}
-
-abbrev pub machines : (a b : Fsmd) → MachinePair
-machines a b = record { left = a; right = b }
 
 -- of two sound machines a legal list of moves makes a closed table in which no outputs differ, of which this is the certificate:
 -- it is lawful, its facts are in normal form, and all its obligations hold

@@ -5,8 +5,8 @@ use Rattle.std.specs.Prelude.{slice_get, Result, Ok, Err, IfOk}
 use Rattle.std.specs.List.{AllByRecursion, slice_index_or}
 use Rattle.std.proofs.lemmas.List.{map-append}
 use Rattle.std.proofs.lemmas.Option.{slice_get_within}
-use Rattle.base_lemmas.proofs.Quantifiers.{each_append, each_at}
-use Rattle.base_lemmas.proofs.Lists.{drop_next}
+use Rattle.fs_model.proofs.Quantifiers.{each_append, each_at}
+use Rattle.fs_model.proofs.Lists.{drop_next}
 use Rattle.fs_model.specs.Limits.{most_branches}
 use Rattle.fs_cut.specs.Paths.{Point}
 use Rattle.cert_bisimulation.specs.declared.mode.Mode.{Mode}

@@ -5,7 +5,7 @@ use Rattle.std.specs.Prelude.{slice_get}
 use Rattle.std.specs.List.{slice_index_or, list_all}
 use Rattle.std.proofs.lemmas.List.{length-map}
 use Rattle.std.proofs.lemmas.Option.{slice_get-map, slice_get_read, slice_get_within, slice_get-get_or}
-use Rattle.base_lemmas.proofs.Booleans.{and_first, and_second}
+use Rattle.fs_model.proofs.Booleans.{and_first, and_second}
 use Rattle.cert_bisimulation.specs.declared.mode.Mode.{Mode}
 use Rattle.propagate.specs.Modes.{Traced, Found}
 use Rattle.search_tables.specs.SearchTables.{MachinePair, SearchNode, Table}

@@ -7,8 +7,8 @@ use Rattle.std.proofs.Math.Seq.{take-suc}
 use Rattle.std.proofs.lemmas.List.{map-append, take-append-drop}
 use Rattle.std.proofs.lemmas.Iterator.Adapters.{position_from-zero}
 use Rattle.std.proofs.lemmas.Bool.{or_parts, or_from, not-true}
-use Rattle.base_lemmas.proofs.Booleans.{and_first, and_second}
-use Rattle.base_lemmas.proofs.Lists.{drop_next}
+use Rattle.fs_model.proofs.Booleans.{and_first, and_second}
+use Rattle.fs_model.proofs.Lists.{drop_next}
 use Rattle.indexmap.specs.IndexSet.{insert_key}
 use Rattle.fs_cut.specs.Paths.{Point}
 use Rattle.fs_cut.specs.Covers.{same_point}

@@ -4,7 +4,7 @@ use Rattle.std.specs.Prelude.{is_some}
 use Rattle.std.specs.List.{filter, AllByRecursion}
 use Rattle.std.proofs.lemmas.List.{length-map}
 use Rattle.std.proofs.lemmas.List.Sums.{sum_by-cons}
-use Rattle.base_lemmas.proofs.Lists.{length_filter}
+use Rattle.fs_model.proofs.Lists.{length_filter}
 use Rattle.fs_model.specs.declared.parts.Role.{Role}
 use Rattle.fs_model.specs.declared.parts.Role.TheVariants.{Input, Output, Local}
 use Rattle.fs_model.specs.declared.parts.Sort.{Sort}
@@ -21,15 +21,15 @@ use Rattle.sym_facts.specs.Facts.{FactPosition, Fact, vector_of, size_of_equatio
 use Rattle.sym_facts.specs.Pairings.{IsFactOf}
 use Rattle.sym_facts.specs.Starts.{zero_of, start_form, partner_in, start_position}
 use Rattle.cert_model.specs.Sizes.{units_of}
-use Rattle.cert_writer.specs.CertificateLimits.{equation_count, most_bytes, most_certificate_bytes}
-use Rattle.cert_writer.specs.WrittenCertificates.{certificate_text}
+use Rattle.cert_laws.specs.CertificateLimits.{equation_count, most_bytes, most_certificate_bytes}
+use Rattle.cert_laws.specs.WrittenCertificates.{certificate_text}
 use Rattle.search_tables.specs.declared.moves.Move.{Move}
-use Rattle.search_tables.specs.SearchTables.{MachinePair, positions_of, SearchNode, Table, units, most_units, start_node, first_table}
+use Rattle.search_tables.specs.SearchTables.{MachinePair, positions_of, SearchNode, Table, units, most_units, start_node, first_table, machines}
 use Rattle.search_tables.specs.Next.{Change, next_move}
 use Rattle.search_tables.specs.Legal.{MovesLead, Makes}
 use Rattle.search_tables.specs.Certifying.{node_without_mode}
 use Rattle.search_tables.proofs.Changing.{next_does, arrives_so}
-use Rattle.search.specs.SearchOutcomes.{machines, IsClosedWith}
+use Rattle.search.specs.SearchOutcomes.{IsClosedWith}
 use Rattle.search_laws.specs.Certificates.{IsCertificate}
 use Rattle.search.proofs.FewPositions.{few_positions}
 

@@ -6,10 +6,11 @@ ghost use Rattle.fs_model.specs.Machines.{Fsmd};
 ghost use Rattle.cert_bisimulation.specs.Tables.{Node};
 ghost use Rattle.sym_facts.specs.Facts.{Fact};
 ghost use Rattle.cert_model.specs.Lawful.{IsLawful};
-ghost use Rattle.cert_writer.specs.CertificateLimits.{most_certificate_bytes};
-ghost use Rattle.cert_writer.specs.WrittenCertificates.{certificate_text};
-ghost use Rattle.cert_text.specs.Refusals.{SpellsNodes};
-ghost use Rattle.search.specs.SearchOutcomes.{machines, IsClosedWith};
+ghost use Rattle.cert_laws.specs.CertificateLimits.{most_certificate_bytes};
+ghost use Rattle.cert_laws.specs.WrittenCertificates.{certificate_text};
+ghost use Rattle.cert_laws.specs.Refusals.{SpellsNodes};
+ghost use Rattle.search_tables.specs.SearchTables.{machines};
+ghost use Rattle.search.specs.SearchOutcomes.{IsClosedWith};
 ghost use Rattle.search_laws.specs.Certificates.{IsCertificate};
 
 use cert_laws::laws::{texts_of_certificates_are_files, written_certificates_are_read};

@@ -7,7 +7,7 @@ use Rattle.std.proofs.lemmas.List.{length-map, map-append, map-set}
 use Rattle.std.specs.Prelude.{not, nat_lt, Option, Some, None, slice_get, slice_set, position}
 use Rattle.std.specs.List.{prefix_len}
 use Rattle.std.specs.Map.{keys_of, lookup}
-use Rattle.base_lemmas.proofs.Lists.{slice_get-of_map}
+use Rattle.fs_model.proofs.Lists.{slice_get-of_map}
 use Rattle.indexmap.specs.IndexMap.{insert_entry}
 use Rattle.fs_cut.specs.View.{point_of}
 use Rattle.sym_facts.specs.Facts.{Fact}

@@ -6,7 +6,7 @@ use Rattle.std.specs.declared.cmp.Ordering.{Ordering}
 use Rattle.std.specs.declared.cmp.Ordering.TheVariants.{Less, Equal, Greater}
 use Rattle.std.specs.Ordering.{nat_cmp, ordering_then, is_gt, is_eq}
 use Rattle.std.proofs.lemmas.Bool.{false_from_ne_true}
-use Rattle.base_lemmas.proofs.Orderings.{is_eq-true}
+use Rattle.fs_model.proofs.Orderings.{is_eq-true}
 use Rattle.search_places.specs.declared.entry.Item.{Item}
 use Rattle.search_places.specs.NodeLines.{item}
 use Rattle.search_places.specs.ItemOrder.{item_cmp, IsLeastWaiting, Adds, Drops, AddsMoves}

@@ -2,7 +2,7 @@
 use Rattle.std.proofs.Common.{◌≡◌, ℕ, zero, suc, ◌∙◌, ap, subst, List, [], ◌∷◌, map}
 use Rattle.std.proofs.lemmas.List.{map-set}
 use Rattle.std.specs.Prelude.{Some, slice_get, slice_set}
-use Rattle.base_lemmas.proofs.Lists.{slice_get-of_map}
+use Rattle.fs_model.proofs.Lists.{slice_get-of_map}
 use Rattle.indexmap.specs.IndexMap.{set_value_at}
 use Rattle.search_places.specs.declared.pairs.PointPair.{PointPair}
 use Rattle.search_places.specs.declared.entry.Entry.{Entry}

@@ -2,7 +2,7 @@
 use Rattle.std.proofs.Common.{◌≡◌, ℕ, zero, suc, ◌≤◌, ◌⊎◌, inl, inr, max, refl, ap, sym, ◌∙◌, arith, List, [], ◌∷◌, length}
 use Rattle.std.specs.Prelude.{Option, Some, None, slice_get, slice_index}
 use Rattle.std.proofs.lemmas.List.{get_or_past}
-use Rattle.base_lemmas.proofs.Lists.{slice_get-none}
+use Rattle.base_laws.proofs.Lists.{slice_get-none}
 use Rattle.search_ranks.specs.Graphs.{IsChain, LongestChain, above, AreRanks}
 use Rattle.search_ranks.proofs.Falls.{edge_falls}
 

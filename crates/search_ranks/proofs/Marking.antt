@@ -5,7 +5,7 @@ use Rattle.std.proofs.lemmas.List.Sums.{sum_by-set}
 use Rattle.std.proofs.lemmas.Option.{get_or_from_slice_get, slice_get_within}
 use Rattle.std.specs.List.{AllByRecursion}
 use Rattle.std.specs.Prelude.{◌≢◌, Some, slice_get, slice_set, slice_index}
-use Rattle.base_lemmas.proofs.Lists.{slice_get-of_map}
+use Rattle.base_laws.proofs.Lists.{slice_get-of_map}
 use Rattle.search_ranks.specs.Graphs.{above}
 use Rattle.search_ranks.specs.declared.marks.Mark.{Mark}
 use Rattle.search_ranks.specs.declared.marks.Mark.TheVariants.{New, Open, Ranked}

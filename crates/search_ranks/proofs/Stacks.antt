@@ -4,7 +4,7 @@ use Rattle.std.proofs.lemmas.List.{length-append}
 use Rattle.std.specs.List.{AllByRecursion}
 use Rattle.std.specs.Prelude.{Some, slice_get, slice_set, slice_index}
 use Rattle.std.proofs.lemmas.Option.{slice_get_within}
-use Rattle.base_lemmas.proofs.Lists.{slice_get-front}
+use Rattle.base_laws.proofs.Lists.{slice_get-front}
 use Rattle.search_ranks.specs.Graphs.{HasEdge, Follow, IsCycle, above}
 use Rattle.search_ranks.specs.declared.marks.Mark.{Mark}
 use Rattle.search_ranks.specs.declared.marks.Mark.TheVariants.{New, Open, Ranked}

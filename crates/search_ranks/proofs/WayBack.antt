@@ -6,7 +6,7 @@ use Rattle.std.proofs.lemmas.List.{length-append, length-set}
 use Rattle.std.proofs.lemmas.Option.{get_or_from_slice_get, slice_get-get_or, slice_get_within}
 use Rattle.std.specs.List.{slice_index_or}
 use Rattle.std.specs.Prelude.{◌≢◌, Some, slice_get, slice_set, sum_by}
-use Rattle.base_lemmas.proofs.Lists.{slice_get-front}
+use Rattle.base_laws.proofs.Lists.{slice_get-front}
 use Rattle.search_ranks.specs.Graphs.{HasEdge, Follow, IsCycle, first_or}
 use Rattle.search_ranks.specs.Walks.{InRange}
 use Rattle.search_ranks.specs.declared.marks.Step.{Step}

@@ -13,3 +13,5 @@ pub mod Lawful
 pub mod Ending
 pub mod Bounded
 pub mod OneSpin
+pub mod FactsOfPairing
+pub mod Chains

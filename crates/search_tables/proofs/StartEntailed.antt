@@ -2,7 +2,7 @@
 use Rattle.std.proofs.Common.{◌≡◌, ◌+◌, ℕ, zero, suc, pos, refl, ap, sym, subst, ◌∙◌, Bool, true, false, cond, List, [], ◌∷◌, map, Some, None}
 use Rattle.std.specs.Prelude.{◌&&◌, slice_get}
 use Rattle.std.specs.List.{AllByRecursion}
-use Rattle.fs_rules.specs.SoundParts.{IsSound}
+use Rattle.fs_cut.specs.SoundParts.{IsSound}
 use Rattle.fs_model.specs.declared.parts.Role.TheVariants.{Input}
 use Rattle.fs_model.specs.declared.parts.Sort.{Sort}
 use Rattle.fs_model.specs.declared.parts.Sort.TheVariants.{Scalar, Array, Port}
@@ -27,8 +27,8 @@ use Rattle.nf_terms.specs.declared.tree.SeqBase.TheVariants as list
 use Rattle.nf_terms.specs.TermSorts.{same_term_sort}
 use Rattle.fs_model.specs.declared.sides.Side.TheVariants as side
 use Rattle.nf_sums.specs.Operations.{normal_sum, normal_product}
-use Rattle.nf_substitution.specs.Vectors.{form_at, number_or, array_or, list_or, number_at, array_form, list_at}
-use Rattle.nf_substitution.specs.SamePlaces.{pos_equal, own_pos, own_sort}
+use Rattle.propagate.specs.Vectors.{form_at, number_or, array_or, list_or, number_at, array_form, list_at}
+use Rattle.propagate.specs.SamePlaces.{pos_equal, own_pos, own_sort}
 use Rattle.sym_paths.specs.Sequences.{each}
 use Rattle.sym_facts.specs.Facts.{FactPosition, own_symbol, form_or_symbol, vector_of}
 use Rattle.sym_facts.specs.Entailment.{form_like, equation_met, false_places, entails}

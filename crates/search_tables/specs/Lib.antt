@@ -6,3 +6,5 @@ pub mod TableInvariants
 pub mod Certifying
 pub mod Obstacles
 pub mod View
+pub use Rattle.cert_model.specs.Obligations
+pub use Rattle.propagate.specs.Modes

@@ -22,6 +22,9 @@ pub record MachinePair : Type 0 where
   pub left : Fsmd
   pub right : Fsmd
 
+abbrev pub machines : (a b : Fsmd) → MachinePair
+machines a b = record { left = a; right = b }
+
 abbrev pub positions_of : MachinePair → List Position
 positions_of m = positions m.left m.right
 

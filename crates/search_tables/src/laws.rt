@@ -1,12 +1,13 @@
 //! Laws of tables, over the definitions alone. The functions do nothing.
 
-ghost use Rattle.std.specs.Prelude.{◌+◌, ◌*◌, length, ◌≤◌, slice_index, ◌≡◌, ◌⊎◌, ℕ, List, [], None};
+ghost use Rattle.std.specs.Prelude.{◌+◌, ◌*◌, length, ◌≤◌, slice_get, slice_index, ◌≡◌, ◌⊎◌, ℕ, List, [], Some, None};
 ghost use Rattle.std.specs.List.{AllByRecursion};
-ghost use Rattle.fs_rules.specs.SoundParts.{IsSound};
+ghost use Rattle.fs_cut.specs.SoundParts.{IsSound};
 ghost use Rattle.fs_model.specs.Machines.{Fsmd};
 ghost use Rattle.fs_pair.specs.Interfaces.{interface_fault};
 ghost use Rattle.fs_pair.specs.Positions.{positions};
 ghost use Rattle.cert_bisimulation.specs.Tables.{Node as CertificateNode};
+ghost use Rattle.cert_bisimulation.specs.declared.mode.Mode.TheVariants.{Both, End};
 ghost use Rattle.nf_terms.specs.Computed.{Done};
 ghost use Rattle.sym_facts.specs.Facts.{Fact as PlainFact, most_literals, vector_of};
 ghost use Rattle.sym_facts.specs.Entailment.{entails};
@@ -14,7 +15,7 @@ ghost use Rattle.sym_facts.specs.Pairings.{IsFactOf};
 ghost use Rattle.sym_facts.specs.Starts.{start_fact};
 ghost use Rattle.cert_model.specs.Lawful.{IsLawful, most_nodes, most_rank};
 ghost use Rattle.cert_model.specs.Obligations.{Yes, verdict};
-ghost use Rattle.search_ranks.specs.Graphs.{AreRanks};
+ghost use Rattle.search_ranks.specs.Graphs.{LongestChain, AreRanks};
 ghost use Rattle.search_tables.specs.declared.moves.Move.{Move as PlainMove};
 ghost use Rattle.search_tables.specs.SearchTables.{MachinePair, Table, positions_of};
 ghost use Rattle.search_tables.specs.Next.{IsClosed};
@@ -51,6 +52,28 @@ pub fn closed_tables_are_certified()
 pub fn legal_tables_are_well_formed()
     ensures { (m : MachinePair) → IsSound m.left → IsSound m.right → (moves : List PlainMove) (T : Table) → Makes m moves T
         → IsWellFormed m T }
+{}
+
+/// The facts of a table that a legal list of moves makes are of the pairing: each has exactly its positions, each with a form of
+/// its sort, whose symbols, as those of its literals, are positions of the pairing.
+pub fn facts_of_legal_tables_are_of_the_pairing()
+    ensures { (m : MachinePair) (moves : List PlainMove) (T : Table) → Makes m moves T
+        → AllByRecursion (λ n. IsFactOf (positions_of m) n.fact) T }
+{}
+
+/// The rank of a node of a table's certificate is the length of a longest chain of moves from it by which one machine moves
+/// alone, there and at each target: there is a chain of that length, and none is longer. Where both machines move, or neither,
+/// it is 0.
+pub fn ranks_of_certificates_are_lengths_of_chains()
+    ensures longest { (m : MachinePair) (T : Table) (ranks : List ℕ) (nodes : List (CertificateNode PlainFact))
+        → AreRanks (lone_moves m T) ranks → Certifies m T ranks nodes → (i : ℕ) (n : CertificateNode PlainFact)
+        → slice_get nodes i ≡ Some n → LongestChain (lone_moves m T) i n.rank }
+    ensures both { (m : MachinePair) (T : Table) (ranks : List ℕ) (nodes : List (CertificateNode PlainFact))
+        → AreRanks (lone_moves m T) ranks → Certifies m T ranks nodes → (i : ℕ) (n : CertificateNode PlainFact)
+        → slice_get nodes i ≡ Some n → n.mode ≡ Both → n.rank ≡ 0 }
+    ensures end { (m : MachinePair) (T : Table) (ranks : List ℕ) (nodes : List (CertificateNode PlainFact))
+        → AreRanks (lone_moves m T) ranks → Certifies m T ranks nodes → (i : ℕ) (n : CertificateNode PlainFact)
+        → slice_get nodes i ≡ Some n → n.mode ≡ End → n.rank ≡ 0 }
 {}
 
 /// The certificate of a well-formed table whose facts are of the pairing is lawful, where its ranks are at most 4,096.

@@ -2,7 +2,7 @@
 use Rattle.std.proofs.Common.{◌≡◌, ℕ, zero, suc, ◌+◌, refl, sym, ◌∙◌, ap, subst, arith, List, [], ◌∷◌, ◌++◌, length, Some, None}
 use Rattle.std.specs.Prelude.{Option, slice_get, slice_set}
 use Rattle.std.specs.Option.{option_or, option_map}
-use Rattle.base_lemmas.proofs.Options.{option_or_parts}
+use Rattle.fs_model.proofs.Options.{option_or_parts}
 use Rattle.fs_cut.specs.Paths.{Point}
 use Rattle.sym_facts.specs.Facts.{Fact}
 use Rattle.search_tables.specs.SearchTables.{MachinePair, SearchNode, Table, start_node, first_table, Target, Unknown, Known, node_target}

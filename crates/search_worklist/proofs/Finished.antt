@@ -4,7 +4,7 @@ use Rattle.std.proofs.lemmas.List.{length-map}
 use Rattle.std.proofs.lemmas.Option.{slice_get_within}
 use Rattle.std.specs.Prelude.{◌≢◌, slice_get, slice_set, sum_by, Result}
 use Rattle.std.specs.BTreeSet.{BTreeSet, btree_set_len}
-use Rattle.base_lemmas.proofs.Lists.{slice_get-of_map}
+use Rattle.fs_model.proofs.Lists.{slice_get-of_map}
 use Rattle.fs_cut.specs.Paths.{Point}
 use Rattle.cert_bisimulation.specs.declared.mode.Mode.{Mode}
 use Rattle.nf_terms.specs.declared.stop.NfStop.{NfStop}

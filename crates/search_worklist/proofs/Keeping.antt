@@ -4,7 +4,7 @@ use Rattle.std.specs.Prelude.{◌≢◌, Option, slice_get, slice_set}
 use Rattle.std.proofs.lemmas.List.{map-set, map-append, length-set}
 use Rattle.std.proofs.lemmas.Option.{slice_get_within, get_or_from_slice_get}
 use Rattle.std.proofs.Math.Seq.{map-set_same}
-use Rattle.base_lemmas.proofs.Lists.{slice_get-front, slice_get-of_map}
+use Rattle.fs_model.proofs.Lists.{slice_get-front, slice_get-of_map}
 use Rattle.fs_cut.specs.Paths.{Point}
 use Rattle.cert_bisimulation.specs.declared.mode.Mode.{Mode}
 use Rattle.sym_paths.specs.Execution.{end_of}

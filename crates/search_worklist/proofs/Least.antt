@@ -1,7 +1,7 @@
 -- What comes next is found at the least item that waits.
 use Rattle.std.proofs.Common.{◌≡◌, ℕ, zero, suc, ◌+◌, ◌<◌, ◌⊎◌, inl, inr, refl, ◌∙◌, ap, subst, arith, Bool, true, false, cond, List, [], ◌∷◌, drop, map, Some}
 use Rattle.std.specs.Prelude.{slice_get}
-use Rattle.base_lemmas.proofs.Lists.{slice_get-of_map}
+use Rattle.fs_model.proofs.Lists.{slice_get-of_map}
 use Rattle.fs_cut.specs.Paths.{Point}
 use Rattle.fs_pair.specs.declared.positions.Position.{Position}
 use Rattle.cert_bisimulation.specs.declared.mode.Mode.{Mode}

@@ -5,14 +5,13 @@ use Rattle.std.proofs.lemmas.List.{length-append, length-map}
 use Rattle.std.proofs.lemmas.Option.{slice_get_within}
 use Rattle.std.specs.Prelude.{◌&&◌, slice_get, Result, IfOk}
 use Rattle.std.specs.List.{list_all}
-use Rattle.base_lemmas.proofs.Booleans.{and_first, and_second}
-use Rattle.base_lemmas.proofs.Quantifiers.{each_at}
-use Rattle.base_lemmas.proofs.Lists.{slice_get-of_map}
-use Rattle.fs_rules.specs.SoundParts.{IsSound}
+use Rattle.fs_model.proofs.Booleans.{and_first, and_second}
+use Rattle.fs_model.proofs.Quantifiers.{each_at}
+use Rattle.fs_model.proofs.Lists.{slice_get-of_map}
+use Rattle.fs_ast.specs.SoundParts.{IsSound}
 use Rattle.fs_cut.specs.Paths.{is_point}
 use Rattle.sym_facts.specs.Facts.{most_literals}
 use Rattle.sym_facts.specs.Pairings.{IsFactOf}
-use Rattle.sym_facts.proofs.StartSolved.{of_the_pairing}
 use Rattle.cert_model.specs.Lawful.{most_nodes}
 use Rattle.search_tables.specs.declared.moves.Move.{Move}
 use Rattle.search_tables.specs.SearchTables.{MachinePair, positions_of, SearchNode, Table, first_table}
@@ -29,7 +28,7 @@ use Rattle.search_worklist.specs.declared.ends.Ended.{Ended}
 use Rattle.search_worklist.specs.SearchEnds.{EndsSo, IsEnded}
 use Rattle.search_worklist.specs.Endings.{IsEndedWith}
 use Rattle.search_worklist.specs.States.{IsMade}
-use Rattle.search_worklist.proofs.Facts.{AreOf, legal_facts}
+use Rattle.search_tables.proofs.FactsOfPairing.{AreOf, legal_facts}
 
 lead_more : (m : MachinePair) (xs : List Move) (S T U : Table) (x : Move) → MovesLead m S xs T → stuck m T ≡ None → next_move m T ≡ Change x U
     → MovesLead m S (xs ++ x ∷ []) U
@@ -44,11 +43,8 @@ pub makes_more : (m : MachinePair) (xs ys : List Move) (x : Move) (T U V : Table
 makes_more m xs ys x T U V h s n e f = subst (λ zs. Makes m zs V) (sym e)
     (subst (λ W. Makes m (xs ++ x ∷ []) W) (sym f) (record { lead = lead_more m xs (first_table m) T U x h.lead s n }))
 
-pub facts_of : (m : MachinePair) (xs : List Move) (T : Table) → Makes m xs T → AreOf (positions_of m) T
-facts_of m xs T h = legal_facts m (of_the_pairing m.left m.right) xs T h
-
 pub made : (m : MachinePair) (xs : List Move) (T : Table) → IsSound m.left → IsSound m.right → Makes m xs T → stuck m T ≡ None → IsMade m T
-made m xs T l r h s = record { formed = well_formed m l r xs T h; facts = facts_of m xs T h; agrees = s }
+made m xs T l r h s = record { formed = well_formed m l r xs T h; facts = legal_facts m xs T h; agrees = s }
 
 -- how many moves are left at most
 abbrev pub moves_left : MachinePair → List Move → ℕ
@@ -98,7 +94,7 @@ ends_with m T xs x e h s w =
     let items = ap (λ (v : Vec Move Global). v.items) w.moves in
     record {
       makes = subst (λ ys. Makes m ys (table_in e.nodes.items)) (sym items) (subst (Makes m xs.items) (sym w.nodes) h);
-      facts = subst (AreOf (positions_of m)) (sym w.nodes) (facts_of m xs.items T h);
+      facts = subst (AreOf (positions_of m)) (sym w.nodes) (legal_facts m xs.items T h);
       ends = subst (EndsSo m (table_in e.nodes.items)) (sym w.ends) (subst (λ U. EndsSo m U x) (sym w.nodes) s);
     }
 

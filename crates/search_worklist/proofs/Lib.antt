@@ -6,5 +6,4 @@ pub mod Finished
 pub mod Changed
 pub mod Judged
 pub mod Differing
-pub mod Facts
 pub mod Legal

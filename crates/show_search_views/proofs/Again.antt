@@ -5,9 +5,9 @@ use Rattle.std.specs.Prelude.{◌&&◌, slice_get, map}
 use Rattle.std.specs.List.{list_all, AllByRecursion}
 use Rattle.std.specs.Option.{option_map}
 use Rattle.fsmd_pair_answers.proofs.Branches.{not_done}
-use Rattle.base_lemmas.proofs.Booleans.{and_first, and_second}
-use Rattle.base_lemmas.proofs.Quantifiers.{each_weaker}
-use Rattle.fs_rules.specs.SoundParts.{IsSound}
+use Rattle.fs_model.proofs.Booleans.{and_first, and_second}
+use Rattle.fs_model.proofs.Quantifiers.{each_weaker}
+use Rattle.fs_ast.specs.SoundParts.{IsSound}
 use Rattle.fs_model.specs.Machines.{Fsmd}
 use Rattle.fs_cut.specs.Paths.{Point, Path, is_point, state_of}
 use Rattle.fs_cut.specs.Covers.{paths_of, paths_from, cover_of, path_by}

@@ -1,7 +1,7 @@
 -- The facts of tables are of the positions.
 use Rattle.std.proofs.Common.{◌≡◌, ℕ, List, [], ◌∷◌}
-use Rattle.base_lemmas.proofs.Quantifiers.{each_append, each_at}
-use Rattle.alike_tables.proofs.EvenTables.{all_set}
+use Rattle.fs_model.proofs.Quantifiers.{each_append, each_at}
+use Rattle.search_tables.proofs.FactsOfPairing.{all_set}
 use Rattle.fs_cut.specs.Paths.{Point}
 use Rattle.fs_pair.specs.declared.positions.Position.{Position}
 use Rattle.sym_facts.specs.Pairings.{IsFactOf}

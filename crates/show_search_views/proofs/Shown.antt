@@ -3,7 +3,7 @@ use Rattle.std.proofs.Common.{◌≡◌, ℕ, refl}
 use Rattle.std.specs.Prelude.{Option, Some, None}
 use Rattle.fs_model.specs.Machines.{Fsmd}
 use Rattle.fs_cut.specs.Paths.{Point}
-use Rattle.fsmd_replies.specs.ObstacleTexts.{side_text}
+use Rattle.fsmd_pair_answers.specs.ObstacleTexts.{side_text}
 use Rattle.show_search_views.specs.MoveReplays.{branch_path}
 use Rattle.show_search_views.specs.MoveLines.{shown_path}
 

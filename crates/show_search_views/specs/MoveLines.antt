@@ -15,7 +15,7 @@ use Rattle.sym_facts.specs.Starts.{start_fact}
 use Rattle.fs_path_text.specs.PathTexts.{point_text, named_path}
 use Rattle.search_tables.specs.declared.moves.Move.{Move}
 use Rattle.search_tables.specs.SearchTables.{MachinePair, SearchNode, Table, first_table, positions_of}
-use Rattle.fsmd_replies.specs.ObstacleTexts.{text_of_lookup, both_sides, side_text}
+use Rattle.fsmd_pair_answers.specs.ObstacleTexts.{text_of_lookup, both_sides, side_text}
 use Rattle.cert_writer.specs.WrittenCertificates.{form_written}
 use Rattle.show_fact_text.specs.FactLines.{position_line, condition_line, fact_lines}
 use Rattle.show_search_views.specs.MoveReplays.{Turn, Idle, Makes, Weakens, turn_of_move, with_turn}

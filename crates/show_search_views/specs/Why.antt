@@ -5,8 +5,8 @@ use Rattle.cert_model.specs.View.{node_of}
 use Rattle.search_tables.specs.declared.moves.Move.{Move}
 use Rattle.search_tables.specs.declared.outcome.Outcome.{Outcome}
 use Rattle.search_tables.specs.declared.outcome.Outcome.TheVariants.{Closed, Stuck, Spin, Wide, Large, Exhausted}
-use Rattle.search_tables.specs.SearchTables.{MachinePair}
-use Rattle.search.specs.SearchOutcomes.{machines, IsSearchOutcome}
+use Rattle.search_tables.specs.SearchTables.{MachinePair, machines}
+use Rattle.search.specs.SearchOutcomes.{IsSearchOutcome}
 use Rattle.fsmd_pair_answers.specs.declared.answer.PairAnswer.{PairAnswer}
 use Rattle.fsmd_pair_answers.specs.declared.answer.PairAnswer.TheVariants.{Equivalent, Counterexample, Undecided}
 use Rattle.fsmd_pair_answers.specs.PairAnswers.{IsPairAnswer}

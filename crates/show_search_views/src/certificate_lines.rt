@@ -3,7 +3,7 @@
 ghost use Rattle.std.specs.Prelude.{◌≡◌, ◌++◌, OnOk, IfOk, map};
 ghost use Rattle.std.specs.List.{flat_map};
 ghost use Rattle.cert_model.specs.View.{node_of};
-ghost use Rattle.search.specs.SearchOutcomes.{machines};
+ghost use Rattle.search_tables.specs.SearchTables.{machines};
 ghost use Rattle.show_search_views.specs.CertificateLines.{node_text, certificate_lines};
 
 use crate::texts::{mode_text, write_points};

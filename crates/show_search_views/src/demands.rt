@@ -4,7 +4,7 @@ ghost use Rattle.std.specs.Prelude.{◌≡◌, ◌++◌, IfOk, OnOk, map};
 ghost use Rattle.std.specs.List.{flat_map};
 ghost use Rattle.fs_cut.specs.Covers.{cover_of};
 ghost use Rattle.cert_model.specs.View.{node_of};
-ghost use Rattle.search.specs.SearchOutcomes.{machines};
+ghost use Rattle.search_tables.specs.SearchTables.{machines};
 ghost use Rattle.show_search_views.specs.Demands.{start_demand, mode_demand, demands_by_mode, demands_of, demands};
 
 use crate::move_demands::{push_both, push_lefts, push_outputs, push_rights};

@@ -3,8 +3,7 @@
 ghost use Rattle.std.specs.Prelude.{◌≡◌, ◌++◌, IfOk, OnOk};
 ghost use Rattle.fs_cut.specs.Covers.{cover_of};
 ghost use Rattle.fs_pair.specs.Positions.{positions};
-ghost use Rattle.search.specs.SearchOutcomes.{machines};
-ghost use Rattle.search_tables.specs.SearchTables.{first_table};
+ghost use Rattle.search_tables.specs.SearchTables.{machines, first_table};
 ghost use Rattle.search_tables.specs.View.{table_in};
 ghost use Rattle.show_search_views.specs.MoveReplays.{turn_of_move, with_turn, AreOf};
 ghost use Rattle.show_search_views.specs.MoveLines.{turn_lines, turns_lines, start_move_lines, history_text};

@@ -3,7 +3,7 @@
 ghost use Rattle.std.specs.Prelude.{◌≡◌, ◌++◌, ◌∷◌, [], IfOk, OnOk, map, option_map};
 ghost use Rattle.fs_cut.specs.View.{path_of};
 ghost use Rattle.cert_model.specs.View.{node_of};
-ghost use Rattle.search.specs.SearchOutcomes.{machines};
+ghost use Rattle.search_tables.specs.SearchTables.{machines};
 ghost use Rattle.show_search_views.specs.Demands.{side_moved, move_demand, output_demand, output_demands, left_demands};
 ghost use Rattle.show_search_views.specs.Demands.{right_demands, both_demands};
 

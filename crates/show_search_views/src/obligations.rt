@@ -2,7 +2,7 @@
 
 ghost use Rattle.std.specs.Prelude.{◌≡◌, ◌++◌, ◌<◌, ◌+◌, IfOk, OnOk, map};
 ghost use Rattle.cert_model.specs.View.{node_of};
-ghost use Rattle.search.specs.SearchOutcomes.{machines};
+ghost use Rattle.search_tables.specs.SearchTables.{machines};
 ghost use Rattle.show_search_views.specs.Demands.{numbered_line, numbered_lines, obligation_lines};
 
 use crate::demands::demands;

@@ -3,7 +3,7 @@
 ghost use Rattle.std.specs.Prelude.{◌≡◌, ◌++◌, OnOk};
 ghost use Rattle.fs_cut.specs.View.{point_of};
 ghost use Rattle.cert_writer.specs.WrittenCertificates.{mode_written};
-ghost use Rattle.search.specs.SearchOutcomes.{machines};
+ghost use Rattle.search_tables.specs.SearchTables.{machines};
 ghost use Rattle.show_search_views.specs.MoveLines.{points_text};
 
 use cert_bisimulation::mode::Mode;

@@ -3,7 +3,7 @@
 ghost use Rattle.std.specs.Prelude.{◌≡◌, ◌≤◌, IfOk, None, is_some, option_map};
 ghost use Rattle.fs_pair.specs.Interfaces.{interface_fault};
 ghost use Rattle.fs_pair.specs.Positions.{positions};
-ghost use Rattle.search.specs.SearchOutcomes.{machines};
+ghost use Rattle.search_tables.specs.SearchTables.{machines};
 ghost use Rattle.show_search_views.specs.Why.{moves_of, history_of, heading_of, found_lines, why_lines, IsExplanation};
 
 use crate::certificate_lines::certificate_lines;

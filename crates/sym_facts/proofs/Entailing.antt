@@ -1,7 +1,7 @@
 -- A fact that a post entails holds of what its vector means.
 use Rattle.std.proofs.Common.{◌≡◌, ℕ, ◌+◌, ℤ, Bool, true, false, refl, ap, ap₂, sym, subst, ◌∙◌, List, [], ◌∷◌, Option, Some, None}
 use Rattle.std.proofs.lemmas.Bool.{and_from}
-use Rattle.base_lemmas.proofs.Orderings.{is_eq-true}
+use Rattle.fs_model.proofs.Orderings.{is_eq-true}
 use Rattle.fs_model.specs.Meaning.{relates}
 use Rattle.nf_terms.specs.NormalTerms.{Polynomial, ArrayTerm}
 use Rattle.nf_terms.specs.Lists.{ListTerm, cmp_list}

@@ -11,3 +11,7 @@ pub mod Vectors
 pub mod Walks
 pub mod Kept
 pub mod MentionedPositions
+pub use Rattle.sym_paths.proofs.Arrivals
+pub use Rattle.nf_rel.proofs.Truth
+pub use Rattle.nf_sums.proofs.Values
+pub use Rattle.nf_symbols.proofs.Passing

@@ -7,7 +7,7 @@ use Rattle.std.proofs.lemmas.Bool.{eqb-true, eqb-false}
 use Rattle.std.proofs.lemmas.Grind.{get_or-set_at}
 use Rattle.std.proofs.lemmas.List.{length-set, get_or-set_other, length-replicate, get_or-replicate}
 use Rattle.std.proofs.lemmas.List.Folds.{list_all-append}
-use Rattle.base_lemmas.proofs.Booleans.{or_false, or_true}
+use Rattle.fs_model.proofs.Booleans.{or_false, or_true}
 use Rattle.nf_terms.specs.Forms.{mentions_form}
 use Rattle.nf_terms.specs.Mentions.{same_pos, mentions}
 use Rattle.nf_terms.specs.declared.symbols.Sort.{Sort}

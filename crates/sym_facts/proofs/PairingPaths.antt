@@ -3,10 +3,10 @@ use Rattle.std.proofs.Common.{◌≡◌, ℕ, zero, suc, List, [], ◌∷◌, �
 use Rattle.std.specs.Prelude.{◌&&◌, not, slice_get}
 use Rattle.std.specs.List.{list_all, slice_index_or}
 use Rattle.std.proofs.lemmas.Bool.{and_from}
-use Rattle.base_lemmas.proofs.Booleans.{and_first, and_second}
-use Rattle.base_lemmas.proofs.Quantifiers.{list_all_weaker}
-use Rattle.fs_rules.specs.SoundParts.{IsSound, scalar_at, array_at, port_at, input_at, is_text_number, scalars_in, arrays_in, scalars_in_assignment}
-use Rattle.fs_rules.specs.SoundParts.{arrays_in_assignment, port_in, numbers_in_assignment, changed_by}
+use Rattle.fs_model.proofs.Booleans.{and_first, and_second}
+use Rattle.fs_model.proofs.Quantifiers.{list_all_weaker}
+use Rattle.fs_ast.specs.SoundParts.{IsSound, scalar_at, array_at, port_at, input_at, is_text_number, scalars_in, arrays_in, scalars_in_assignment}
+use Rattle.fs_ast.specs.SoundParts.{arrays_in_assignment, port_in, numbers_in_assignment, changed_by}
 use Rattle.fs_model.specs.Machines.{Fsmd, transitions_of}
 use Rattle.fs_model.specs.Terms.{Term, Number, Variable, Read, Sum, Difference, Product, Quotient, Remainder, Negative, Literal, Assignment, Assign, ArrayWrite}
 use Rattle.fs_model.specs.Terms.{Emit}
@@ -30,9 +30,9 @@ use Rattle.nf_terms.specs.declared.form.Nf.{Nf}
 use Rattle.nf_terms.specs.declared.form.Nf.TheVariants.{Num, Arr, Seq}
 use Rattle.nf_sums.specs.Operations.{normal_sum, normal_difference, normal_product, normal_negation}
 use Rattle.nf_sums.proofs.Values.{goes_done}
-use Rattle.nf_arrays.specs.NewAtoms.{quotient_of, remainder_of}
-use Rattle.nf_arrays.specs.Writes.{write_array, read_at}
-use Rattle.nf_arrays.specs.Pushes.{list_with_item}
+use Rattle.nf_substitution.specs.NewAtoms.{quotient_of, remainder_of}
+use Rattle.nf_substitution.specs.Writes.{write_array, read_at}
+use Rattle.nf_substitution.specs.Pushes.{list_with_item}
 use Rattle.nf_substitution.specs.Vectors.{number_at, array_form, list_at, with_form}
 use Rattle.nf_symbols.proofs.Passing.{front, back, together}
 use Rattle.nf_symbols.proofs.Results.{added_within, subtracted_within, multiplied_within, negation_within, number_done_within}

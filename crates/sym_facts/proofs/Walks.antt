@@ -2,7 +2,7 @@
 use Rattle.std.proofs.Common.{◌≡◌, ℕ, ◌+◌, ◌<◌, List, [], ◌∷◌, ◌++◌, append-nil, length, map, drop, refl, ap, sym, ◌∙◌, arith, Bool, true, false, cond, Option}
 use Rattle.std.proofs.Common.{Some}
 use Rattle.std.specs.List.{position_from, slice_index_or}
-use Rattle.base_lemmas.proofs.Lists.{drop_next}
+use Rattle.fs_model.proofs.Lists.{drop_next}
 use Rattle.fs_pair.specs.declared.positions.Position.{Position}
 use Rattle.nf_terms.specs.declared.form.Nf.{Nf}
 use Rattle.sym_facts.specs.Facts.{FactPosition}

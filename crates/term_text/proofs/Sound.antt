@@ -5,7 +5,7 @@ use Rattle.std.specs.Prelude.{IfSome}
 use Rattle.std.specs.List.{list_all}
 use Rattle.std.proofs.lemmas.Bool.{eqb-true, and_parts, and_from}
 use Rattle.std.proofs.lemmas.List.{append-nil}
-use Rattle.base_lemmas.proofs.Quantifiers.{list_all_push}
+use Rattle.fs_model.proofs.Quantifiers.{list_all_push}
 use Rattle.fs_model.specs.Words.{is_letter, is_digit, is_word_byte, is_word, is_reserved}
 use Rattle.fs_model.specs.declared.sides.Side.{Side}
 use Rattle.fs_model.specs.declared.sides.Side.TheVariants.{Left, Right}

@@ -4,7 +4,7 @@ use Rattle.std.proofs.Common.{◌∙◌, append_assoc, arith}
 use Rattle.std.specs.List.{prefix_len}
 use Rattle.std.proofs.lemmas.List.{append-nil, map_push}
 use Rattle.std.proofs.lemmas.Bool.{or_parts}
-use Rattle.base_lemmas.proofs.Lists.{prefix_len_more}
+use Rattle.fs_model.proofs.Lists.{prefix_len_more}
 use Rattle.fs_model.specs.Words.{is_letter, is_digit, is_word_byte, is_reserved}
 use Rattle.fs_model.specs.declared.sides.Side.{Side}
 use Rattle.term_text.specs.TermTexts.{Atom, Monomial, Sum, Polynomial, ArrayTerm, ListSyntax, Symbol, Number, Times, Of, Bare, Written, BareList, Pushed}

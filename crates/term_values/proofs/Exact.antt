@@ -1,7 +1,7 @@
 -- Where each number is within the limit, a written term stands for what its exact numbers say.
 use Rattle.std.proofs.Common.{◌≡◌, ℕ, ◌≤◌, min, nat_le, ℤ, pos, neg_ℤ, true, ◌&&◌, List, [], ◌∷◌, refl, ap, ap₂, ◌∙◌, arith}
 use Rattle.std.proofs.lemmas.Bool.{and_parts, leb-true}
-use Rattle.base_integers.specs.Digits.{value_of_digits}
+use Rattle.fs_model.specs.Digits.{value_of_digits}
 use Rattle.nf_terms.specs.TermLimits.{weight_limit}
 use Rattle.nf_terms.specs.NormalTerms as terms
 use Rattle.term_text.specs.TermTexts.{Atom, Monomial, Sum, Polynomial, ArrayTerm, ListSyntax, Symbol, Read, Quotient, Remainder, Number, One, Times, Positive}

@@ -4,7 +4,7 @@ use Rattle.std.specs.Prelude.{IfOk, IfErr}
 use Rattle.std.specs.Cmp.{signed_Decides}
 use Rattle.std.proofs.lemmas.Int.{ints}
 use Rattle.std.proofs.lemmas.Bool.{and_parts, and_left, and_from, and_right}
-use Rattle.base_integers.specs.Digits.{value_of_digits}
+use Rattle.fs_model.specs.Digits.{value_of_digits}
 use Rattle.nf_terms.specs.NormalTerms.{Polynomial}
 use Rattle.nf_terms.specs.Normal.{IsNormal}
 use Rattle.nf_rel.specs.declared.kind.Kind.{Kind}

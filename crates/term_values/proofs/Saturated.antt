@@ -2,7 +2,7 @@
 use Rattle.std.proofs.Common.{◌≡◌, ℕ, suc, ◌+◌, ◌-◌, ◌^◌, ◌<◌, ◌≤◌, min, List, [], ◌∷◌, length, get_or, drop, arith, drop-cons}
 use Rattle.std.specs.List.{fold}
 use Rattle.std.proofs.Math.ListN.{drop_of_length-le}
-use Rattle.base_integers.specs.Digits.{with_digit}
+use Rattle.fs_model.specs.Digits.{with_digit}
 
 grows : (n : ℕ) (bs : List ℕ) → n ≤ fold with_digit n bs
 grows n [] = omega arith

@@ -1,7 +1,7 @@
 -- A test of each number and each name of a written term.
 use Rattle.std.specs.Prelude.{ℕ, Bool, true, not, ◌&&◌, nat_le, List, is_some, codes}
 use Rattle.std.specs.Str.{bytes_eq}
-use Rattle.base_integers.specs.Digits.{value_of_digits}
+use Rattle.fs_model.specs.Digits.{value_of_digits}
 use Rattle.nf_terms.specs.TermLimits.{weight_limit}
 use Rattle.fs_model.specs.declared.sides.Side.{Side}
 use Rattle.nf_terms.specs.declared.symbols.Sort.{Sort}

@@ -1,6 +1,6 @@
 -- The number that digits spell.
 use Rattle.std.specs.Prelude.{ℕ, min, List}
-use Rattle.base_integers.specs.Digits.{value_of_digits}
+use Rattle.fs_model.specs.Digits.{value_of_digits}
 use Rattle.nf_terms.specs.TermLimits.{weight_limit}
 
 -- the same, and the limit where it is greater

@@ -1,6 +1,6 @@
 -- The term that a written term stands for.
 use Rattle.std.specs.Prelude.{ℕ, pos, neg_ℤ, List, [], ◌∷◌}
-use Rattle.base_integers.specs.Digits.{value_of_digits}
+use Rattle.fs_model.specs.Digits.{value_of_digits}
 use Rattle.fs_model.specs.declared.sides.Side.{Side}
 use Rattle.fs_model.specs.declared.sides.Pos.{Pos}
 use Rattle.nf_terms.specs.declared.tree.Base.TheVariants as bases

@@ -1,7 +1,7 @@
 //! The numbers that digits spell.
 
 ghost use Rattle.std.specs.Prelude.{◌≡◌, ◌-◌, ◌^◌, min, nat_le, pos, unsigned_abs};
-ghost use Rattle.base_integers.specs.Digits.{with_digit, value_of_digits};
+ghost use Rattle.fs_model.specs.Digits.{with_digit, value_of_digits};
 ghost use Rattle.nf_terms.specs.TermLimits.{weight_limit};
 ghost use Rattle.term_values.specs.DigitNumbers.{clipped_number};
 

@@ -7,8 +7,8 @@ use Rattle.std.proofs.lemmas.Bool.{eqb-true, and_parts, and_from}
 use Rattle.std.proofs.lemmas.Bool.Decides.{nat_tests}
 use Rattle.std.proofs.lemmas.Fmt.{decimal_by_steps_wide}
 use Rattle.std.proofs.lemmas.List.Sums.{fold-append}
-use Rattle.base_lemmas.proofs.Quantifiers.{list_all_push}
-use Rattle.base_integers.specs.Digits.{with_digit, value_of_digits}
+use Rattle.fs_model.proofs.Quantifiers.{list_all_push}
+use Rattle.fs_model.specs.Digits.{with_digit, value_of_digits}
 use Rattle.fs_model.specs.Words.{is_digit}
 use Rattle.fs_model.specs.declared.sides.Pos.{Pos}
 use Rattle.nf_terms.specs.declared.tree.Base.TheVariants as bases

@@ -5,7 +5,7 @@ use Rattle.std.proofs.lemmas.Bool.Decides.{nat_tests}
 use Rattle.std.specs.Cmp.{signed_Decides}
 use Rattle.std.proofs.lemmas.Int.{ints}
 use Rattle.std.proofs.lemmas.Bool.{and_parts}
-use Rattle.base_integers.specs.Digits.{value_of_digits}
+use Rattle.fs_model.specs.Digits.{value_of_digits}
 use Rattle.fs_model.specs.declared.sides.Pos.{Pos}
 use Rattle.nf_terms.specs.NormalTerms as terms
 use Rattle.nf_terms.specs.Measures.{size_of, depth_of}

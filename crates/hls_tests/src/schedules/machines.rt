@@ -3,7 +3,7 @@
 ghost use Rattle.std.specs.Prelude.{◌≡◌, IsTrue};
 ghost use Rattle.fs_model.specs.View.{source_of};
 ghost use Rattle.fs_model.specs.WellFormed.{is_well_formed};
-ghost use Rattle.fs_rules.specs.MachineOfParts.{machine_of};
+ghost use Rattle.fs_ast.specs.MachineOfParts.{machine_of};
 
 use fs_ast::machine::Machine;
 use fs_model::parts::Parts;

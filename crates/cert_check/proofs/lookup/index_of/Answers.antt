@@ -1,5 +1,5 @@
 use Rattle.std.proofs.Common.{◌++◌, ◌∷◌, ◌+◌, ◌≡◌, map, drop, ap, sym, ◌∙◌}
-use Rattle.base_lemmas.proofs.Lists.{map_drop_next}
+use Rattle.fs_model.proofs.Lists.{map_drop_next}
 use Rattle.cert_model.specs.Lawful.{points_differ}
 use Rattle.cert_model.specs.View.{node_of}
 use Rattle.cert_check.proofs.Keyed.{none_before}

@@ -1,6 +1,6 @@
 use Rattle.std.proofs.Common.{◌+◌, ◌≤◌, ◌∷◌, [], map, drop, ap, subst, arith}
 use Rattle.std.specs.Prelude.{Some, None}
-use Rattle.base_lemmas.proofs.Lists.{map_drop_next}
+use Rattle.fs_model.proofs.Lists.{map_drop_next}
 use Rattle.fs_cut.specs.Paths.{Path}
 use Rattle.fs_cut.specs.View.{path_of}
 use Rattle.cert_model.specs.View.{node_of}

@@ -1,5 +1,5 @@
 use Rattle.std.proofs.Common.{◌+◌, ◌≤◌, ◌∷◌, [], map, drop, ap, subst, arith, ◌∙◌}
-use Rattle.base_lemmas.proofs.Lists.{drop_next}
+use Rattle.fs_model.proofs.Lists.{drop_next}
 use Rattle.fs_pair.specs.PairedOutputs.{output_pairs}
 use Rattle.cert_check.specs.VectorOutputs.{output_over}
 use Rattle.cert_check.specs.View.{progress_in, verdict_in, NumberUpTo}

@@ -1,6 +1,6 @@
 use Rattle.std.proofs.Common.{◌+◌, ◌&&◌, ◌≤◌, map, drop, ap, subst, arith}
 use Rattle.std.specs.List.{flat_map}
-use Rattle.base_lemmas.proofs.Lists.{map_drop_next}
+use Rattle.fs_model.proofs.Lists.{map_drop_next}
 use Rattle.cert_model.specs.View.{node_of}
 use Rattle.cert_check.specs.View.{owed_in, most_owed, progress_in, verdict_in, NumberUpTo}
 use Rattle.fs_cut.specs.Paths.{is_point}

@@ -1,6 +1,6 @@
 use Rattle.std.proofs.Common.{◌≡◌, ◌∙◌, ◌+◌, ◌-◌, ◌<◌, ◌∷◌, sym, ap, drop, length, arith}
 use Rattle.std.specs.Prelude.{map, ℕ}
-use Rattle.base_lemmas.proofs.Lists.{map_drop_next}
+use Rattle.fs_model.proofs.Lists.{map_drop_next}
 use Rattle.fs_model.specs.Trees.{tree_of_transitions, count_leaves}
 use Rattle.fs_ast.specs.NumberedParts.{resolved_transition}
 use Rattle.fs_ast.specs.Forks.{capped_leaves}

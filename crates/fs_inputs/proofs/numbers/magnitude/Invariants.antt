@@ -1,6 +1,6 @@
 use Rattle.std.proofs.Common.{◌≡◌, ◌≤◌, ◌^◌, drop}
 use Rattle.std.specs.List.{fold}
-use Rattle.base_integers.specs.Digits.{value_of_digits, with_digit}
+use Rattle.fs_model.specs.Digits.{value_of_digits, with_digit}
 use Rattle.fs_inputs.proofs.numbers.magnitude.Given as goal
 
 abbrev pub invariant-loop-b : goal.invariant-loop-b

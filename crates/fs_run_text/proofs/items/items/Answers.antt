@@ -1,6 +1,6 @@
 use Rattle.std.proofs.Common.{◌≡◌, ◌+◌, ◌∷◌, drop, subst}
 use Rattle.std.specs.Prelude.{map, IsSome}
-use Rattle.base_lemmas.proofs.Lists.{drop_next}
+use Rattle.fs_model.proofs.Lists.{drop_next}
 use Rattle.fs_runs.specs.Outcomes.{output_names, told_by, HoldsEach}
 use Rattle.fs_run_text.proofs.Interfaces.{all_behind}
 use Rattle.fs_run_text.proofs.Adds.{items_more}

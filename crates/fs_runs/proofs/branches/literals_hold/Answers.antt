@@ -1,5 +1,5 @@
 use Rattle.std.proofs.Common.{◌≡◌, true, false, sym, ◌∙◌}
-use Rattle.base_lemmas.proofs.Lists.{map_drop_next}
+use Rattle.base_laws.proofs.Lists.{map_drop_next}
 use Rattle.fs_model.specs.Meaning.{literal_holds}
 use Rattle.fs_model.specs.View.{literal_of}
 use Rattle.fs_runs.specs.Values.{store_from}

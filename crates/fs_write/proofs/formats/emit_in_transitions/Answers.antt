@@ -1,7 +1,7 @@
 use Rattle.std.proofs.Common.{◌∙◌, sym, rules, tests}
 use Rattle.std.proofs.lemmas.Iterator.{YieldsList-from_slice}
 use Rattle.std.proofs.lemmas.Iterator.Search.{any_from_yields_List}
-use Rattle.base_lemmas.proofs.Quantifiers.{list_any_map}
+use Rattle.fs_model.proofs.Quantifiers.{list_any_map}
 use Rattle.fs_model.specs.View.{source_transition_of}
 use Rattle.fs_write.specs.NeededFormats.{emits_in_transition}
 use Rattle.fs_write.proofs.formats.emit_in_transitions.Goals as goal

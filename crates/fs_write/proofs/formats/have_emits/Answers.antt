@@ -1,7 +1,7 @@
 use Rattle.std.proofs.Common.{◌∙◌, sym, rules, tests}
 use Rattle.std.proofs.lemmas.Iterator.{YieldsList-from_slice}
 use Rattle.std.proofs.lemmas.Iterator.Search.{any_from_yields_List}
-use Rattle.base_lemmas.proofs.Quantifiers.{list_any_map}
+use Rattle.fs_model.proofs.Quantifiers.{list_any_map}
 use Rattle.fs_model.specs.View.{named_assignment}
 use Rattle.fs_write.specs.NeededFormats.{is_emit}
 use Rattle.fs_write.proofs.formats.have_emits.Goals as goal

@@ -1,7 +1,7 @@
 use Rattle.std.specs.Prelude.{map}
 use Rattle.std.proofs.Common.{subst}
 use Rattle.cert_model.specs.View.{node_of}
-use Rattle.search.specs.SearchOutcomes.{machines}
+use Rattle.search_tables.specs.SearchTables.{machines}
 use Rattle.fsmd_pair_answers.specs.PairAnswers.{IsFound}
 use Rattle.fsmd_pair_answers.proofs.Alike.{answered_where_alike}
 use Rattle.fsmd_pair_answers.proofs.Shown.{closed_shows}

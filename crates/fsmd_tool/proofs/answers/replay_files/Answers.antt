@@ -1,4 +1,4 @@
-use Rattle.std.proofs.Common.{rules, Some, refl, arith}
+use Rattle.std.proofs.Common.{rules, Some, arith}
 use Rattle.fsmd_words.specs.AskedWords.{asked_of_ask}
 use Rattle.fsmd_answers.specs.Refusing.{WhereAnswered}
 use Rattle.fsmd_tool.specs.Calls.{call, IsCorrectInOrder}

@@ -1,4 +1,4 @@
-use Rattle.std.proofs.Common.{◌+◌, ◌*◌, Some, rules, refl, sym, ap, subst, map, string_bytes, arith}
+use Rattle.std.proofs.Common.{◌+◌, ◌*◌, Some, rules, sym, ap, subst, map, string_bytes, arith}
 use Rattle.fsmd_words.specs.AskedWords.{asked_of_ask}
 use Rattle.fs_model.specs.Machines.{Fsmd}
 use Rattle.fsmd_answers.specs.MachineFiles.{SpellsMachine}

@@ -1,7 +1,7 @@
 use Rattle.std.proofs.Common.{◌≡◌, refl}
 use Rattle.fsmd_replies.specs.declared.answer.Status.TheVariants.{NoMemory, Fine, Differ, Undecided, Fault}
 use Rattle.fsmd_tool.specs.Correct.{Starves}
-use Rattle.fsmd_tool.proofs.Alike.{tells_of_alike, no_memory_of_pair}
+use Rattle.fsmd_tool.proofs.AlikeMachines.{tells_of_alike, no_memory_of_pair}
 use Rattle.fsmd_tool.proofs.Says.{are_equivalent, says_same, says_differ, says_undecided, is_checked}
 use Rattle.fsmd_tool.proofs.Synthesized.{is_compiled, is_in_rows, is_in_registers}
 use Rattle.fsmd_tool.proofs.Shrunk.{is_shrunk}

@@ -1,10 +1,10 @@
-use Rattle.std.proofs.Common.{rules, Some, refl, arith}
+use Rattle.std.proofs.Common.{rules, Some, arith}
 use Rattle.fsmd_words.specs.AskedWords.{asked_of_ask}
 use Rattle.fsmd_answers.specs.Refusing.{WhereAnswered}
 use Rattle.fsmd_tool.specs.Calls.{call, IsCorrectInOrder}
 use Rattle.fs_model.specs.Source.{Source}
 use Rattle.fs_model.specs.View.{source_of}
-use Rattle.fs_rules.specs.MachineOfParts.{machine_of}
+use Rattle.fs_ast.specs.MachineOfParts.{machine_of}
 use Rattle.fsmd_answers.specs.MachineFiles.{SpellsParts}
 use Rattle.fsmd_answers.specs.Refusals.{RefusesMachine}
 use Rattle.fsmd_answers.specs.BindingFiles.{IsOfBinding}

@@ -3,8 +3,8 @@ use Rattle.fsmd_words.specs.AskedWords.{asked_of_ask}
 use Rattle.fsmd_answers.specs.Refusing.{WhereAnswered}
 use Rattle.fsmd_tool.specs.Calls.{call, IsCorrectInOrder}
 use Rattle.fs_model.specs.View.{source_of}
-use Rattle.fs_rules.specs.MachineOfParts.{machine_of}
-use Rattle.fsmd_synthesis_answers.specs.BindingAnswers.{Binding}
+use Rattle.fs_ast.specs.MachineOfParts.{machine_of}
+use Rattle.fsmd_answers.specs.BindingAnswers.{Binding}
 use Rattle.fsmd_answers.specs.BindingFiles.{RefusesBinding, SpellsBinding, IsOfBinding}
 use Rattle.fsmd_answers.specs.Follows.{Ends, OpensBinding}
 use Rattle.fsmd_tool.proofs.InOrder.{refused_in_order, last_in_order}

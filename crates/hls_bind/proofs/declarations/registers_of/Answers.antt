@@ -1,7 +1,7 @@
 use Rattle.std.proofs.Common.{◌∙◌, sym}
 use Rattle.std.specs.Prelude.{map}
 use Rattle.std.proofs.lemmas.List.Filters.{dedup_is}
-use Rattle.base_lemmas.proofs.Lists.{map_map}
+use Rattle.fs_model.proofs.Lists.{map_map}
 use Rattle.hls_bind.specs.BindingEntries.{binding_entry}
 use Rattle.hls_bind.proofs.Ordered.{are}
 use Rattle.hls_bind.proofs.declarations.registers_of.Goals as goal

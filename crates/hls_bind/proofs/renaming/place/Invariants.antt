@@ -1,5 +1,5 @@
 use Rattle.std.proofs.Common.{◌≡◌, ◌≤◌, ◌+◌, drop}
-use Rattle.fs_rules.specs.MachineOfParts.{place_or_end, names_of}
+use Rattle.fs_ast.specs.MachineOfParts.{place_or_end, names_of}
 use Rattle.hls_bind.proofs.renaming.place.Given as goal
 
 abbrev pub invariant-loop-var : goal.invariant-loop-var

@@ -1,7 +1,7 @@
 use Rattle.std.proofs.Common.{sym, subst}
 use Rattle.fs_model.specs.Machines.{Fsmd}
-use Rattle.fs_rules.specs.SoundParts.{IsSound}
-use Rattle.fs_rules.specs.Rules.{BreaksNoRule}
+use Rattle.fs_ast.specs.SoundParts.{IsSound}
+use Rattle.fs_ast.specs.Rules.{BreaksNoRule}
 use Rattle.hls_line_schedules.specs.Schedules.{IsWithin}
 use Rattle.hls_line_schedules.specs.Sources.{scheduled_source}
 use Rattle.hls_line_schedules.proofs.Formed.{scheduled_formed}

@@ -2,8 +2,8 @@ use Rattle.std.proofs.Common.{◌≡◌, ◌∙◌, sym, ap, subst, rules, map, 
 use Rattle.fs_model.specs.Source.{Source}
 use Rattle.fs_model.specs.View.{source_of}
 use Rattle.fs_model.specs.WellFormed.{is_well_formed}
-use Rattle.fs_rules.specs.MachineOfParts.{machine_of}
-use Rattle.fs_rules.specs.Rules.{BreaksNoRule}
+use Rattle.fs_ast.specs.MachineOfParts.{machine_of}
+use Rattle.fs_ast.specs.Rules.{BreaksNoRule}
 use Rattle.hls_line_rows.specs.ItemUnits.{units_in}
 use Rattle.hls_line_schedules.specs.Sources.{scheduled_source}
 use Rattle.hls_unit_limits.specs.Over.{over_in}

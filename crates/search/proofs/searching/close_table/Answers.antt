@@ -4,7 +4,7 @@ use Rattle.search_tables.specs.Obstacles.{Spin}
 use Rattle.search_tables.specs.View.{table_in, points_in}
 use Rattle.search_tables.proofs.Forming.{well_formed}
 use Rattle.search_closing.specs.Closings.{GivesClosing}
-use Rattle.search.specs.SearchOutcomes.{machines}
+use Rattle.search_tables.specs.SearchTables.{machines}
 use Rattle.search.proofs.Outcomes.{closes, stops}
 use Rattle.search.proofs.searching.close_table.Goals as goal
 

@@ -2,7 +2,7 @@ use Rattle.std.proofs.Common.{ap, sym, subst, ◌∙◌, map}
 use Rattle.search_tables.specs.Obstacles.{Stuck, Wide, Large, Exhausted}
 use Rattle.search_tables.specs.View.{table_in, points_in, points_at}
 use Rattle.search_worklist.specs.SearchEnds.{EndsSo}
-use Rattle.search.specs.SearchOutcomes.{machines}
+use Rattle.search_tables.specs.SearchTables.{machines}
 use Rattle.search.proofs.Outcomes.{stops}
 use Rattle.search.proofs.searching.conclude.Goals as goal
 

@@ -1,5 +1,5 @@
 use Rattle.std.proofs.Common.{◌∙◌, ap, ap₂, cond, None}
-use Rattle.base_lemmas.proofs.Lists.{slice_get-of_map}
+use Rattle.fs_model.proofs.Lists.{slice_get-of_map}
 use Rattle.fs_pair.specs.PairedOutputs.{output_pairs}
 use Rattle.sym_facts.specs.Facts.{vector_of}
 use Rattle.search_tables.specs.Legal.{first_differing}

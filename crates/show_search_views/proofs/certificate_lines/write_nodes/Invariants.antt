@@ -1,7 +1,7 @@
 use Rattle.std.proofs.Common.{◌≡◌, ◌++◌, map, drop}
 use Rattle.std.specs.List.{flat_map}
 use Rattle.cert_model.specs.View.{node_of}
-use Rattle.search.specs.SearchOutcomes.{machines}
+use Rattle.search_tables.specs.SearchTables.{machines}
 use Rattle.show_search_views.specs.CertificateLines.{node_text}
 use Rattle.show_search_views.proofs.certificate_lines.write_nodes.Given as goal
 

@@ -1,6 +1,6 @@
 use Rattle.std.proofs.Common.{◌≡◌, ◌++◌, map, drop}
 use Rattle.cert_model.specs.View.{node_of}
-use Rattle.search.specs.SearchOutcomes.{machines}
+use Rattle.search_tables.specs.SearchTables.{machines}
 use Rattle.std.specs.List.{flat_map}
 use Rattle.show_search_views.specs.Demands.{demands_of}
 use Rattle.show_search_views.proofs.demands.push_nodes.Given as goal

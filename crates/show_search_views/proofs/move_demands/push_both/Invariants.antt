@@ -1,7 +1,7 @@
 use Rattle.std.proofs.Common.{◌≡◌, ◌++◌, map, drop}
 use Rattle.fs_cut.specs.View.{path_of}
 use Rattle.cert_model.specs.View.{node_of}
-use Rattle.search.specs.SearchOutcomes.{machines}
+use Rattle.search_tables.specs.SearchTables.{machines}
 use Rattle.show_search_views.specs.Demands.{both_demands}
 use Rattle.show_search_views.proofs.move_demands.push_both.Given as goal
 

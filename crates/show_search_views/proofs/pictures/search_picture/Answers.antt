@@ -1,7 +1,7 @@
 use Rattle.std.proofs.Common.{◌≡◌, rules, ◌∙◌, ap₂}
 use Rattle.std.proofs.lemmas.Result.{IfOk-weaker}
 use Rattle.search_tables.specs.View.{table_in}
-use Rattle.search.specs.SearchOutcomes.{machines}
+use Rattle.search_tables.specs.SearchTables.{machines}
 use Rattle.show_search_views.specs.SearchPictures.{marks_of, search_picture}
 use Rattle.show_search_views.proofs.pictures.search_picture.Goals as goal
 

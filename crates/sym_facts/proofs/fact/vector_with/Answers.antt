@@ -1,5 +1,5 @@
 use Rattle.std.proofs.Common.{◌+◌, ◌++◌, ◌∷◌, map, drop, ap, sym, ◌∙◌, arith}
-use Rattle.base_lemmas.proofs.Lists.{drop_next}
+use Rattle.fs_model.proofs.Lists.{drop_next}
 use Rattle.sym_facts.specs.Facts.{vector_of}
 use Rattle.sym_facts.specs.View.{position_in}
 use Rattle.sym_facts.proofs.Vectors.{put_last}

@@ -1,6 +1,6 @@
 use Rattle.std.proofs.Common.{◌≡◌, ◌-◌, ◌^◌, ◌<◌, min, drop}
 use Rattle.std.specs.List.{fold}
-use Rattle.base_integers.specs.Digits.{with_digit, value_of_digits}
+use Rattle.fs_model.specs.Digits.{with_digit, value_of_digits}
 use Rattle.term_values.proofs.numbers.saturated.Given as goal
 
 abbrev pub invariant-loop-digit : goal.invariant-loop-digit

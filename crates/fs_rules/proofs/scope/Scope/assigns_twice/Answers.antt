@@ -3,7 +3,7 @@ use Rattle.std.specs.Prelude.{not}
 use Rattle.std.specs.Ordering.{nat_cmp}
 use Rattle.std.specs.BTreeMap.{is_at}
 use Rattle.std.specs.List.{list_any}
-use Rattle.base_lemmas.proofs.Lists.{map_map}
+use Rattle.fs_model.proofs.Lists.{map_map}
 use Rattle.fs_model.specs.View.{named_assignment}
 use Rattle.fs_model.specs.Renamed.{assignment_over}
 use Rattle.fs_rules.specs.MachineOfParts.{place_or_end, names_of}

@@ -1,6 +1,6 @@
 use Rattle.std.proofs.Common.{◌∙◌, subst, ◌≤◌}
 use Rattle.std.specs.Prelude.{map}
-use Rattle.base_lemmas.proofs.Lists.{length_map}
+use Rattle.fs_model.proofs.Lists.{length_map}
 use Rattle.fs_model.specs.Source.{SourceState}
 use Rattle.fs_model.specs.View.{source_state_of}
 use Rattle.fs_rules.proofs.scope.Scope.state_place.Goals as goal

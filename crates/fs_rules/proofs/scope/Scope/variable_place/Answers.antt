@@ -1,5 +1,5 @@
 use Rattle.std.proofs.Common.{subst, ◌≤◌}
-use Rattle.base_lemmas.proofs.Lists.{length_map}
+use Rattle.fs_model.proofs.Lists.{length_map}
 use Rattle.fs_model.specs.declared.parts.VarInfo.{VarInfo}
 use Rattle.fs_rules.proofs.scope.Scope.variable_place.Goals as goal
 

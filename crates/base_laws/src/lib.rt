@@ -1,15 +1,16 @@
-//! Division of integers that truncates toward zero and is total.
+//! Division of integers that truncates toward zero and is total; laws of integers, and lemmas on tests, numbers, lists and
+//! options that proofs of many crates cite. `fs_model` passes all of them on.
 //!
 //! Promises: quotient and remainder, total; laws of `+`, `*` and division.
 //!
-//! Rules: `specs/Division`, `src/laws`.
+//! Rules: `specs/Division`, `src/laws`; the lemmas stand in `proofs/`.
 #![tactic(auto)]
 
 pub mod laws;
 
 ghost use Rattle.std.specs.Prelude.{◌≡◌, SomeIff, FitsSigned};
 ghost use Rattle.std.specs.Int.{w128};
-ghost use Rattle.base_integers.specs.Division.{quotient as quotient_of, remainder as remainder_of};
+ghost use Rattle.base_laws.specs.Division.{quotient as quotient_of, remainder as remainder_of};
 
 /// The quotient, truncated toward zero, and 0 for the divisor 0.
 ///

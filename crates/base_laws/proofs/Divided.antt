@@ -3,8 +3,8 @@ use Rattle.std.proofs.Common.{◌≡◌, zero, suc, ℤ, pos, negsuc, ◌+ℤ◌
 use Rattle.std.specs.Prelude.{◌≢◌, ◌<◌, ◌≤ℤ◌, Bool, true, false, cond, unsigned_abs, int_div, int_rem}
 use Rattle.std.specs.Ordering.{int_eq}
 use Rattle.std.proofs.lemmas.Int.{ints, quot-rem, rem_below}
-use Rattle.base_lemmas.proofs.Integers.{int_eq_zero-false}
-use Rattle.base_integers.specs.Division.{quotient, remainder}
+use Rattle.base_laws.proofs.Integers.{int_eq_zero-false}
+use Rattle.base_laws.specs.Division.{quotient, remainder}
 
 quotient_is : (a b : ℤ) → b ≢ pos 0 → quotient a b ≡ int_div a b
 quotient_is a b h = ap (λ t. cond t (pos 0) (int_div a b)) (int_eq_zero-false b h)

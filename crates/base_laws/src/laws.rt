@@ -1,7 +1,7 @@
 //! Laws of division, over the definitions alone. The functions do nothing.
 
 ghost use Rattle.std.specs.Prelude.{◌≡◌, ◌≢◌, ◌<◌, ℤ, pos, ◌+ℤ◌, ◌*ℤ◌, ◌≤ℤ◌, unsigned_abs};
-ghost use Rattle.base_integers.specs.Division.{quotient, remainder};
+ghost use Rattle.base_laws.specs.Division.{quotient, remainder};
 
 /// A quotient times its divisor, and the remainder, make the dividend; the divisor is not 0.
 pub fn quotient_and_remainder_make_the_dividend()

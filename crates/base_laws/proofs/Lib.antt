@@ -5,3 +5,5 @@ pub mod Orderings
 pub mod Options
 pub mod Lists
 pub mod Quantifiers
+pub mod Divided
+pub mod Ring

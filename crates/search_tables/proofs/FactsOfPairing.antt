@@ -2,13 +2,13 @@
 use Rattle.std.proofs.Common.{◌≡◌, ℕ, zero, suc, inl, inr, subst, List, [], ◌∷◌}
 use Rattle.std.specs.Prelude.{slice_set}
 use Rattle.std.specs.List.{AllByRecursion}
-use Rattle.base_lemmas.proofs.Quantifiers.{each_append, each_at}
+use Rattle.fs_model.proofs.Quantifiers.{each_append, each_at}
 use Rattle.fs_cut.specs.Paths.{Point}
 use Rattle.fs_pair.specs.declared.positions.Position.{Position}
 use Rattle.sym_paths.specs.Execution.{Post, arrive, end_of}
 use Rattle.sym_facts.specs.Facts.{vector_of}
 use Rattle.sym_facts.specs.Pairings.{IsFactOf}
-use Rattle.sym_facts.specs.Starts.{start_fact}
+use Rattle.sym_facts.proofs.StartSolved.{of_the_pairing}
 use Rattle.propagate.proofs.Paired.{rebase_paired}
 use Rattle.propagate.proofs.JoinPaired.{join_paired}
 use Rattle.search_tables.specs.declared.moves.Move.{Move}
@@ -21,7 +21,7 @@ use Rattle.search_tables.proofs.Changing.{next_does, Adds, Weakens, arrives_so}
 abbrev pub AreOf : List Position → Table → Type 0
 AreOf ps T = AllByRecursion (λ (n : SearchNode). IsFactOf ps n.fact) T
 
-all_set : (P : SearchNode → Type 0) (ns : List SearchNode) (k : ℕ) (x : SearchNode) → AllByRecursion P ns → P x → AllByRecursion P (slice_set ns k x)
+pub all_set : (P : SearchNode → Type 0) (ns : List SearchNode) (k : ℕ) (x : SearchNode) → AllByRecursion P ns → P x → AllByRecursion P (slice_set ns k x)
 all_set P [] k x h g = tt
 all_set P (n ∷ ns) zero x h g = (g, h.1)
 all_set P (n ∷ ns) (suc k) x h g = (h.0, all_set P ns k x h.1 g)
@@ -55,5 +55,5 @@ module _ (m : MachinePair) where
   lead_of [] S T h e = subst (AreOf (positions_of m)) e h
   lead_of (x ∷ xs) S T h e = lead_of xs e.0 T (next_of S e.0 x h e.2) e.3
 
-  pub legal_facts : IsFactOf (positions_of m) (start_fact (positions_of m)) → (moves : List Move) (T : Table) → Makes m moves T → AreOf (positions_of m) T
-  legal_facts h moves T e = lead_of moves (first_table m) T (h, tt) e.lead
+  pub legal_facts : (moves : List Move) (T : Table) → Makes m moves T → AreOf (positions_of m) T
+  legal_facts moves T e = lead_of moves (first_table m) T (of_the_pairing m.left m.right, tt) e.lead

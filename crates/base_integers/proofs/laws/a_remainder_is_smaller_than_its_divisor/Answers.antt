@@ -1,5 +1,0 @@
-use Rattle.base_integers.proofs.Divided.{smaller}
-use Rattle.base_integers.proofs.laws.a_remainder_is_smaller_than_its_divisor.Goals as goal
-
-pub returns : goal.returns
-returns c = smaller
