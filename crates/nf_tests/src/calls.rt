@@ -136,12 +136,23 @@ fn holds(alloc: Global, vector: &Vector, text: &str) -> Result<bool, Trouble> {
     Ok(found && vector.form(Sort::Scalar, B).is_none() && vector.number(alloc, &B)?.mentions(B))
 }
 
+// Puts the form of a text into a vector, at a position alone.
+fn put_form(alloc: Global, vector: &mut Vector, text: &str) -> Result<(), Trouble> {
+    let form = form(alloc, text)?;
+    Ok(vector.put(M, form)?)
+}
+
+// Whether a copy of a vector has the form of a text.
+fn copy_holds(alloc: Global, vector: &Vector, text: &str) -> Result<bool, Trouble> {
+    let copy = vector.try_clone(alloc)?;
+    holds(alloc, &copy, text)
+}
+
 // Whether a vector that the form of a text is put into has it, and a copy of the vector too.
 fn is_put(alloc: Global, text: &str) -> Result<bool, Trouble> {
     let mut vector = Vector::new(alloc);
-    vector.put(M, form(alloc, text)?)?;
-    let copy = vector.try_clone(alloc)?;
-    Ok(holds(alloc, &vector, text)? && holds(alloc, &copy, text)?)
+    put_form(alloc, &mut vector, text)?;
+    Ok(holds(alloc, &vector, text)? && copy_holds(alloc, &vector, text)?)
 }
 
 #[test]
@@ -201,17 +212,21 @@ fn gives_back(alloc: Global, bank: &Bank, text: &str, number: u64) -> Result<boo
     Ok(is_same_atom(&atom, &again))
 }
 
-// Whether atoms have these numbers: those inside an atom before it, and an atom that is there keeps its own.
-fn are_numbered(alloc: Global) -> Result<bool, Trouble> {
-    let mut bank = Bank::new(alloc);
-    let quotient = number_put(alloc, &mut bank, "a b /")?;
-    let again = number_put(alloc, &mut bank, "b")?;
-    let read = number_put(alloc, &mut bank, "@m a b / c + []")?;
+// Whether an empty bank gives atoms these numbers: those inside an atom before it, and an atom that is there keeps its own.
+fn numbers_atoms(alloc: Global, bank: &mut Bank) -> Result<bool, Trouble> {
+    let quotient = number_put(alloc, bank, "a b /")?;
+    let again = number_put(alloc, bank, "b")?;
+    let read = number_put(alloc, bank, "@m a b / c + []")?;
     Ok(
         (quotient, again, read, bank.len()) == (2, 1, 4, 5)
-            && gives_back(alloc, &bank, "a b /", 2)?
-            && gives_back(alloc, &bank, "c", 3)?,
+            && gives_back(alloc, bank, "a b /", 2)?
+            && gives_back(alloc, bank, "c", 3)?,
     )
+}
+
+fn are_numbered(alloc: Global) -> Result<bool, Trouble> {
+    let mut bank = Bank::new(alloc);
+    numbers_atoms(alloc, &mut bank)
 }
 
 #[test]

@@ -46,12 +46,19 @@ fn again(alloc: Global, form: &Nf, subst: &mut Subst) -> Result<Nf, NfStop> {
     }
 }
 
+// Whether a substitution gives a form.
+fn gives_again(alloc: Global, subst: &mut Subst, form: &Nf, wanted: &Nf) -> Result<bool, Trouble> {
+    let found = again(alloc, form, subst)?;
+    Ok(found.is_same(wanted))
+}
+
 // Whether a kept substitution gives a form twice.
 fn kept(alloc: Global, vector: &Vector, form: &Nf, wanted: &Nf) -> Result<bool, Trouble> {
     let mut subst = Subst::new(alloc, vector);
-    let first = again(alloc, form, &mut subst)?;
-    let second = again(alloc, form, &mut subst)?;
-    Ok(first.is_same(wanted) && second.is_same(wanted))
+    Ok(
+        gives_again(alloc, &mut subst, form, wanted)?
+            && gives_again(alloc, &mut subst, form, wanted)?,
+    )
 }
 
 // Whether a row's form over its vector is its other form.
@@ -62,11 +69,16 @@ fn gives(alloc: Global, row: &str) -> Result<bool, Trouble> {
     holds(alloc, &vector, left, right)
 }
 
+// Whether a form over a vector is another form, by a substitution for it alone and by one that is kept.
+fn is_given(alloc: Global, vector: &Vector, form: &Nf, wanted: &Nf) -> Result<bool, Trouble> {
+    let found = substituted(alloc, form, vector)?;
+    Ok(found.is_same(wanted) && kept(alloc, vector, form, wanted)?)
+}
+
 fn holds(alloc: Global, vector: &Vector, left: &str, right: &str) -> Result<bool, Trouble> {
     let form_of_left = form(alloc, left)?;
     let wanted = form(alloc, right)?;
-    let found = substituted(alloc, &form_of_left, vector)?;
-    Ok(found.is_same(&wanted) && kept(alloc, vector, &form_of_left, &wanted)?)
+    is_given(alloc, vector, &form_of_left, &wanted)
 }
 
 const SUBSTITUTIONS: &str = "a = b | a 1 + : b 1 +
