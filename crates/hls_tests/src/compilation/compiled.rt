@@ -176,26 +176,36 @@ state k5:
   goto k0: y = a;
 ";
 
+// if left < right { y = name; }, and what stands behind else
+fn choice(alloc: Global, left: &str, right: &str, name: &str, no: Vec<Stmt>) -> Result<Stmt, Fail> {
+    let yes = alone(alloc, copies(alloc, 1, "y", name)?)?;
+    let guard = less(alloc, left, right)?;
+    Ok(Stmt::If {
+        line: 1,
+        guard,
+        yes,
+        no,
+    })
+}
+
+// if a < n { y = a; } if n < a { y = n; } else { y = a; }
+fn choices(alloc: Global) -> Result<Vec<Stmt>, Fail> {
+    let mut body = alone(alloc, choice(alloc, "a", "n", "a", Vec::new(alloc))?)?;
+    let no = alone(alloc, copies(alloc, 1, "y", "a")?)?;
+    body.push(choice(alloc, "n", "a", "n", no)?)?;
+    Ok(body)
+}
+
 // prog; input a, n; output y; local i; { if a < n { y = a; } if n < a { y = n; } else { y = a; } }
 #[test]
 fn an_absent_else_goes_on(rt: HostRuntime) -> Result<(), Fail> {
     let alloc = rt.alloc();
     let decls = declarations(alloc)?;
-    let mut body = Vec::new(alloc);
-    body.push(Stmt::If {
-        line: 1,
-        guard: less(alloc, "a", "n")?,
-        yes: alone(alloc, copies(alloc, 1, "y", "a")?)?,
-        no: Vec::new(alloc),
-    })?;
-    body.push(Stmt::If {
-        line: 1,
-        guard: less(alloc, "n", "a")?,
-        yes: alone(alloc, copies(alloc, 1, "y", "n")?)?,
-        no: alone(alloc, copies(alloc, 1, "y", "a")?)?,
-    })?;
-    let program = Program { decls, body };
-    assert_eq!(rt; text(alloc, &program)?.as_slice(), CHOICE.as_bytes());
+    let body = choices(alloc)?;
+    assert_eq!(rt;
+        text(alloc, &Program { decls, body })?.as_slice(),
+        CHOICE.as_bytes()
+    );
     Ok(())
 }
 
