@@ -1,4 +1,5 @@
 pub mod Copying
 pub mod Entries
 pub mod Known
+pub mod FirstFactors
 pub mod Values

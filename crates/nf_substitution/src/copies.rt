@@ -31,7 +31,7 @@ pub fn copy_forms(
 ) -> Result<IndexMap<Place, SharedForm>, NoMemory>
     ensures { IfOk result (λ copy. copy.entries ≡ forms.now.entries) }
 {
-    let mut copy = IndexMap::new(alloc);
+    let mut copy = IndexMap::with_capacity(alloc, forms.len())?;
     for (place, form) in forms.iter() {
         insert_copy(&mut copy, place, form)?;
     }

@@ -1,15 +1,16 @@
 //! The substituted values of terms that are given by numbers.
 
-ghost use Rattle.std.specs.Prelude.{◌<◌, ◌≤◌, length};
+ghost use Rattle.std.specs.Prelude.{◌<◌, ◌≤◌, length, pos};
 ghost use Rattle.nf_terms.specs.Computed.{Answers, after};
 ghost use Rattle.nf_sums.specs.Operations.{number as number_of};
 ghost use Rattle.nf_bank.specs.AtomNumbers.{bound_of_term, bound_of_sum, bound_of_array, bound_of_node, atom_of_number};
-ghost use Rattle.nf_bank.specs.AtomNumbers.{monomial_over, sum_over, array_over, atom_over};
+ghost use Rattle.nf_bank.specs.AtomNumbers.{bound_over, bound_of_number, monomial_over, sum_over, array_over, atom_over};
 ghost use Rattle.nf_substitution.specs.Substitution.{atom_substituted, atoms_substituted, polynomial_substituted};
 ghost use Rattle.nf_substitution.specs.Substitution.{array_substituted};
 ghost use Rattle.nf_substitution.specs.Keeping.{AreValues};
 
 use crate::memo::Memo;
+use crate::shared_number::SharedNumber;
 use crate::vector::Vector;
 use nf_arrays::division::{div, rem};
 use nf_arrays::reads::read;
@@ -32,18 +33,19 @@ fn number_value(
     bank: &Bank,
     memo: &mut Memo,
     id: AtomId,
-) -> Result<Poly, NfStop>
+) -> Result<SharedNumber, NfStop>
     requires within { id.0 < length bank.now }
     requires known { AreValues vector.now bank.now memo.old }
     ensures answers { Answers result (atom_substituted vector.now (atom_of_number bank.now id)) }
     ensures known { AreValues vector.now bank.now memo.new }
 {
-    if let Some(value) = memo.get(alloc, id)? {
+    if let Some(value) = memo.get(id)? {
         return Ok(value);
     }
     let value = atom_value(alloc, vector, bank, memo, bank.node(id))?;
-    memo.keep(alloc, id, &value)?;
-    Ok(value)
+    let shared = SharedNumber::of(alloc, value)?;
+    memo.keep(id, &shared)?;
+    Ok(shared)
 }
 
 // The operation of an atom on its substituted parts.
@@ -80,28 +82,78 @@ fn atom_value(
     }
 }
 
-// A coefficient times the values of the atoms of a monomial.
+// A number times the values of atoms.
 #[cycle(evaluation)]
 #[tactic(auto, using(nf_bank::proofs::Bounds::bound_of_item))]
+fn product_value(
+    alloc: Global,
+    vector: &Vector,
+    bank: &Bank,
+    memo: &mut Memo,
+    first: SharedNumber,
+    atoms: &[AtomId],
+) -> Result<SharedNumber, NfStop>
+    requires within { bound_over bound_of_number atoms.now ≤ length bank.now }
+    requires known { AreValues vector.now bank.now memo.old }
+    ensures answers { Answers result (atoms_substituted vector.now (monomial_over bank.now atoms.now) first) }
+    ensures known { AreValues vector.now bank.now memo.new }
+{
+    let mut so_far = first;
+    for id in atoms {
+        let factor = number_value(alloc, vector, bank, memo, *id)?;
+        let product = mul(alloc, so_far.number(), factor.number())?;
+        so_far = SharedNumber::of(alloc, product)?;
+    }
+    Ok(so_far)
+}
+
+// The values of atoms, multiplied: that of the first stands for its product with 1.
+#[cycle(evaluation)]
+fn monomial_value(
+    alloc: Global,
+    vector: &Vector,
+    bank: &Bank,
+    memo: &mut Memo,
+    atoms: &[AtomId],
+) -> Result<SharedNumber, NfStop>
+    requires within { bound_over bound_of_number atoms.now ≤ length bank.now }
+    requires known { AreValues vector.now bank.now memo.old }
+    ensures answers { Answers result
+        (after (number_of (pos 1)) (atoms_substituted vector.now (monomial_over bank.now atoms.now))) }
+    ensures known { AreValues vector.now bank.now memo.new }
+{
+    match atoms {
+        [] => Ok(SharedNumber::of(alloc, Poly::number(alloc, 1)?)?),
+        [id, rest @ ..] => {
+            let first = number_value(alloc, vector, bank, memo, *id)?;
+            let _number = first.number(); // The call tells the proof that the value is normal.
+            product_value(alloc, vector, bank, memo, first, rest)
+        }
+    }
+}
+
+// A coefficient times the values of the atoms of a monomial.
+#[cycle(evaluation)]
 fn term_value(
     alloc: Global,
     vector: &Vector,
     bank: &Bank,
     memo: &mut Memo,
     term: &Term,
-) -> Result<Poly, NfStop>
+) -> Result<SharedNumber, NfStop>
     requires within { bound_of_term term.now ≤ length bank.now }
     requires known { AreValues vector.now bank.now memo.old }
     ensures answers { Answers result
         (after (number_of term.now.coefficient) (atoms_substituted vector.now (monomial_over bank.now term.now.atoms))) }
     ensures known { AreValues vector.now bank.now memo.new }
 {
-    let mut so_far = number(alloc, &term.coefficient)?;
-    for id in term.atoms.as_slice() {
-        let factor = number_value(alloc, vector, bank, memo, *id)?;
-        so_far = mul(alloc, &so_far, &factor)?;
+    let atoms = term.atoms.as_slice();
+    if term.coefficient == 1 {
+        return monomial_value(alloc, vector, bank, memo, atoms);
     }
-    Ok(so_far)
+    let coefficient = number(alloc, &term.coefficient)?;
+    let first = SharedNumber::of(alloc, coefficient)?;
+    product_value(alloc, vector, bank, memo, first, atoms)
 }
 
 /// A polynomial with the vector's forms in place of its symbols.
@@ -122,7 +174,7 @@ pub(crate) fn sum_value(
     let mut so_far = Accumulator::new(alloc);
     for term in terms {
         let value = term_value(alloc, vector, bank, memo, term)?;
-        so_far = so_far.add(alloc, &value)?;
+        so_far = so_far.add(alloc, value.number())?;
     }
     Ok(so_far.into_poly())
 }

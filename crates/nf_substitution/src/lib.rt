@@ -14,5 +14,6 @@ pub mod laws;
 mod memo;
 mod place;
 pub mod shared_form;
+mod shared_number;
 pub mod subst;
 pub mod vector;

@@ -3,8 +3,8 @@
 ghost use Rattle.std.specs.Prelude.{◌≡◌, ◌≢◌, ◌<◌, ℕ, [], Some, length, take, option_map, IfOk, OnOk, OnErr};
 ghost use Rattle.nf_substitution.specs.Keeping.{known_value};
 
+use crate::shared_number::SharedNumber;
 use nf_bank::node::AtomId;
-use nf_terms::poly::Poly;
 use nf_terms::stop::NoMemory;
 use std::alloc::Global;
 use std::marker::Model;
@@ -12,7 +12,7 @@ use std::marker::Model;
 /// The values of atoms by their numbers, as far as they are known.
 #[derive(Drop)]
 pub(crate) struct Memo {
-    by_number: Vec<Option<Poly>>,
+    by_number: Vec<Option<SharedNumber>>,
 }
 
 impl Model for Memo {
@@ -39,7 +39,7 @@ impl Memo {
     }
 
     // The value of a number.
-    fn known(&self, id: AtomId) -> Option<&Poly>
+    fn known(&self, id: AtomId) -> Option<&SharedNumber>
         ensures { option_map (λ p. p.now) result ≡ known_value self.now id.0 }
     {
         match self.by_number.get(id.0 as usize) {
@@ -48,12 +48,12 @@ impl Memo {
         }
     }
 
-    /// A copy of the value of a number, if it is known. The one refusal is out of memory.
-    pub(crate) fn get(&self, alloc: Global, id: AtomId) -> Result<Option<Poly>, NoMemory>
+    /// The value of a number, shared, if it is known. The one refusal is out of memory.
+    pub(crate) fn get(&self, id: AtomId) -> Result<Option<SharedNumber>, NoMemory>
         ensures { IfOk result (λ value. value ≡ known_value self.now id.0) }
     {
         match self.known(id) {
-            Some(value) => Ok(Some(value.try_clone(alloc)?)),
+            Some(value) => Ok(Some(value.try_clone()?)),
             None => Ok(None),
         }
     }
@@ -70,13 +70,13 @@ impl Memo {
         Ok(())
     }
 
-    /// Keeps a copy of the value of a number. The one refusal is out of memory.
-    pub(crate) fn keep(&mut self, alloc: Global, id: AtomId, value: &Poly) -> Result<(), NoMemory>
+    /// Keeps the value of a number, shared. The one refusal is out of memory.
+    pub(crate) fn keep(&mut self, id: AtomId, value: &SharedNumber) -> Result<(), NoMemory>
         ensures kept { OnOk result (known_value self.new id.0 ≡ Some value.now) }
         ensures others { (k : ℕ) → k ≢ id.0 → known_value self.new k ≡ known_value self.old k }
         ensures refused { OnErr result ((k : ℕ) → known_value self.new k ≡ known_value self.old k) }
     {
-        let copy = value.try_clone(alloc)?;
+        let copy = value.try_clone()?;
         self.make_room(id)?;
         self.by_number[id.0 as usize] = Some(copy);
         Ok(())

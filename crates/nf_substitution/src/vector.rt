@@ -1,6 +1,9 @@
 //! Vectors: normal forms for positions.
 
 ghost use Rattle.std.specs.Prelude.{◌≡◌, [], Some, option_map, IsTrue, IfOk, OnOk, OnErr};
+ghost use Rattle.std.specs.Ordering.{is_eq};
+ghost use Rattle.nf_terms.specs.Order.{cmp_polynomial, cmp_array};
+ghost use Rattle.nf_terms.specs.Lists.{cmp_list};
 ghost use Rattle.nf_substitution.specs.Vectors.{form_at, form_of, has_form, number_at, array_form, list_at, array_of_base};
 ghost use Rattle.nf_substitution.specs.Vectors.{list_of_base};
 ghost use Rattle.nf_substitution.specs.Vectors.{with_form, AreNormalForms};
@@ -48,6 +51,15 @@ impl Vector {
         Vector {
             forms: IndexMap::new(alloc),
         }
+    }
+
+    /// No form for any position, with room for so many forms. The one refusal is out of memory.
+    pub fn with_capacity(alloc: Global, count: usize) -> Result<Vector, NoMemory>
+        ensures { IfOk result (λ v. v ≡ []) }
+    {
+        Ok(Vector {
+            forms: IndexMap::with_capacity(alloc, count)?,
+        })
     }
 
     /// A copy, which shares the forms. The one refusal is out of memory.
@@ -159,6 +171,36 @@ impl Vector {
         match self.form(Sort::List, *p) {
             Some(Nf::Seq(list)) => list.try_clone(alloc),
             _ => Ok(Seq::bare(alloc, SeqBase::Sym(*p))),
+        }
+    }
+
+    /// Whether a number is that of a position. The one refusal is out of memory.
+    pub fn has_number(&self, alloc: Global, p: &Pos, number: &Poly) -> Result<bool, NoMemory>
+        ensures { IfOk result (λ b. b ≡ is_eq (cmp_polynomial (number_at self.now p.now) number.now)) }
+    {
+        match self.form(Sort::Scalar, *p) {
+            Some(Nf::Num(own)) => Ok(own == number),
+            _ => Ok(&Poly::symbol(alloc, *p)? == number),
+        }
+    }
+
+    /// Whether an array is that of a position.
+    pub fn has_array(&self, alloc: Global, p: &Pos, array: &Arr) -> bool
+        ensures { result ≡ is_eq (cmp_array (array_form self.now p.now) array.now) }
+    {
+        match self.form(Sort::Array, *p) {
+            Some(Nf::Arr(own)) => own == array,
+            _ => &Arr::bare(alloc, Base::Sym(*p)) == array,
+        }
+    }
+
+    /// Whether a list is that of a position.
+    pub fn has_list(&self, alloc: Global, p: &Pos, list: &Seq) -> bool
+        ensures { result ≡ is_eq (cmp_list (list_at self.now p.now) list.now) }
+    {
+        match self.form(Sort::List, *p) {
+            Some(Nf::Seq(own)) => own == list,
+            _ => &Seq::bare(alloc, SeqBase::Sym(*p)) == list,
         }
     }
 

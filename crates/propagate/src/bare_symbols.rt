@@ -4,11 +4,15 @@ ghost use Rattle.std.specs.Prelude.{◌≡◌, [], ◌∷◌};
 ghost use Rattle.nf_terms.specs.View.{atom_in, monomial_in};
 ghost use Rattle.nf_terms.specs.NormalTerms.{polynomial_of};
 ghost use Rattle.propagate.specs.Rebases.{lone_atom, lone_symbol, bare_number, symbol_of_array, symbol_of_list, bare_symbol};
+ghost use Rattle.propagate.specs.Rebases.{value_at};
 
+use fs_model::parts::Sort;
+use nf_substitution::vector::Vector;
 use nf_terms::arr::Arr;
 use nf_terms::form::Nf;
 use nf_terms::poly::Poly;
 use nf_terms::seq::Seq;
+use nf_terms::symbols::Sort as TermSort;
 use nf_terms::tree::{Atom, Base, MonoTree, Pos, SeqBase};
 
 // The symbol that an atom is.
@@ -80,13 +84,22 @@ fn bare_list(list: &Seq) -> Option<Pos>
     }
 }
 
-/// The symbol that a form is.
-pub fn bare_symbol(form: &Nf) -> Option<Pos>
-    ensures { result ≡ bare_symbol form.now }
+/// The symbol that a vector has at a position of a sort, where it has a symbol there.
+pub fn bare_symbol(v: &Vector, sort: Sort, p: Pos) -> Option<Pos>
+    ensures { result ≡ bare_symbol (value_at v.now sort p) }
 {
-    match form {
-        Nf::Num(number) => bare_number(number),
-        Nf::Arr(array) => bare_array(array),
-        Nf::Seq(list) => bare_list(list),
+    match sort {
+        Sort::Scalar => match v.form(TermSort::Scalar, p) {
+            Some(Nf::Num(number)) => bare_number(number),
+            _ => Some(p),
+        },
+        Sort::Array => match v.form(TermSort::Array, p) {
+            Some(Nf::Arr(array)) => bare_array(array),
+            _ => Some(p),
+        },
+        Sort::Port => match v.form(TermSort::List, p) {
+            Some(Nf::Seq(list)) => bare_list(list),
+            _ => Some(p),
+        },
     }
 }

@@ -34,24 +34,18 @@ struct Marked {
 }
 
 // The symbol that is not held and that the value of a position is.
-fn symbol_found(
-    alloc: Global,
-    v: &Vector,
-    meanings: &Vector,
-    p: &Position,
-) -> Result<Option<Pos>, NoMemory>
-    ensures { IfOk result (λ o. o ≡ symbol_found v.now meanings.now p.now.sort p.now.pos) }
+fn symbol_found(v: &Vector, meanings: &Vector, p: &Position) -> Option<Pos>
+    ensures { result ≡ symbol_found v.now meanings.now p.now.sort p.now.pos }
 {
-    let value = value_at(alloc, v, p.sort, &p.pos)?;
-    match bare_symbol(&value) {
+    match bare_symbol(v, p.sort, p.pos) {
         Some(x) => {
             if is_held(meanings, x, sort_of_terms(p.sort)) {
-                Ok(None)
+                None
             } else {
-                Ok(Some(x))
+                Some(x)
             }
         }
-        None => Ok(None),
+        None => None,
     }
 }
 
@@ -67,7 +61,7 @@ fn holds_symbol(
         (λ b. meanings.new ≡ with_found (symbol_found v.now meanings.old p.now.sort p.now.pos) p.now.sort p.now.pos
         meanings.old) }
 {
-    match symbol_found(alloc, v, meanings, p)? {
+    match symbol_found(v, meanings, p) {
         Some(x) => {
             meanings.put(x, own_symbol(alloc, p.sort, p.pos)?)?;
             Ok(true)

@@ -71,10 +71,20 @@ fn form_met(
     ensures answers { Answers result (equation_is_met v.now p.now (Some shared.now)) }
     ensures vector { s.new.vector ≡ s.old.vector }
 {
-    let form = shared.form();
-    let value = substitute(alloc, s, form)?;
-    let arriving = form_like(alloc, v, p, form)?;
-    Ok(arriving.is_same(&value))
+    match shared.form() {
+        Nf::Num(number) => {
+            let value = s.poly(alloc, number)?;
+            Ok(v.has_number(alloc, p, &value)?)
+        }
+        Nf::Arr(array) => {
+            let value = s.arr(alloc, array)?;
+            Ok(v.has_array(alloc, p, &value))
+        }
+        Nf::Seq(list) => {
+            let value = s.seq(alloc, list)?;
+            Ok(v.has_list(alloc, p, &value))
+        }
+    }
 }
 
 // Whether the arriving form of a position is its equation's, substituted.

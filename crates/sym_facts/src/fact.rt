@@ -252,7 +252,7 @@ fn vector_with(alloc: Global, positions: &[FactPosition]) -> Result<Vector, NoMe
     requires { IsTrue (are_distinct_positions (map (λ p. p.pos) (map position_in positions.now))) }
     ensures { IfOk result (λ v. v ≡ vector_of (map position_in positions.now)) }
 {
-    let mut v = Vector::new(alloc);
+    let mut v = Vector::with_capacity(alloc, positions.len())?;
     for position in positions {
         v.put_shared(position.pos, form_at(alloc, position)?)?;
     }
