@@ -8,11 +8,12 @@
 //! - term (of a certificate): a polynomial, an array or a list as it is written
 #![tactic(auto)]
 
-mod brackets;
+pub mod brackets;
 pub mod fault;
 mod parts;
 pub mod reader;
 mod scan;
 mod signs;
+pub mod sums;
 mod terms;
 pub mod tree;

@@ -26,6 +26,17 @@ pub fn expect(bytes: &[u8], b: u8) -> Result<&[u8], ReadError>
     }
 }
 
+/// Takes three bytes, which must come one after another.
+pub fn expect_three(bytes: &[u8], first: u8, second: u8, third: u8) -> Result<&[u8], ReadError>
+    ensures goes { (s : Owed) → Goes result (term_reading bytes.now (expect first (expect second (expect third s))))
+        (λ r. term_reading r.now s) }
+    ensures shorter { IfOk result (λ r. length r.now < length bytes.now) }
+{
+    let rest = expect(bytes, first)?;
+    let rest = expect(rest, second)?;
+    expect(rest, third)
+}
+
 fn digits_len(bytes: &[u8]) -> usize
     ensures is { result ≡ prefix_len is_digit bytes.now }
     ensures fits { result ≤ length bytes.now }

@@ -4,7 +4,7 @@ ghost use Rattle.std.specs.Prelude.{◌<◌, ◌≤◌, map, length, IfOk};
 ghost use Rattle.term_text.specs.Machine.{ForPolynomial, ForArray, ForMonomial, ForAtom, in_atom, term_reading, Goes, EndsWrites};
 ghost use Rattle.term_text.specs.Machine.{EndsMonomial, EndsTermSum, at_polynomial, at_monomial, at_atom, at_symbol, at_sign};
 ghost use Rattle.term_text.specs.Machine.{after_array, after_monomial, after_sum, after_polynomial, atom_done, monomial_done};
-ghost use Rattle.term_text.specs.Machine.{first_monomial_for, read_of, dividend, modulend};
+ghost use Rattle.term_text.specs.Machine.{expect, first_monomial_for, read_of, dividend, modulend};
 ghost use Rattle.term_text.specs.TermTexts.{Sum};
 ghost use Rattle.term_text.specs.View.{written_atom_in, head_in, written_monomial_in, written_polynomial_in, written_array_in};
 ghost use Rattle.term_text.specs.View.{base_in, written_term_in, sum_of, more_sum};
@@ -13,7 +13,7 @@ use crate::fault::ReadError;
 use crate::parts::{
     first_of, make_quotient, make_read, make_remainder, one, push_atom, push_monomial, push_write,
 };
-use crate::scan::{expect, number, word};
+use crate::scan::{expect, expect_three, number, word};
 use crate::signs::{
     begins_with_digit, begins_with_zero_or_minus, close_brace, close_bracket, close_paren, colon,
     comma, goes_on_as_array, open_bracket, sign,
@@ -31,37 +31,19 @@ fn atom<'a>(alloc: Global, bytes: &'a [u8]) -> Result<(WrittenAtom<'a>, &'a [u8]
     ensures shorter { IfOk result (λ x. length x.1.now < length bytes.now) }
 {
     match bytes {
-        [b'L', rest @ ..] => {
-            let rest = expect(rest, b'.')?;
-            symbol(alloc, Side::Left, rest)
-        }
-        [b'R', rest @ ..] => {
-            let rest = expect(rest, b'.')?;
-            symbol(alloc, Side::Right, rest)
-        }
-        [b'd', rest @ ..] => {
-            let rest = expect(rest, b'i')?;
-            let rest = expect(rest, b'v')?;
-            let rest = expect(rest, b'(')?;
-            quotient(alloc, rest)
-        }
-        [b'r', rest @ ..] => {
-            let rest = expect(rest, b'e')?;
-            let rest = expect(rest, b'm')?;
-            let rest = expect(rest, b'(')?;
-            remainder(alloc, rest)
-        }
+        [b'L', rest @ ..] => symbol(alloc, Side::Left, rest),
+        [b'R', rest @ ..] => symbol(alloc, Side::Right, rest),
+        [b'd', rest @ ..] => quotient(alloc, expect_three(rest, b'i', b'v', b'(')?),
+        [b'r', rest @ ..] => remainder(alloc, expect_three(rest, b'e', b'm', b'(')?),
         [b'z', rest @ ..] => {
-            let rest = expect(rest, b'e')?;
-            let rest = expect(rest, b'r')?;
-            let rest = expect(rest, b'o')?;
+            let rest = expect_three(rest, b'e', b'r', b'o')?;
             read(alloc, WrittenBase::Zero, rest)
         }
         _ => Err(ReadError::BadTerm),
     }
 }
 
-// A symbol, or the array that it is the base of.
+// A symbol after the letter of its side, or the array that it is the base of.
 #[cycle(terms)]
 #[tactic(auto, using(crate::proofs::Steps::atom_ends, crate::proofs::Steps::array_goes))]
 fn symbol<'a>(
@@ -69,11 +51,11 @@ fn symbol<'a>(
     side: Side,
     bytes: &'a [u8],
 ) -> Result<(WrittenAtom<'a>, &'a [u8]), ReadError>
-    ensures goes { (k : ForAtom) → Goes result (term_reading bytes.now (at_symbol side (in_atom k)))
+    ensures goes { (k : ForAtom) → Goes result (term_reading bytes.now (expect 46 (at_symbol side (in_atom k))))
         (λ x. term_reading x.1.now (atom_done (written_atom_in x.0) k)) }
     ensures shorter { IfOk result (λ x. length x.1.now < length bytes.now) }
 {
-    let (name, rest) = word(bytes)?;
+    let (name, rest) = word(expect(bytes, b'.')?)?;
     if goes_on_as_array(rest) {
         read(alloc, WrittenBase::Symbol(side, name), rest)
     } else {
@@ -196,9 +178,10 @@ fn factors<'a>(alloc: Global, bytes: &'a [u8]) -> Result<(WrittenMonomial<'a>, &
     }
 }
 
+/// A monomial, and what follows it.
 #[cycle(terms)]
 #[tactic(auto, using(crate::proofs::Steps::monomial_ends))]
-fn monomial<'a>(
+pub fn monomial<'a>(
     alloc: Global,
     bytes: &'a [u8],
 ) -> Result<(WrittenMonomial<'a>, &'a [u8]), ReadError>
@@ -210,10 +193,10 @@ fn monomial<'a>(
     Ok((made, rest))
 }
 
-// A monomial that is not the first of a sum, from its sign on.
+/// A monomial that is not the first of a sum, from its sign on.
 #[cycle(terms)]
 #[tactic(auto, using(crate::proofs::Steps::next_monomial))]
-fn further<'a>(
+pub fn further<'a>(
     alloc: Global,
     bytes: &'a [u8],
 ) -> Result<(bool, WrittenMonomial<'a>, &'a [u8]), ReadError>

@@ -23,10 +23,10 @@ use Rattle.term_values.specs.TermFaults.{unless, fault_by}
 use Rattle.term_values.specs.TermTests.{written_passes}
 
 -- what passes one test passes the other
-record IsStronger (t u : Test) : Type 0 where
-  number : (ds : List ℕ) → t.number ds ≡ true → u.number ds ≡ true
-  factor : (ds : List ℕ) → t.factor ds ≡ true → u.factor ds ≡ true
-  name : (wanted : Sort) (s : Side) (x : List ℕ) → t.name wanted s x ≡ true → u.name wanted s x ≡ true
+pub record IsStronger (t u : Test) : Type 0 where
+  pub number : (ds : List ℕ) → t.number ds ≡ true → u.number ds ≡ true
+  pub factor : (ds : List ℕ) → t.factor ds ≡ true → u.factor ds ≡ true
+  pub name : (wanted : Sort) (s : Side) (x : List ℕ) → t.name wanted s x ≡ true → u.name wanted s x ≡ true
 
 two : (a b c d : Bool) → (a ≡ true → c ≡ true) → (b ≡ true → d ≡ true) → (a && b) ≡ true → (c && d) ≡ true
 two true b true d f g e = g e
@@ -49,7 +49,7 @@ module _ (t u : Test) (h : IsStronger t u) where
     atom_too (Remainder p q) e = two (polynomial_passes t p) (polynomial_passes t q) (polynomial_passes u p) (polynomial_passes u q) (λ d. polynomial_too p d)
         (λ d. polynomial_too q d) e
 
-    monomial_too : (m : Monomial) → monomial_passes t m ≡ true → monomial_passes u m ≡ true
+    pub monomial_too : (m : Monomial) → monomial_passes t m ≡ true → monomial_passes u m ≡ true
     monomial_too (Number ds) e = h.number ds e
     monomial_too (One a) e = atom_too a e
     monomial_too (Times m a) e =
@@ -97,7 +97,7 @@ module _ (t u : Test) (h : IsStronger t u) where
   written_too (written.List l) e = list_too (written_list_in l.now) e
   written_too (written.Condition c) e = condition_too (condition_in c.now) e
 
-is_known : (wanted : Sort) (o : Option (Pos × Sort)) → name_has_sort wanted o ≡ true → is_some o ≡ true
+pub is_known : (wanted : Sort) (o : Option (Pos × Sort)) → name_has_sort wanted o ≡ true → is_some o ≡ true
 is_known wanted None e = e
 is_known wanted (Some p) e = refl
 

@@ -6,3 +6,5 @@ mod ListForms
 mod Refusals
 mod LiteralForms
 mod Faultless
+mod Sizes
+mod Tallies

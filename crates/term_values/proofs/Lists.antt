@@ -42,11 +42,11 @@ atoms_all t m [] = and_nil (monomial_passes t m) ∙ and_nil (monomial_passes t 
 atoms_all t m (a ∷ xs) = atoms_all t (Times m a) xs ∙ regrouped (monomial_passes t m) (factor_passes t m) (atom_passes t a) (atoms_pass t xs)
     (stands t (Times m a) (has_first_atom xs)) (later_atoms t m a (has_first_atom xs))
 
-first_passes : (t : Test) (m : Bool × Monomial) → sum_passes t (first_sum m) ≡ monomial_passes t m.1
+pub first_passes : (t : Test) (m : Bool × Monomial) → sum_passes t (first_sum m) ≡ monomial_passes t m.1
 first_passes t (true, m) = refl
 first_passes t (false, m) = refl
 
-more_passes : (t : Test) (s : Sum) (m : Bool × Monomial) → sum_passes t (more_sum s m) ≡ (sum_passes t s && monomial_passes t m.1)
+pub more_passes : (t : Test) (s : Sum) (m : Bool × Monomial) → sum_passes t (more_sum s m) ≡ (sum_passes t s && monomial_passes t m.1)
 more_passes t s (true, m) = refl
 more_passes t s (false, m) = refl
 

@@ -32,7 +32,7 @@ array_is a n =
     (and_from (ordered_array a) (nat_le (size_of_array a) size_limit) n.ordered (le-leb (size_of_array a) size_limit n.small))
     (le-leb (depth_of_array a) depth_limit n.shallow)) n.narrow
 
-refuted : (b : Bool) → ¬ (b ≡ true) → b ≡ false
+pub refuted : (b : Bool) → ¬ (b ≡ true) → b ≡ false
 refuted true f = absurd (f refl)
 refuted false f = refl
 

@@ -6,3 +6,4 @@ pub mod ListParts
 pub mod Conditions
 pub mod TermFaults
 pub mod TermTests
+pub mod SumTallies

@@ -86,9 +86,10 @@ fn head_passes<C: Check>(check: &C, head: &WrittenHead<'_>) -> bool
     }
 }
 
+/// Whether each number and each name of a monomial passes.
 #[cycle(checks)]
 #[tactic(auto, using(crate::proofs::Lists::monomial_tree))]
-fn monomial_passes<C: Check>(check: &C, monomial: &WrittenMonomial<'_>) -> bool
+pub fn monomial_passes<C: Check>(check: &C, monomial: &WrittenMonomial<'_>) -> bool
     ensures { result ≡ monomial_passes (C.test check.now) (written_monomial_in monomial.now) }
 {
     if !head_passes(check, &monomial.head) {

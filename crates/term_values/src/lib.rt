@@ -11,5 +11,6 @@ pub mod literals;
 pub mod names;
 mod numbers;
 pub mod reader;
+pub mod sums;
 mod tests;
 mod trees;

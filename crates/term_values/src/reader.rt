@@ -11,6 +11,7 @@ ghost use Rattle.term_values.specs.TermFaults.{IsPolynomialOf, ReadsAsArray, Rea
 
 use crate::faults::{TermError, WrittenTerm, fault};
 use crate::names::Names;
+use crate::sums::long_sum_refusal;
 use crate::trees::{array_tree, list_base_tree, polynomial_tree};
 use nf_terms::arr::Arr;
 use nf_terms::poly::Poly;
@@ -100,6 +101,18 @@ fn normal_list<N: Names>(
     }
 }
 
+// The polynomial that a text stands for, by a tree of the whole text.
+fn read_poly_whole<N: Names>(alloc: Global, names: &N, bytes: &[u8]) -> Result<Poly, TermError>
+    ensures read { IfOk result (λ p. IsPolynomialOf (N.find names.now) bytes.now p) }
+    ensures refused { IfErr result (λ e. IsRefusedAsTerm (N.find names.now) sort.Scalar bytes.now e) }
+{
+    let written = read_polynomial(alloc, bytes)?;
+    if let Some(fault) = fault(names, WrittenTerm::Polynomial(&written)) {
+        return Err(fault);
+    }
+    normal_polynomial(alloc, names, &written)
+}
+
 /// The polynomial that a text stands for, in time linear in the text but for the look-ups of names.
 ///
 /// The first of these is refused: `BadTerm` where the bytes spell no polynomial or more than 64 brackets are open at once;
@@ -110,11 +123,10 @@ pub fn read_poly<N: Names>(alloc: Global, names: &N, bytes: &[u8]) -> Result<Pol
     ensures read { IfOk result (λ p. IsPolynomialOf (N.find names.now) bytes.now p) }
     ensures refused { IfErr result (λ e. IsRefusedAsTerm (N.find names.now) sort.Scalar bytes.now e) }
 {
-    let written = read_polynomial(alloc, bytes)?;
-    if let Some(fault) = fault(names, WrittenTerm::Polynomial(&written)) {
-        return Err(fault);
+    if let Some(refusal) = long_sum_refusal(alloc, names, bytes) {
+        return Err(refusal);
     }
-    normal_polynomial(alloc, names, &written)
+    read_poly_whole(alloc, names, bytes)
 }
 
 /// The array that a text stands for, in time linear in the text but for the look-ups of names.

@@ -3,7 +3,7 @@ use Rattle.term_text.specs.TermTexts.{polynomial}
 use Rattle.term_text.specs.View.{written_polynomial_in}
 use Rattle.term_values.specs.TermValues.{within_limit, polynomial_value}
 use Rattle.term_values.proofs.Refusals.{polynomial_read, judged_refused}
-use Rattle.term_values.proofs.reader.read_poly.Goals as goal
+use Rattle.term_values.proofs.reader.read_poly_whole.Goals as goal
 
 pub returns-clause-read : goal.returns-clause-read
 returns-clause-read g c = polynomial_read (g.N.Names.find c.args.names.now) c.args.bytes.now

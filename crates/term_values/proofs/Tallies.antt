@@ -1,0 +1,181 @@
+-- A sum whose monomials are read one by one, and why one that is too long is refused.
+use Rattle.std.proofs.Common.{◌≡◌, ℕ, suc, ◌≤◌, ◌<◌, nat_le, Bool, true, false, cond, ◌&&◌, List, [], ◌∷◌}
+use Rattle.std.proofs.Common.{Some, None, Err, refl, sym, ap, subst, ◌∙◌, arith}
+use Rattle.std.specs.Option.{option_or}
+use Rattle.nf_terms.specs.TermLimits.{size_limit, depth_limit}
+use Rattle.nf_terms.specs.declared.symbols.Sort.TheVariants as sort
+use Rattle.nf_rel.specs.NormalLiterals.{is_normal}
+use Rattle.term_text.specs.declared.fault.ReadError.{ReadError}
+use Rattle.term_text.specs.declared.fault.ReadError.TheVariants as unread
+use Rattle.term_text.specs.Machine.{ForPolynomial, term_reading, at_polynomial, whole_polynomial, after_sum, at_sign}
+use Rattle.term_text.specs.TermTexts.{Monomial, Sum, TermSyntax, Of, polynomial, array, list}
+use Rattle.term_text.specs.View.{first_sum, more_sum}
+use Rattle.term_text.specs.Brackets.{most_open}
+use Rattle.term_text.proofs.Sound.{polynomial_is_spelled}
+use Rattle.term_text.proofs.Walks.{read_again}
+use Rattle.term_values.specs.declared.sums.Tally.{Tally}
+use Rattle.term_values.specs.declared.faults.TermError.{TermError}
+use Rattle.term_values.specs.declared.faults.TermError.TheVariants.{NumberTooBig, UnknownName, SortOf, NotNormal, BadTerm}
+use Rattle.term_values.specs.NameMeanings.{Find}
+use Rattle.term_values.specs.Checks.{numbers_fit, names_known, sorts_fit, ones_left_out, faultless, monomial_passes, sum_passes}
+use Rattle.term_values.specs.TermValues.{exact, polynomial_value}
+use Rattle.term_values.specs.TermFaults.{unless, term_fault, of_reading, HasFault, IsRefusedAsTerm}
+use Rattle.term_values.specs.SumTallies.{monomial_count, tally_fault, HasTally, IsTallied}
+use Rattle.term_values.proofs.Faultless.{monomial_too, is_known}
+use Rattle.term_values.proofs.Lists.{first_passes, more_passes}
+use Rattle.term_values.proofs.Sizes.{too_long}
+
+-- ---- a monomial without fault leaves the tests as they are
+
+stays : (a b : Bool) → b ≡ true → a ≡ (a && b)
+stays true b e = sym e
+stays false b e = refl
+
+pub numbers_stay : (find : Find) (m : Monomial) (a : Bool) → monomial_passes (faultless find) m ≡ true → a ≡ (a && monomial_passes numbers_fit m)
+numbers_stay find m a e = stays a (monomial_passes numbers_fit m)
+    (monomial_too (faultless find) numbers_fit (record { number = λ ds d. d; factor = λ ds d. refl; name = λ wanted s x d. refl }) m e)
+
+pub names_stay : (find : Find) (m : Monomial) (a : Bool) → monomial_passes (faultless find) m ≡ true → a ≡ (a && monomial_passes (names_known find) m)
+names_stay find m a e = stays a (monomial_passes (names_known find) m)
+    (monomial_too (faultless find) (names_known find)
+    (record { number = λ ds d. refl; factor = λ ds d. refl; name = λ wanted s x d. is_known wanted (find s x) d }) m e)
+
+pub sorts_stay : (find : Find) (m : Monomial) (a : Bool) → monomial_passes (faultless find) m ≡ true → a ≡ (a && monomial_passes (sorts_fit find) m)
+sorts_stay find m a e = stays a (monomial_passes (sorts_fit find) m)
+    (monomial_too (faultless find) (sorts_fit find) (record { number = λ ds d. refl; factor = λ ds d. refl; name = λ wanted s x d. d }) m e)
+
+-- all three
+pub ruleset tests_stay = (numbers_stay, names_stay, sorts_stay)
+
+-- ---- the tally of a sum
+
+first_count : (m : Bool × Monomial) → monomial_count (first_sum m) ≡ 1
+first_count (true, m) = refl
+first_count (false, m) = refl
+
+more_count : (s : Sum) (m : Bool × Monomial) → monomial_count (more_sum s m) ≡ suc (monomial_count s)
+more_count s (true, m) = refl
+more_count s (false, m) = refl
+
+-- what one monomial makes of the tally before it
+pub record Counts (find : Find) (old new : Tally) (m : Monomial) : Type 0 where
+  pub count : new.count ≤ suc old.count
+  pub numbers : new.numbers ≡ (old.numbers && monomial_passes numbers_fit m)
+  pub names : new.names ≡ (old.names && monomial_passes (names_known find) m)
+  pub sorts : new.sorts ≡ (old.sorts && monomial_passes (sorts_fit find) m)
+
+most_one : (a b n : ℕ) → a ≤ suc b → b ≡ 0 → n ≡ 1 → a ≤ n
+most_one a b n h e f = omega (arith, h, e, f)
+
+one_more : (a b n k : ℕ) → a ≤ suc b → b ≤ k → n ≡ suc k → a ≤ n
+one_more a b n k h e f = omega (arith, h, e, f)
+
+pub first_tally : (find : Find) (bytes rest : List ℕ) (t : Tally) (m : Bool × Monomial)
+    → ((k : ForPolynomial) → term_reading bytes (at_polynomial k) ≡ term_reading rest (after_sum (first_sum m) k))
+    → Counts find (record { count = 0; numbers = true; names = true; sorts = true }) t m.1 → HasTally find bytes rest t
+first_tally find bytes rest t m goes c = record {
+  sum = first_sum m;
+  goes = goes whole_polynomial;
+  count = most_one t.count 0 (monomial_count (first_sum m)) c.count refl (first_count m);
+  numbers = c.numbers ∙ sym (first_passes numbers_fit m);
+  names = c.names ∙ sym (first_passes (names_known find) m);
+  sorts = c.sorts ∙ sym (first_passes (sorts_fit find) m);
+}
+
+pub more_tally : (find : Find) (bytes rest signed_at left : List ℕ) (old new : Tally) (m : Bool × Monomial)
+    → HasTally find bytes rest old → rest ≡ 32 ∷ signed_at
+    → ((s : Sum) (k : ForPolynomial) → term_reading signed_at (at_sign s k) ≡ term_reading left (after_sum (more_sum s m) k))
+    → Counts find old new m.1 → HasTally find bytes left new
+more_tally find bytes rest signed_at left old new m h e goes c = record {
+  sum = more_sum h.sum m;
+  goes = h.goes ∙ ap (λ (bs : List ℕ). term_reading bs (after_sum h.sum whole_polynomial)) e ∙ goes h.sum whole_polynomial;
+  count = one_more new.count old.count (monomial_count (more_sum h.sum m)) (monomial_count h.sum) c.count h.count (more_count h.sum m);
+  numbers = c.numbers ∙ ap (λ b. b && monomial_passes numbers_fit m.1) h.numbers ∙ sym (more_passes numbers_fit h.sum m);
+  names = c.names ∙ ap (λ b. b && monomial_passes (names_known find) m.1) h.names ∙ sym (more_passes (names_known find) h.sum m);
+  sorts = c.sorts ∙ ap (λ b. b && monomial_passes (sorts_fit find) m.1) h.sorts ∙ sym (more_passes (sorts_fit find) h.sum m);
+}
+
+-- where the first monomial is refused, the answer is that refusal
+pub first_refused : {X : Type 0} (bytes : List ℕ) (holds : X → Type 0) (d : ReadError)
+    → (d ≡ unread.BadTerm → (k : ForPolynomial) → term_reading bytes (at_polynomial k) ≡ None) → IsTallied bytes (Err d) holds
+first_refused bytes holds unread.BadTerm goes = goes refl whole_polynomial
+first_refused bytes holds unread.NoMemory goes = tt
+
+-- where the next monomial is refused, the answer is that refusal
+pub next_refused : {X : Type 0} (find : Find) (bytes rest signed_at : List ℕ) (t : Tally) (holds : X → Type 0) (d : ReadError)
+    → HasTally find bytes rest t → rest ≡ 32 ∷ signed_at
+    → (d ≡ unread.BadTerm → (s : Sum) (k : ForPolynomial) → term_reading signed_at (at_sign s k) ≡ None) → IsTallied bytes (Err d) holds
+next_refused find bytes rest signed_at t holds unread.BadTerm h e goes =
+    h.goes ∙ ap (λ (bs : List ℕ). term_reading bs (after_sum h.sum whole_polynomial)) e ∙ goes refl h.sum whole_polynomial
+next_refused find bytes rest signed_at t holds unread.NoMemory h e goes = tt
+
+refused_too : {X Y : Type 0} (bytes : List ℕ) (before : X → Type 0) (holds : Y → Type 0) (d : ReadError)
+    → IsTallied bytes (Err d) before → IsTallied bytes (Err d) holds
+refused_too bytes before holds unread.BadTerm h = h
+refused_too bytes before holds unread.NoMemory h = tt
+
+-- the refusal of the next monomial, passed on
+pub refusal_passes : {X Y : Type 0} (find : Find) (bytes rest signed_at : List ℕ) (t : Tally) (before : X → Type 0) (holds : Y → Type 0) (d : ReadError)
+    → HasTally find bytes rest t → rest ≡ 32 ∷ signed_at → (HasTally find bytes (32 ∷ signed_at) t → IsTallied bytes (Err d) before)
+    → IsTallied bytes (Err d) holds
+refusal_passes find bytes rest signed_at t before holds d h e goes =
+    refused_too bytes before holds d (goes (subst (λ bs. HasTally find bytes bs t) e h))
+
+-- ---- why a text is refused
+
+pub fault_by_tests : (a b c d n : Bool) → n ≡ false
+    → option_or (option_or (unless a NumberTooBig) (option_or (unless b UnknownName) (option_or (unless c SortOf) (unless d NotNormal)))) (unless n NotNormal)
+    ≡ Some (tally_fault (record { count = 0; numbers = a; names = b; sorts = c }))
+fault_by_tests false b c d n e = refl
+fault_by_tests true false c d n e = refl
+fault_by_tests true true false d n e = refl
+fault_by_tests true true true false n e = refl
+fault_by_tests true true true true n e = rw e refl
+
+pub same_fault : (t : Tally) (a b c : Bool) → t.numbers ≡ a → t.names ≡ b → t.sorts ≡ c
+    → tally_fault (record { count = 0; numbers = a; names = b; sorts = c }) ≡ tally_fault t
+same_fault t a b c e f g = λ k. cond (sym e k) (cond (sym f k) (cond (sym g k) NotNormal SortOf) UnknownName) NumberTooBig
+
+-- the first fault of a sum that is too long is what its tally says
+long_fault : (find : Find) (bytes : List ℕ) (t : Tally) → (h : HasTally find bytes [] t) → size_limit < t.count
+    → term_fault find (polynomial (Of h.sum)) ≡ Some (tally_fault t)
+long_fault find bytes t h l =
+    fault_by_tests (sum_passes numbers_fit h.sum) (sum_passes (names_known find) h.sum) (sum_passes (sorts_fit find) h.sum) (sum_passes ones_left_out h.sum)
+    (is_normal (polynomial_value (exact find) (Of h.sum))) (too_long (exact find) h.sum (omega (arith, l, h.count)))
+    ∙ ap (λ (e : TermError). Some e)
+    (same_fault t (sum_passes numbers_fit h.sum) (sum_passes (names_known find) h.sum) (sum_passes (sorts_fit find) h.sum)
+    h.numbers h.names h.sorts)
+
+refused_by : (find : Find) (bytes : List ℕ) (a b c : Bool)
+    → HasFault find sort.Scalar bytes (tally_fault (record { count = 0; numbers = a; names = b; sorts = c }))
+    → IsRefusedAsTerm find sort.Scalar bytes (tally_fault (record { count = 0; numbers = a; names = b; sorts = c }))
+refused_by find bytes false b c h = h
+refused_by find bytes true false c h = h
+refused_by find bytes true true false h = h
+refused_by find bytes true true true h = h
+
+pub long_refused : (find : Find) (bytes : List ℕ) (t : Tally) → nat_le (most_open 0 bytes) depth_limit ≡ true → HasTally find bytes [] t → size_limit < t.count
+    → IsRefusedAsTerm find sort.Scalar bytes (tally_fault t)
+long_refused find bytes t shallow h l =
+    let s = polynomial_is_spelled bytes (polynomial (Of h.sum)) h.goes in
+    refused_by find bytes t.numbers t.names t.sorts (record {
+      term = polynomial (Of h.sum);
+      sort_is = refl;
+      spells = record { spelled = s.fine; text = s.text; shallow = shallow };
+      first = long_fault find bytes t h l;
+    })
+
+none_is_no_term : (t : TermSyntax) → None ≡ Some t → ⊥
+none_is_no_term t e = cc
+
+pub unread_refused : (find : Find) (bytes : List ℕ) → term_reading bytes (at_polynomial whole_polynomial) ≡ None
+    → IsRefusedAsTerm find sort.Scalar bytes BadTerm
+unread_refused find bytes e (polynomial p) f s =
+    none_is_no_term (polynomial p) (sym e ∙ ap (λ (bs : List ℕ). term_reading bs (at_polynomial whole_polynomial)) s.text ∙ read_again (polynomial p) s.spelled)
+unread_refused find bytes e (array a) f s = absurd cc
+unread_refused find bytes e (list l) f s = absurd cc
+
+pub refusal_refused : (find : Find) (bytes : List ℕ) (holds : Tally → Type 0) (d : ReadError) → IsTallied bytes (Err d) holds
+    → IsRefusedAsTerm find sort.Scalar bytes (of_reading d)
+refusal_refused find bytes holds unread.BadTerm h = unread_refused find bytes h
+refusal_refused find bytes holds unread.NoMemory h = tt
