@@ -1,4 +1,3 @@
-pub mod Added
 mod Chained
 mod CommandWalks
 mod Limits

@@ -1,15 +1,29 @@
 //! The commands, built for `clap`.
 
 ghost use Rattle.std.specs.Prelude.{◌≡◌, ◌∷◌, [], codes, false, IfOk};
-ghost use Rattle.clap.specs.Words.{app_of, shape_of};
+ghost use Rattle.clap.specs.Words.{App, Rule, app_of, rule_of, shape_of, with_rule};
 ghost use Rattle.clap.specs.declared.builder.command.Command.TheViews.{out-Command};
 ghost use Rattle.fsmd_words.specs.CommandLine.{alone, bind_command, chain_command, check_command, command_with, compile_command};
 ghost use Rattle.fsmd_words.specs.CommandLine.{cuts_command, file_word, fmt_command, generate_command, replay_command};
 ghost use Rattle.fsmd_words.specs.CommandLine.{run_command, schedule_command, shrink_command, steps_option, verify_command};
 
 use crate::arguments::{cert, file, files, loops, steps};
-use clap::Command;
+use clap::{Arg, Command};
 use std::alloc::{AllocError, Global};
+
+// The command as it was built, with one more argument, so that the caller returns early with no command in its hands.
+fn with_argument<'a>(
+    command: Result<Command<'a>, AllocError>,
+    argument: Arg<'a>,
+) -> Result<Command<'a>, AllocError>
+    requires { argument.global ≡ false }
+    ensures app { (before : App) → (rule : Rule) → IfOk command.entry (λ c. app_of c ≡ before) → rule_of argument.entry ≡ rule
+        → IfOk result (λ c. app_of c ≡ with_rule before rule) }
+    ensures local { IfOk command.entry (λ c. (out-Command c).has_globals ≡ false)
+        → IfOk result (λ c. (out-Command c).has_globals ≡ false) }
+{
+    command?.arg(argument)
+}
 
 // A command with two files.
 fn two_files<'a>(
@@ -22,9 +36,8 @@ fn two_files<'a>(
         ≡ alone (command_with name.entry.now (file_word first.entry.now ∷ file_word second.entry.now ∷ []))) }
     ensures local { IfOk result (λ command. (out-Command command).has_globals ≡ false) }
 {
-    Command::new(alloc, name)
-        .arg(file(alloc, first))?
-        .arg(file(alloc, second))
+    let command = with_argument(Ok(Command::new(alloc, name)), file(alloc, first));
+    with_argument(command, file(alloc, second))
 }
 
 /// `check A B [--cert F] [--steps N]`.
@@ -32,9 +45,8 @@ pub fn check<'a>(alloc: Global) -> Result<Command<'a>, AllocError>
     ensures shape { IfOk result (λ command. shape_of command ≡ check_command) }
     ensures local { IfOk result (λ command. (out-Command command).has_globals ≡ false) }
 {
-    two_files(alloc, "check", "left", "right")?
-        .arg(cert(alloc))?
-        .arg(steps(alloc))
+    let command = with_argument(two_files(alloc, "check", "left", "right"), cert(alloc));
+    with_argument(command, steps(alloc))
 }
 
 /// `verify A B C`.
@@ -42,7 +54,10 @@ pub fn verify<'a>(alloc: Global) -> Result<Command<'a>, AllocError>
     ensures shape { IfOk result (λ command. shape_of command ≡ verify_command) }
     ensures local { IfOk result (λ command. (out-Command command).has_globals ≡ false) }
 {
-    two_files(alloc, "verify", "left", "right")?.arg(file(alloc, "certificate"))
+    with_argument(
+        two_files(alloc, "verify", "left", "right"),
+        file(alloc, "certificate"),
+    )
 }
 
 /// `run A I [--steps N]`.
@@ -50,7 +65,7 @@ pub fn run<'a>(alloc: Global) -> Result<Command<'a>, AllocError>
     ensures shape { IfOk result (λ command. shape_of command ≡ run_command) }
     ensures local { IfOk result (λ command. (out-Command command).has_globals ≡ false) }
 {
-    two_files(alloc, "run", "machine", "inputs")?.arg(steps(alloc))
+    with_argument(two_files(alloc, "run", "machine", "inputs"), steps(alloc))
 }
 
 // A command on two machines and inputs of theirs.
@@ -60,9 +75,11 @@ fn runs<'a>(alloc: Global, name: &'a str) -> Result<Command<'a>, AllocError>
         (file_word (codes "left") ∷ file_word (codes "right") ∷ file_word (codes "inputs") ∷ steps_option ∷ [])) }
     ensures local { IfOk result (λ command. (out-Command command).has_globals ≡ false) }
 {
-    two_files(alloc, name, "left", "right")?
-        .arg(file(alloc, "inputs"))?
-        .arg(steps(alloc))
+    let command = with_argument(
+        two_files(alloc, name, "left", "right"),
+        file(alloc, "inputs"),
+    );
+    with_argument(command, steps(alloc))
 }
 
 /// `replay A B I [--steps N]`.

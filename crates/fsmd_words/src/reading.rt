@@ -1,9 +1,10 @@
 //! What each command asks, by its matches.
 
-ghost use Rattle.std.specs.Prelude.{◌≡◌, IfOk, IfErr, IfSome, Some, None, false};
+ghost use Rattle.std.specs.Prelude.{◌≡◌, IfOk, IfErr, IfSome, Option, Some, None, false};
 ghost use Rattle.clap.specs.Words.{found_of, rows_of};
-ghost use Rattle.fsmd_words.specs.AskedWords.{IsByTurns, asked_of_ask, asked_by, bind_of, chain_of_rows, check_of, is_by_turns};
-ghost use Rattle.fsmd_words.specs.AskedWords.{replay_of, run_of, schedule_of_rows, shrink_of, verify_of};
+ghost use Rattle.fsmd_words.specs.AskedWords.{Asked, IsByTurns, asked_of_ask, asked_by, bind_of, chain_of_rows, check_of};
+ghost use Rattle.fsmd_words.specs.AskedWords.{compile_of, cuts_of, fmt_of, is_by_turns, replay_of, run_of, schedule_of_rows};
+ghost use Rattle.fsmd_words.specs.AskedWords.{shrink_of, verify_of};
 ghost use Rattle.fsmd_words.specs.declared.asking.AskError.TheVariants.{Usage};
 
 use crate::asking::{Ask, AskError};
@@ -53,6 +54,30 @@ fn replay(alloc: Global, found: &ArgMatches) -> Result<Ask, AllocError>
     })
 }
 
+fn fmt(alloc: Global, found: &ArgMatches) -> Result<Ask, AllocError>
+    ensures { IfOk result (λ ask. asked_of_ask ask ≡ fmt_of (rows_of (found_of found.now))) }
+{
+    Ok(Ask::Fmt {
+        machine: word(alloc, found, "machine")?,
+    })
+}
+
+fn cuts(alloc: Global, found: &ArgMatches) -> Result<Ask, AllocError>
+    ensures { IfOk result (λ ask. asked_of_ask ask ≡ cuts_of (rows_of (found_of found.now))) }
+{
+    Ok(Ask::Cuts {
+        machine: word(alloc, found, "machine")?,
+    })
+}
+
+fn compile(alloc: Global, found: &ArgMatches) -> Result<Ask, AllocError>
+    ensures { IfOk result (λ ask. asked_of_ask ask ≡ compile_of (rows_of (found_of found.now))) }
+{
+    Ok(Ask::Compile {
+        program: word(alloc, found, "program")?,
+    })
+}
+
 fn schedule(alloc: Global, found: &ArgMatches) -> Result<Ask, AllocError>
     ensures { IfOk result (λ ask. asked_of_ask ask ≡ schedule_of_rows (rows_of (found_of found.now))) }
 {
@@ -90,30 +115,32 @@ fn chain(alloc: Global, found: &ArgMatches) -> Result<Ask, AllocError>
     })
 }
 
+// What is asked, with the refusal of memory as an error of words, so that the caller returns early with nothing in its hands.
+fn ask_or_refusal(ask: Result<Ask, AllocError>) -> Result<Ask, AskError>
+    ensures ok { (what : Asked) → IfOk ask (λ a. asked_of_ask a ≡ what) → IfOk result (λ a. Some what ≡ Some (asked_of_ask a)) }
+    ensures usage { (what : Option Asked) → IfErr result (λ error. error ≡ Usage → what ≡ None) }
+{
+    Ok(ask?)
+}
+
 // What the command of this name asks, by its matches. `Usage` comes only for a name that is no command's.
 fn matched(alloc: Global, name: &str, found: &ArgMatches) -> Result<Ask, AskError>
     ensures ok { IfOk result (λ ask. asked_by name.now (rows_of (found_of found.now)) ≡ Some (asked_of_ask ask)) }
     ensures usage { IfErr result (λ error. error ≡ Usage → asked_by name.now (rows_of (found_of found.now)) ≡ None) }
 {
     match name {
-        "check" => Ok(check(alloc, found)?),
-        "verify" => Ok(verify(alloc, found)?),
-        "run" => Ok(run(alloc, found)?),
-        "replay" => Ok(replay(alloc, found)?),
-        "fmt" => Ok(Ask::Fmt {
-            machine: word(alloc, found, "machine")?,
-        }),
-        "cuts" => Ok(Ask::Cuts {
-            machine: word(alloc, found, "machine")?,
-        }),
+        "check" => ask_or_refusal(check(alloc, found)),
+        "verify" => ask_or_refusal(verify(alloc, found)),
+        "run" => ask_or_refusal(run(alloc, found)),
+        "replay" => ask_or_refusal(replay(alloc, found)),
+        "fmt" => ask_or_refusal(fmt(alloc, found)),
+        "cuts" => ask_or_refusal(cuts(alloc, found)),
         "generate" => Ok(Ask::Generate { n: loops(found) }),
-        "compile" => Ok(Ask::Compile {
-            program: word(alloc, found, "program")?,
-        }),
-        "schedule" => Ok(schedule(alloc, found)?),
-        "bind" => Ok(bind(alloc, found)?),
-        "shrink" => Ok(shrink(alloc, found)?),
-        "chain" => Ok(chain(alloc, found)?),
+        "compile" => ask_or_refusal(compile(alloc, found)),
+        "schedule" => ask_or_refusal(schedule(alloc, found)),
+        "bind" => ask_or_refusal(bind(alloc, found)),
+        "shrink" => ask_or_refusal(shrink(alloc, found)),
+        "chain" => ask_or_refusal(chain(alloc, found)),
         _ => Err(AskError::Usage),
     }
 }

@@ -27,6 +27,14 @@ const NODE_LIMIT: usize = 4096;
 
 const RANK_LIMIT: u32 = 4096;
 
+// A copy of the equation of a position.
+fn copied_equation(alloc: Global, position: &FactPosition) -> Result<Option<Nf>, NoMemory> {
+    match position.form() {
+        Some(form) => Ok(Some(form.try_clone(alloc)?)),
+        None => Ok(None),
+    }
+}
+
 // Copies of the equations of positions.
 fn copied_equations(
     alloc: Global,
@@ -34,11 +42,7 @@ fn copied_equations(
 ) -> Result<Vec<Option<Nf>>, NoMemory> {
     let mut out = Vec::new(alloc);
     for position in positions {
-        let equation = match position.form() {
-            Some(form) => Some(form.try_clone(alloc)?),
-            None => None,
-        };
-        out.push(equation)?;
+        out.push(copied_equation(alloc, position)?)?;
     }
     Ok(out)
 }

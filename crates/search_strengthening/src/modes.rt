@@ -7,6 +7,7 @@ use crate::state::{State, clear};
 use cert_bisimulation::mode::Mode;
 use fs_cut::cover::{Path, Point};
 use nf_refutation::refutation::is_refuted;
+use nf_rel::literals::NLit;
 use nf_substitution::vector::Vector;
 use nf_terms::stop::NoMemory;
 use nf_terms::tree::Side;
@@ -18,6 +19,33 @@ use sym_paths::execution::conditions;
 
 // The units of work of the conditions of a path.
 const PATH_UNITS: u64 = 8;
+
+// The conditions of a path of a machine under a vector. `Bound` comes where they meet a limit.
+fn path_conditions(
+    alloc: Global,
+    machine: &Covered<'_>,
+    side: Side,
+    v: &Vector,
+    path: &Path,
+) -> Result<Vec<NLit>, Stop> {
+    match unless_stopped(conditions(alloc, machine.machine, path, side, v))? {
+        Some(conds) => Ok(conds),
+        None => Err(Stop::Bound),
+    }
+}
+
+// The literals of a fact, and then more of them, which are moved.
+fn literals_with(alloc: Global, fact: &Fact, more: &mut Vec<NLit>) -> Result<Vec<NLit>, NoMemory> {
+    let mut literals = copied_literals(alloc, fact.conds())?;
+    literals.append(more)?;
+    Ok(literals)
+}
+
+// Whether literals are refuted beside those of a fact.
+fn is_refuted_with(alloc: Global, fact: &Fact, more: &mut Vec<NLit>) -> Result<bool, NoMemory> {
+    let literals = literals_with(alloc, fact, more)?;
+    is_refuted(alloc, literals.as_slice())
+}
 
 // Whether a path is not refuted under a fact with this vector. `Bound` comes where its conditions meet a limit.
 fn is_open(
@@ -31,12 +59,8 @@ fn is_open(
 ) -> Result<bool, Stop> {
     work.spend(fact.conds().len() as u64)?;
     work.spend(PATH_UNITS)?;
-    let Some(mut more) = unless_stopped(conditions(alloc, machine.machine, path, side, v))? else {
-        return Err(Stop::Bound);
-    };
-    let mut literals = copied_literals(alloc, fact.conds())?;
-    literals.append(&mut more)?;
-    Ok(!is_refuted(alloc, literals.as_slice())?)
+    let mut more = path_conditions(alloc, machine, side, v, path)?;
+    Ok(!is_refuted_with(alloc, fact, &mut more)?)
 }
 
 // Whether more than one path of a point is not refuted under a fact with this vector.
@@ -74,6 +98,25 @@ fn mode_by(flags: Flags, left_head: bool, right_head: bool) -> Mode {
     Mode::Both
 }
 
+// Adds what the fact of a node, with this vector, shows of its points.
+fn see_ways(
+    alloc: Global,
+    sides: &Sides<'_>,
+    work: &mut Work,
+    node: &SearchNode,
+    v: &Vector,
+    flags: &mut Flags,
+) -> Result<(), Stop> {
+    let fact = &node.fact;
+    if !flags.many_left {
+        flags.many_left = has_many(alloc, work, &sides.left, Side::Left, fact, v, node.left)?;
+    }
+    if !flags.many_right {
+        flags.many_right = has_many(alloc, work, &sides.right, Side::Right, fact, v, node.right)?;
+    }
+    Ok(())
+}
+
 // What is kept of the points of a node, with what its fact shows of them.
 fn flags_of(
     alloc: Global,
@@ -84,28 +127,7 @@ fn flags_of(
 ) -> Result<Flags, Stop> {
     let mut flags = flags_at(all, node.left, node.right);
     let v = node.fact.vector(alloc)?;
-    if !flags.many_left {
-        flags.many_left = has_many(
-            alloc,
-            work,
-            &sides.left,
-            Side::Left,
-            &node.fact,
-            &v,
-            node.left,
-        )?;
-    }
-    if !flags.many_right {
-        flags.many_right = has_many(
-            alloc,
-            work,
-            &sides.right,
-            Side::Right,
-            &node.fact,
-            &v,
-            node.right,
-        )?;
-    }
+    see_ways(alloc, sides, work, node, &v, &mut flags)?;
     Ok(flags)
 }
 
@@ -203,10 +225,29 @@ fn mode_at(
 }
 
 // Gives the node at a place its mode and the moves of that mode.
-fn set_moves(nodes: &mut [SearchNode], place: usize, mode: Mode, moves: Vec<NodeMove>) {
-    if let Some(node) = nodes.get_mut(place) {
+fn set_moves(
+    state: &mut State,
+    place: usize,
+    mode: Mode,
+    moves: Vec<NodeMove>,
+) -> Result<(), Stop> {
+    state.work.spend(moves.len() as u64)?;
+    if let Some(node) = state.nodes.get_mut(place) {
         node.mode = Some(mode);
         node.moves = moves;
+    }
+    Ok(())
+}
+
+// Whether the points of these flags have had another mode since the table was last cleared. Keeps the mode where they had none.
+fn has_other_mode(state: &mut State, mut flags: Flags, mode: Mode) -> Result<bool, NoMemory> {
+    match flags.mode {
+        Some(old) => Ok(old != mode),
+        None => {
+            flags.mode = Some(mode);
+            keep(&mut state.flags, flags)?;
+            Ok(false)
+        }
     }
 }
 
@@ -223,21 +264,12 @@ pub fn see_mode(
         return Ok(false);
     };
     let (left, right) = (node.left, node.right);
-    let mut flags = flags_at(state.flags.as_slice(), left, right);
-    match flags.mode {
-        Some(old) => {
-            if old != mode {
-                clear(state)?;
-                return Ok(true);
-            }
-        }
-        None => {
-            flags.mode = Some(mode);
-            keep(&mut state.flags, flags)?;
-        }
+    let flags = flags_at(state.flags.as_slice(), left, right);
+    if has_other_mode(state, flags, mode)? {
+        clear(state)?;
+        return Ok(true);
     }
     let moves = moves_in(alloc, sides, mode, left, right)?;
-    state.work.spend(moves.len() as u64)?;
-    set_moves(&mut state.nodes, place, mode, moves);
+    set_moves(state, place, mode, moves)?;
     Ok(false)
 }

@@ -5,7 +5,7 @@ use crate::sides::{Covered, Sides};
 use crate::state::{State, add, change_fact};
 use fs_cut::cover::{Path, Point};
 use nf_refutation::refutation::is_refuted;
-use search_strengthening_claims::claims::claims_before;
+use search_strengthening_claims::claims::{Claims, claims_before};
 use search_strengthening_claims::facts::fact_of;
 use search_strengthening_claims::weeding::weed;
 use search_strengthening_terms::stop::{Stop, unless_stopped};
@@ -88,6 +88,20 @@ fn arrival(
     }
 }
 
+// What is claimed after the first arrival.
+fn first_claims(
+    alloc: Global,
+    sides: &Sides<'_>,
+    work: &mut Work,
+    post: &Post,
+) -> Result<Claims, Stop> {
+    let p = sides.pairing;
+    let mut claims = claims_before(alloc, &sides.universe, post, p)?;
+    let count = p.positions().len();
+    weed(alloc, work, &sides.universe, count, &mut claims, post)?;
+    Ok(claims)
+}
+
 // Adds the node at which a post arrives first.
 fn add_target(
     alloc: Global,
@@ -97,12 +111,14 @@ fn add_target(
     left: Point,
     right: Point,
 ) -> Result<Step, Stop> {
-    let universe = &sides.universe;
-    let p = sides.pairing;
-    let mut claims = claims_before(alloc, universe, post, p)?;
-    let count = p.positions().len();
-    weed(alloc, &mut state.work, universe, count, &mut claims, post)?;
-    let fact = fact_of(alloc, &mut state.work, universe, p, &claims)?;
+    let claims = first_claims(alloc, sides, &mut state.work, post)?;
+    let fact = fact_of(
+        alloc,
+        &mut state.work,
+        &sides.universe,
+        sides.pairing,
+        &claims,
+    )?;
     let place = add(alloc, sides, state, left, right, claims, fact)?;
     Ok(Step::Changes { place })
 }

@@ -106,6 +106,42 @@ fn check_units(state: &State) -> Result<(), Stop> {
     Ok(())
 }
 
+// A node whose mode is not known.
+fn new_node(
+    alloc: Global,
+    sides: &Sides<'_>,
+    version: u64,
+    left: Point,
+    right: Point,
+    claims: Claims,
+    fact: Fact,
+) -> SearchNode {
+    let numbers = (
+        sides.left.order.number(left),
+        sides.right.order.number(right),
+    );
+    let units = fact.size();
+    SearchNode {
+        left,
+        right,
+        numbers,
+        claims,
+        fact,
+        units,
+        version,
+        mode: None,
+        moves: Vec::new(alloc),
+    }
+}
+
+// Puts a node in its place, and answers that. `Bound` comes where the table has too many units.
+fn insert(state: &mut State, node: SearchNode) -> Result<usize, Stop> {
+    let place = place_for(state.nodes.as_slice(), node.numbers);
+    state.nodes.insert(place, node)?;
+    check_units(state)?;
+    Ok(place)
+}
+
 /// Adds a node in its place, and answers that. `Bound` comes where too much was changed, or the table has too many units.
 pub fn add(
     alloc: Global,
@@ -117,26 +153,8 @@ pub fn add(
     fact: Fact,
 ) -> Result<usize, Stop> {
     let version = count_change(state)?;
-    let numbers = (
-        sides.left.order.number(left),
-        sides.right.order.number(right),
-    );
-    let place = place_for(state.nodes.as_slice(), numbers);
-    let units = fact.size();
-    let node = SearchNode {
-        left,
-        right,
-        numbers,
-        claims,
-        fact,
-        units,
-        version,
-        mode: None,
-        moves: Vec::new(alloc),
-    };
-    state.nodes.insert(place, node)?;
-    check_units(state)?;
-    Ok(place)
+    let node = new_node(alloc, sides, version, left, right, claims, fact);
+    insert(state, node)
 }
 
 /// Gives the node at a place another fact, forgets its mode and its moves, and deletes all nodes behind it. `Bound` comes where

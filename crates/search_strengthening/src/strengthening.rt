@@ -9,7 +9,7 @@ ghost use Rattle.cert_model.specs.Sizes.{units_of};
 
 use crate::assembling::assemble;
 use crate::ranks::ranks_of;
-use crate::sides::sides_of;
+use crate::sides::{Sides, sides_of};
 use crate::state::{State, begin};
 use crate::steps::make_steps;
 use cert_model::cert::Cert;
@@ -19,6 +19,13 @@ use nf_terms::stop::NoMemory;
 use search_strengthening_terms::stop::Stop;
 use std::alloc::Global;
 
+// The closed table of two machines that are seen so. `Bound` comes where none is found.
+fn table_of(alloc: Global, sides: &Sides<'_>) -> Result<State, Stop> {
+    let mut state = begin(alloc, sides.pairing)?;
+    make_steps(alloc, sides, &mut state)?;
+    Ok(state)
+}
+
 // The closed table of two machines. `Bound` comes where none is found.
 fn closed_table<'a>(
     alloc: Global,
@@ -27,9 +34,7 @@ fn closed_table<'a>(
     p: &'a Pairing,
 ) -> Result<State, Stop> {
     let sides = sides_of(alloc, a, b, p)?;
-    let mut state = begin(alloc, p)?;
-    make_steps(alloc, &sides, &mut state)?;
-    Ok(state)
+    table_of(alloc, &sides)
 }
 
 /// Searches a second time for a certificate that two machines with the same interface have the same behaviour: for each pair of

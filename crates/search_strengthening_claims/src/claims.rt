@@ -39,20 +39,6 @@ pub fn class_at(claims: &Claims, place: usize) -> Option<usize> {
     }
 }
 
-// Adds the equations of positions.
-fn push_equations(
-    alloc: Global,
-    extras: &mut Vec<Nf>,
-    positions: &[FactPosition],
-) -> Result<(), NoMemory> {
-    for position in positions {
-        if let Some(form) = position.form() {
-            extras.push(form.try_clone(alloc)?)?;
-        }
-    }
-    Ok(())
-}
-
 // One class of all terms.
 fn one_class(alloc: Global, count: usize) -> Result<Vec<Option<usize>>, NoMemory> {
     let mut out = Vec::new(alloc);
@@ -62,27 +48,57 @@ fn one_class(alloc: Global, count: usize) -> Result<Vec<Option<usize>>, NoMemory
     Ok(out)
 }
 
-// The claims that all terms are equal and all literals true, those of a fact among them.
-fn all_claims(alloc: Global, universe: &Universe, fact: &Fact) -> Result<Claims, NoMemory> {
-    let mut extras = Vec::new(alloc);
-    push_equations(alloc, &mut extras, fact.positions())?;
-    let classes = one_class(alloc, universe.terms.len().saturating_add(extras.len()))?;
-    let mut literals = copied_literals(alloc, universe.literals.as_slice())?;
-    literals.append(&mut copied_literals(alloc, fact.conds())?)?;
+// The claims that all terms of the universe are equal and all its literals true.
+fn bare_claims(alloc: Global, universe: &Universe) -> Result<Claims, NoMemory> {
+    let classes = one_class(alloc, universe.terms.len())?;
+    let literals = copied_literals(alloc, universe.literals.as_slice())?;
     Ok(Claims {
-        extras,
+        extras: Vec::new(alloc),
         classes,
         literals,
     })
 }
 
-// The claims that all terms of the universe are equal and all its literals true.
-fn bare_claims(alloc: Global, universe: &Universe) -> Result<Claims, NoMemory> {
-    Ok(Claims {
-        extras: Vec::new(alloc),
-        classes: one_class(alloc, universe.terms.len())?,
-        literals: copied_literals(alloc, universe.literals.as_slice())?,
-    })
+// Claims that a form is equal to all terms.
+fn add_form(alloc: Global, claims: &mut Claims, form: &Nf) -> Result<(), NoMemory> {
+    claims.extras.push(form.try_clone(alloc)?)?;
+    claims.classes.push(Some(0))?;
+    Ok(())
+}
+
+// Claims that the equations of positions are equal to all terms.
+fn add_equations(
+    alloc: Global,
+    claims: &mut Claims,
+    positions: &[FactPosition],
+) -> Result<(), NoMemory> {
+    for position in positions {
+        if let Some(form) = position.form() {
+            add_form(alloc, claims, form)?;
+        }
+    }
+    Ok(())
+}
+
+// Claims that literals are true.
+fn add_literals(alloc: Global, claims: &mut Claims, literals: &[NLit]) -> Result<(), NoMemory> {
+    claims
+        .literals
+        .append(&mut copied_literals(alloc, literals)?)?;
+    Ok(())
+}
+
+// Claims that the equations of a fact are equal to all terms, and its literals true.
+fn add_fact(alloc: Global, claims: &mut Claims, fact: &Fact) -> Result<(), NoMemory> {
+    add_equations(alloc, claims, fact.positions())?;
+    add_literals(alloc, claims, fact.conds())
+}
+
+// The claims that all terms are equal and all literals true, those of a fact among them.
+fn all_claims(alloc: Global, universe: &Universe, fact: &Fact) -> Result<Claims, NoMemory> {
+    let mut claims = bare_claims(alloc, universe)?;
+    add_fact(alloc, &mut claims, fact)?;
+    Ok(claims)
 }
 
 /// What is claimed before the first arrival: that all terms are equal and all literals true. The extras are the equations of

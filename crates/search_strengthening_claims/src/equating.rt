@@ -1,7 +1,7 @@
 //! Terms of one class get equal values.
 
 use crate::claims::{Claims, class_at, form_at};
-use crate::solution::Solution;
+use crate::solution::{Solution, position_value};
 use crate::solving::{Solved, solve};
 use crate::weeding::value_of;
 use fs_pair::positions::Position;
@@ -13,8 +13,6 @@ use search_strengthening_terms::stop::Stop;
 use search_strengthening_terms::universe::Universe;
 use search_strengthening_terms::work::Work;
 use std::alloc::Global;
-use sym_facts::entailment::form_like;
-use sym_facts::fact::own_symbol;
 
 // The value of a term that is in a class.
 fn term_value(
@@ -31,6 +29,21 @@ fn term_value(
     }
 }
 
+// Adds the values of terms, none of those that are out.
+fn push_term_values(
+    alloc: Global,
+    work: &mut Work,
+    universe: &Universe,
+    claims: &Claims,
+    s: &mut Subst<'_>,
+    values: &mut Vec<Option<Nf>>,
+) -> Result<(), Stop> {
+    for place in 0..claims.classes.len() {
+        values.push(term_value(alloc, work, universe, claims, s, place)?)?;
+    }
+    Ok(())
+}
+
 // The values of terms, none of those that are out.
 fn term_values(
     alloc: Global,
@@ -40,11 +53,9 @@ fn term_values(
     solution: &Solution,
 ) -> Result<Vec<Option<Nf>>, Stop> {
     let mut s = Subst::new(alloc, &solution.values);
-    let mut out = Vec::new(alloc);
-    for place in 0..claims.classes.len() {
-        out.push(term_value(alloc, work, universe, claims, &mut s, place)?)?;
-    }
-    Ok(out)
+    let mut values = Vec::new(alloc);
+    push_term_values(alloc, work, universe, claims, &mut s, &mut values)?;
+    Ok(values)
 }
 
 // The value at a place.
@@ -103,12 +114,48 @@ fn replaced(
     solution: &Solution,
     position: &Position,
 ) -> Result<Nf, Stop> {
-    let symbol = own_symbol(alloc, position.sort, position.pos)?;
-    let value = form_like(alloc, &solution.values, &position.pos, &symbol)?;
+    let value = position_value(alloc, solution, position)?;
     match value_of(alloc, work, s, &value)? {
         Some(value) => Ok(value),
         None => Err(Stop::Bound),
     }
+}
+
+// Puts the values of positions over the positions that stay free.
+fn put_replaced(
+    alloc: Global,
+    work: &mut Work,
+    positions: &[Position],
+    solution: &Solution,
+    s: &mut Subst<'_>,
+    values: &mut Vector,
+) -> Result<(), Stop> {
+    for position in positions {
+        let value = replaced(alloc, work, s, solution, position)?;
+        values.put(position.pos, value)?;
+    }
+    Ok(())
+}
+
+// The value of a position alone.
+fn lone_value(alloc: Global, solved: Solved) -> Result<Vector, NoMemory> {
+    let mut only = Vector::new(alloc);
+    only.put(solved.pos, solved.form)?;
+    Ok(only)
+}
+
+// The values of positions, where these are put in the places of positions.
+fn replaced_by(
+    alloc: Global,
+    work: &mut Work,
+    positions: &[Position],
+    solution: &Solution,
+    only: &Vector,
+) -> Result<Vector, Stop> {
+    let mut s = Subst::new(alloc, only);
+    let mut values = Vector::new(alloc);
+    put_replaced(alloc, work, positions, solution, &mut s, &mut values)?;
+    Ok(values)
 }
 
 // The values of positions over the positions that stay free.
@@ -119,17 +166,8 @@ fn all_replaced(
     solution: &Solution,
     solved: Solved,
 ) -> Result<Vector, Stop> {
-    let mut only = Vector::new(alloc);
-    only.put(solved.pos, solved.form)?;
-    let mut s = Subst::new(alloc, &only);
-    let mut values = Vector::new(alloc);
-    for position in positions {
-        values.put(
-            position.pos,
-            replaced(alloc, work, &mut s, solution, position)?,
-        )?;
-    }
-    Ok(values)
+    let only = lone_value(alloc, solved)?;
+    replaced_by(alloc, work, positions, solution, &only)
 }
 
 // Puts what a free position is equal to in its place.
@@ -147,6 +185,19 @@ fn replace(
     Ok(())
 }
 
+// What a free position is equal to where two terms of a class have different values.
+fn next_solved(
+    alloc: Global,
+    work: &mut Work,
+    universe: &Universe,
+    positions: &[Position],
+    claims: &Claims,
+    solution: &Solution,
+) -> Result<Option<Solved>, Stop> {
+    let values = term_values(alloc, work, universe, claims, solution)?;
+    Ok(find_solved(alloc, positions, claims, solution, values.as_slice())?)
+}
+
 /// While two terms of a class have different values, solves this for a free position, and puts what it is equal to in its
 /// place. `Bound` comes where too little work is left, or a value meets a limit.
 pub fn equate(
@@ -158,8 +209,7 @@ pub fn equate(
     solution: &mut Solution,
 ) -> Result<(), Stop> {
     for _ in positions {
-        let values = term_values(alloc, work, universe, claims, solution)?;
-        match find_solved(alloc, positions, claims, solution, values.as_slice())? {
+        match next_solved(alloc, work, universe, positions, claims, solution)? {
             Some(solved) => replace(alloc, work, positions, solution, solved)?,
             None => return Ok(()),
         }

@@ -4,7 +4,7 @@ use crate::claims::Claims;
 use crate::equating::equate;
 use crate::literals::literals_over;
 use crate::settling::settle;
-use crate::solution::Solution;
+use crate::solution::{Solution, position_value};
 use crate::tested_facts::tested_fact;
 use fs_pair::positions::{Pairing, Position};
 use nf_terms::form::Nf;
@@ -13,8 +13,7 @@ use search_strengthening_terms::stop::Stop;
 use search_strengthening_terms::universe::Universe;
 use search_strengthening_terms::work::Work;
 use std::alloc::Global;
-use sym_facts::entailment::form_like;
-use sym_facts::fact::{Fact, own_symbol};
+use sym_facts::fact::Fact;
 
 // The equation of a position: none where it is free.
 fn equation_of(
@@ -25,8 +24,7 @@ fn equation_of(
     if solution.is_free(position.pos) {
         return Ok(None);
     }
-    let symbol = own_symbol(alloc, position.sort, position.pos)?;
-    Ok(Some(form_like(alloc, &solution.values, &position.pos, &symbol)?))
+    Ok(Some(position_value(alloc, solution, position)?))
 }
 
 // The equations of positions.
@@ -42,6 +40,32 @@ fn equations_of(
     Ok(out)
 }
 
+// Values of positions that all their classes have.
+fn solution_of(
+    alloc: Global,
+    work: &mut Work,
+    universe: &Universe,
+    positions: &[Position],
+    claims: &Claims,
+) -> Result<Solution, Stop> {
+    let mut solution = settle(alloc, work, universe, positions, claims)?;
+    equate(alloc, work, universe, positions, claims, &mut solution)?;
+    Ok(solution)
+}
+
+// The fact of the values of positions, if they make one.
+fn fact_over(
+    alloc: Global,
+    work: &mut Work,
+    p: &Pairing,
+    claims: &Claims,
+    solution: &Solution,
+) -> Result<Option<Fact>, Stop> {
+    let equations = equations_of(alloc, solution, p.positions())?;
+    let literals = literals_over(alloc, work, &solution.values, claims.literals.as_slice())?;
+    Ok(tested_fact(alloc, p, equations, literals)?)
+}
+
 /// The fact that is made of claims: each position is free, or has a value over free positions that all its class has. `Bound`
 /// comes where too little work is left, or what is made is no fact.
 pub fn fact_of(
@@ -51,12 +75,8 @@ pub fn fact_of(
     p: &Pairing,
     claims: &Claims,
 ) -> Result<Fact, Stop> {
-    let positions = p.positions();
-    let mut solution = settle(alloc, work, universe, positions, claims)?;
-    equate(alloc, work, universe, positions, claims, &mut solution)?;
-    let equations = equations_of(alloc, &solution, positions)?;
-    let literals = literals_over(alloc, work, &solution.values, claims.literals.as_slice())?;
-    match tested_fact(alloc, p, equations, literals)? {
+    let solution = solution_of(alloc, work, universe, p.positions(), claims)?;
+    match fact_over(alloc, work, p, claims, &solution)? {
         Some(fact) => Ok(fact),
         None => Err(Stop::Bound),
     }

@@ -11,6 +11,15 @@ use search_strengthening_terms::work::Work;
 use std::alloc::Global;
 use sym_facts::entailment::substitute_literal;
 
+// Adds a literal that is neither true nor false.
+fn push_open(work: &mut Work, out: &mut Vec<NLit>, literal: NLit) -> Result<(), Stop> {
+    if matches!(literal, NLit::Is(_)) {
+        work.spend(literal.size())?;
+        out.push(literal)?;
+    }
+    Ok(())
+}
+
 // Adds a literal over free positions, unless it is true or false, or meets a limit.
 fn push_value(
     alloc: Global,
@@ -20,11 +29,22 @@ fn push_value(
     literal: &NLit,
 ) -> Result<(), Stop> {
     work.spend(literal.size())?;
-    if let Some(value) = unless_stopped(substitute_literal(alloc, s, literal))? {
-        if matches!(value, NLit::Is(_)) {
-            work.spend(value.size())?;
-            out.push(value)?;
-        }
+    match unless_stopped(substitute_literal(alloc, s, literal))? {
+        Some(value) => push_open(work, out, value),
+        None => Ok(()),
+    }
+}
+
+// Adds the literals over free positions that are not true or false.
+fn push_values(
+    alloc: Global,
+    work: &mut Work,
+    s: &mut Subst<'_>,
+    out: &mut Vec<NLit>,
+    literals: &[NLit],
+) -> Result<(), Stop> {
+    for literal in literals {
+        push_value(alloc, work, s, out, literal)?;
     }
     Ok(())
 }
@@ -38,9 +58,7 @@ fn all_values(
 ) -> Result<Vec<NLit>, Stop> {
     let mut s = Subst::new(alloc, values);
     let mut out = Vec::new(alloc);
-    for literal in literals {
-        push_value(alloc, work, &mut s, &mut out, literal)?;
-    }
+    push_values(alloc, work, &mut s, &mut out, literals)?;
     Ok(out)
 }
 
@@ -65,6 +83,12 @@ fn is_needless(literals: &[NLit], place: usize) -> bool {
     false
 }
 
+// Takes the work of comparing literals off.
+fn spend_on_pairs(work: &mut Work, literals: &[NLit]) -> Result<(), Stop> {
+    let count = literals.len() as u64;
+    work.spend(count.saturating_mul(count) / 4)
+}
+
 // The first 64 literals that no other one implies.
 fn needed(alloc: Global, literals: &[NLit]) -> Result<Vec<NLit>, NoMemory> {
     let mut out = Vec::new(alloc);
@@ -85,7 +109,6 @@ pub fn literals_over(
     literals: &[NLit],
 ) -> Result<Vec<NLit>, Stop> {
     let all = all_values(alloc, work, values, literals)?;
-    let count = all.len() as u64;
-    work.spend(count.saturating_mul(count) / 4)?;
+    spend_on_pairs(work, all.as_slice())?;
     Ok(needed(alloc, all.as_slice())?)
 }

@@ -254,6 +254,25 @@ fn free(
     }
 }
 
+// Makes all positions known.
+fn settle_all(
+    alloc: Global,
+    work: &mut Work,
+    universe: &Universe,
+    positions: &[Position],
+    claims: &Claims,
+    solution: &mut Solution,
+) -> Result<(), Stop> {
+    for _ in positions {
+        tell_all(alloc, work, universe, positions, claims, solution)?;
+        match next_free(positions, claims, solution) {
+            Some(place) => free(alloc, positions, claims, solution, place)?,
+            None => return Ok(()),
+        }
+    }
+    Ok(())
+}
+
 /// Values of all positions: those of a class have the value of a term whose positions are all known; where no term tells a
 /// value, the next position is free, left inputs first, then those with a position of the other side in their class, then the
 /// others. `Bound` comes where too little work is left.
@@ -265,12 +284,6 @@ pub fn settle(
     claims: &Claims,
 ) -> Result<Solution, Stop> {
     let mut solution = Solution::new(alloc, positions.len())?;
-    for _ in positions {
-        tell_all(alloc, work, universe, positions, claims, &mut solution)?;
-        match next_free(positions, claims, &solution) {
-            Some(place) => free(alloc, positions, claims, &mut solution, place)?,
-            None => return Ok(solution),
-        }
-    }
+    settle_all(alloc, work, universe, positions, claims, &mut solution)?;
     Ok(solution)
 }

@@ -1,9 +1,13 @@
 //! Values of positions over those that are free.
 
+use fs_pair::positions::Position;
 use nf_substitution::vector::Vector;
+use nf_terms::form::Nf;
 use nf_terms::stop::NoMemory;
 use nf_terms::tree::Pos;
 use std::alloc::Global;
+use sym_facts::entailment::form_like;
+use sym_facts::fact::own_symbol;
 
 /// For each position whether it is known, and the values of known positions, over free ones. A free position has no value but
 /// its symbol.
@@ -43,4 +47,14 @@ impl Solution {
     pub fn is_free(&self, pos: Pos) -> bool {
         self.free.contains(&pos)
     }
+}
+
+/// The value of a position: its symbol where it is free.
+pub(crate) fn position_value(
+    alloc: Global,
+    solution: &Solution,
+    position: &Position,
+) -> Result<Nf, NoMemory> {
+    let symbol = own_symbol(alloc, position.sort, position.pos)?;
+    form_like(alloc, &solution.values, &position.pos, &symbol)
 }

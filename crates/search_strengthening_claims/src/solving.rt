@@ -46,6 +46,30 @@ fn unit_symbol(mono: &MonoTree, coefficient: &i128) -> Option<Pos> {
     }
 }
 
+// A number without a symbol that stands in it with this coefficient, or none where it meets a limit.
+fn without_symbol(
+    alloc: Global,
+    number: &Poly,
+    pos: Pos,
+    coefficient: &i128,
+) -> Result<Option<Poly>, NoMemory> {
+    let symbol = Poly::symbol(alloc, pos)?;
+    if *coefficient == 1 {
+        unless_stopped(sub(alloc, number, &symbol))
+    } else {
+        unless_stopped(add(alloc, number, &symbol))
+    }
+}
+
+// What a symbol with this coefficient is equal to where the rest of a number that is 0 is this one.
+fn solved_for(alloc: Global, rest: Poly, coefficient: &i128) -> Result<Poly, NoMemory> {
+    if *coefficient == 1 {
+        neg(alloc, &rest)
+    } else {
+        Ok(rest)
+    }
+}
+
 // What a symbol is equal to where a number is 0, in which it stands with this coefficient and nowhere else.
 fn isolated(
     alloc: Global,
@@ -53,20 +77,12 @@ fn isolated(
     pos: Pos,
     coefficient: &i128,
 ) -> Result<Option<Poly>, NoMemory> {
-    let symbol = Poly::symbol(alloc, pos)?;
-    let rest = if *coefficient == 1 {
-        sub(alloc, number, &symbol)
-    } else {
-        add(alloc, number, &symbol)
-    };
-    match unless_stopped(rest)? {
+    match without_symbol(alloc, number, pos, coefficient)? {
         Some(rest) => {
             if rest.mentions(pos) {
                 Ok(None)
-            } else if *coefficient == 1 {
-                Ok(Some(neg(alloc, &rest)?))
             } else {
-                Ok(Some(rest))
+                Ok(Some(solved_for(alloc, rest, coefficient)?))
             }
         }
         None => Ok(None),

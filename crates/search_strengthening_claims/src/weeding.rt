@@ -21,6 +21,14 @@ struct First {
     value: Nf,
 }
 
+// Takes the work of a value off.
+fn spend_on_value(work: &mut Work, value: &Option<Nf>) -> Result<(), Stop> {
+    match value {
+        Some(value) => work.spend(value.size()),
+        None => Ok(()),
+    }
+}
+
 /// The value of a form, or none where it meets a limit.
 pub fn value_of(
     alloc: Global,
@@ -30,9 +38,7 @@ pub fn value_of(
 ) -> Result<Option<Nf>, Stop> {
     work.spend(form.size())?;
     let value = unless_stopped(substitute(alloc, s, form))?;
-    if let Some(value) = &value {
-        work.spend(value.size())?;
-    }
+    spend_on_value(work, &value)?;
     Ok(value)
 }
 
@@ -79,6 +85,24 @@ fn class_after(
     }
 }
 
+// Adds the classes, split by the values of their terms.
+fn push_classes(
+    alloc: Global,
+    work: &mut Work,
+    universe: &Universe,
+    claims: &Claims,
+    s: &mut Subst<'_>,
+    firsts: &mut Vec<First>,
+    classes: &mut Vec<Option<usize>>,
+) -> Result<(), Stop> {
+    for (place, old) in claims.classes.iter().enumerate() {
+        let form = form_at(universe, claims, place);
+        let class = class_after(alloc, work, s, form, firsts, *old, place)?;
+        classes.push(class)?;
+    }
+    Ok(())
+}
+
 // The classes, split by the values of their terms.
 fn split_classes(
     alloc: Global,
@@ -88,13 +112,9 @@ fn split_classes(
     s: &mut Subst<'_>,
 ) -> Result<Vec<Option<usize>>, Stop> {
     let mut firsts = Vec::new(alloc);
-    let mut out = Vec::new(alloc);
-    for (place, old) in claims.classes.iter().enumerate() {
-        let form = form_at(universe, claims, place);
-        let class = class_after(alloc, work, s, form, &mut firsts, *old, place)?;
-        out.push(class)?;
-    }
-    Ok(out)
+    let mut classes = Vec::new(alloc);
+    push_classes(alloc, work, universe, claims, s, &mut firsts, &mut classes)?;
+    Ok(classes)
 }
 
 // For each place whether the class that has this place has a second term.
@@ -112,13 +132,30 @@ fn shared_classes(alloc: Global, classes: &[Option<usize>]) -> Result<Vec<bool>,
     Ok(shared)
 }
 
-// Puts terms out that are alone in their classes and no positions.
-fn put_out_lone(classes: &mut [Option<usize>], shared: &[bool], positions: usize) {
+// Puts terms out that share their classes with no term and are no positions.
+fn put_out_unshared(classes: &mut [Option<usize>], shared: &[bool], positions: usize) {
     for (place, class) in classes.iter_mut().enumerate() {
         if positions <= place && *class == Some(place) && shared.get(place) == Some(&false) {
             *class = None;
         }
     }
+}
+
+// Puts terms out that are alone in their classes and no positions.
+fn put_out_lone(
+    alloc: Global,
+    classes: &mut [Option<usize>],
+    positions: usize,
+) -> Result<(), NoMemory> {
+    let shared = shared_classes(alloc, classes)?;
+    put_out_unshared(classes, shared.as_slice(), positions);
+    Ok(())
+}
+
+// Whether a value of a literal is implied at an arrival.
+fn is_implied(work: &mut Work, conds: &[NLit], value: &NLit) -> Result<bool, Stop> {
+    work.spend(value.size())?;
+    Ok(implied(conds, value))
 }
 
 // Whether a literal holds at an arrival.
@@ -131,12 +168,26 @@ fn is_kept(
 ) -> Result<bool, Stop> {
     work.spend(literal.size())?;
     match unless_stopped(substitute_literal(alloc, s, literal))? {
-        Some(value) => {
-            work.spend(value.size())?;
-            Ok(implied(conds, &value))
-        }
+        Some(value) => is_implied(work, conds, &value),
         None => Ok(false),
     }
+}
+
+// Adds the literals that hold at an arrival.
+fn push_kept(
+    alloc: Global,
+    work: &mut Work,
+    s: &mut Subst<'_>,
+    conds: &[NLit],
+    literals: &[NLit],
+    out: &mut Vec<NLit>,
+) -> Result<(), Stop> {
+    for literal in literals {
+        if is_kept(alloc, work, s, conds, literal)? {
+            out.push(literal.try_clone(alloc)?)?;
+        }
+    }
+    Ok(())
 }
 
 // The literals that hold at an arrival.
@@ -148,12 +199,46 @@ fn kept_literals(
     literals: &[NLit],
 ) -> Result<Vec<NLit>, Stop> {
     let mut out = Vec::new(alloc);
-    for literal in literals {
-        if is_kept(alloc, work, s, conds, literal)? {
-            out.push(literal.try_clone(alloc)?)?;
-        }
-    }
+    push_kept(alloc, work, s, conds, literals, &mut out)?;
     Ok(out)
+}
+
+// The classes after an arrival.
+fn classes_after(
+    alloc: Global,
+    work: &mut Work,
+    universe: &Universe,
+    positions: usize,
+    claims: &Claims,
+    s: &mut Subst<'_>,
+) -> Result<Vec<Option<usize>>, Stop> {
+    let mut classes = split_classes(alloc, work, universe, claims, s)?;
+    put_out_lone(alloc, &mut classes, positions)?;
+    Ok(classes)
+}
+
+// Gives claims these classes and literals. Answers whether this changed them.
+fn change(claims: &mut Claims, classes: Vec<Option<usize>>, literals: Vec<NLit>) -> bool {
+    let changed = classes.as_slice() != claims.classes.as_slice()
+        || literals.len() != claims.literals.len();
+    claims.classes = classes;
+    claims.literals = literals;
+    changed
+}
+
+// Weeds claims by an arriving vector and arriving conditions.
+fn weed_by(
+    alloc: Global,
+    work: &mut Work,
+    universe: &Universe,
+    positions: usize,
+    claims: &mut Claims,
+    s: &mut Subst<'_>,
+    conds: &[NLit],
+) -> Result<bool, Stop> {
+    let classes = classes_after(alloc, work, universe, positions, claims, s)?;
+    let literals = kept_literals(alloc, work, s, conds, claims.literals.as_slice())?;
+    Ok(change(claims, classes, literals))
 }
 
 /// Weeds claims by a post: each class is split by the values that its terms have in the arriving vector, a term whose value
@@ -168,14 +253,6 @@ pub fn weed(
     post: &Post,
 ) -> Result<bool, Stop> {
     let mut s = Subst::new(alloc, &post.vector);
-    let mut classes = split_classes(alloc, work, universe, claims, &mut s)?;
-    let shared = shared_classes(alloc, classes.as_slice())?;
-    put_out_lone(&mut classes, shared.as_slice(), positions);
     let conds = post.conds.as_slice();
-    let literals = kept_literals(alloc, work, &mut s, conds, claims.literals.as_slice())?;
-    let changed = classes.as_slice() != claims.classes.as_slice()
-        || literals.len() != claims.literals.len();
-    claims.classes = classes;
-    claims.literals = literals;
-    Ok(changed)
+    weed_by(alloc, work, universe, positions, claims, &mut s, conds)
 }

@@ -1,9 +1,9 @@
-use Rattle.std.proofs.Common.{◌∙◌, ap, ap₂}
+use Rattle.std.proofs.Common.{ap}
 use Rattle.std.proofs.lemmas.Result.{IfOk-weaker}
-use Rattle.clap.specs.Words.{App, with_rule}
+use Rattle.clap.specs.Words.{App}
 use Rattle.fsmd_words.proofs.commands.run.Goals as goal
 
 pub returns-clause-shape : goal.returns-clause-shape
 returns-clause-shape c =
-    IfOk-weaker c.arg.result _ _
-    (λ command h. ap (λ (a : App). a.top) (h.shape c.steps.ensures.local ∙ ap₂ with_rule c.in_ok-two_files.ensures.app c.steps.ensures.rule)) c.arg.ensures
+    IfOk-weaker c.with_argument.result _ _ (λ command h. ap (λ (a : App). a.top) h)
+    (c.with_argument.ensures.app _ _ c.two_files.ensures.app c.steps.ensures.rule)

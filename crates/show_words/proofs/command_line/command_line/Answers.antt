@@ -1,6 +1,6 @@
 use Rattle.std.proofs.Common.{◌∙◌, ap, codes}
 use Rattle.std.proofs.lemmas.Result.{IfOk-weaker}
-use Rattle.fsmd_words.proofs.Added.{added}
+use Rattle.show_words.proofs.Added.{added}
 use Rattle.clap.specs.Words.{App, app_of, with_subcommand}
 use Rattle.show_words.specs.ViewCommandLine.{certificate_command, machine_command, pair_command}
 use Rattle.show_words.proofs.command_line.command_line.Goals as goal
