@@ -6,8 +6,8 @@ use Rattle.sym_facts.specs.Facts.{Fact}
 use Rattle.cert_writer.specs.WrittenCertificates.{mode_written}
 use Rattle.search_tables.specs.SearchTables.{MachinePair}
 use Rattle.show_fact_text.specs.FactLines.{fact_lines}
-use Rattle.show_search_views.specs.MoveLines.{points_text}
-use Rattle.show_search_views.specs.View.{position_name_in}
+use Rattle.show_move_lines.specs.MoveLines.{points_text}
+use Rattle.show_move_lines.specs.View.{position_name_in}
 
 -- a node: its points and its mode, and then its fact
 abbrev pub node_text : MachinePair → Node Fact → List ℕ

@@ -14,7 +14,7 @@ use Rattle.sym_facts.specs.Facts.{Fact}
 use Rattle.fs_path_text.specs.PathTexts.{named_path}
 use Rattle.cert_writer.specs.WrittenCertificates.{mode_written}
 use Rattle.search_tables.specs.SearchTables.{MachinePair}
-use Rattle.show_search_views.specs.MoveLines.{points_text}
+use Rattle.show_move_lines.specs.MoveLines.{points_text}
 
 -- ---- one obligation
 

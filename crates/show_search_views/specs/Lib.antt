@@ -1,7 +1,3 @@
-pub mod MoveReplays
-pub mod MoveLines
-pub mod MoveLaws
-pub mod View
 pub mod CertificateLines
 pub mod Why
 pub mod Demands

@@ -12,9 +12,9 @@ use Rattle.search_tables.specs.SearchTables.{MachinePair, SearchNode, Table, fir
 use Rattle.search_tables.specs.Legal.{Makes}
 use Rattle.search.specs.SearchOutcomes.{IsSearchOutcome}
 use Rattle.show_fact_text.specs.FactLines.{fact_lines}
-use Rattle.show_search_views.specs.MoveReplays.{Turn, Idle, Makes as MakesNode, Weakens, turn_of_move, with_turn, with_turns}
-use Rattle.show_search_views.specs.MoveLines.{moved_at, points_text}
-use Rattle.show_search_views.specs.View.{position_name_in}
+use Rattle.show_move_lines.specs.MoveReplays.{Turn, Idle, Makes as MakesNode, Weakens, turn_of_move, with_turn, with_turns}
+use Rattle.show_move_lines.specs.MoveLines.{moved_at, points_text}
+use Rattle.show_move_lines.specs.View.{position_name_in}
 
 -- ---- nodes
 

@@ -10,7 +10,7 @@ use Rattle.search.specs.SearchOutcomes.{IsSearchOutcome}
 use Rattle.fsmd_pair_answers.specs.declared.answer.PairAnswer.{PairAnswer}
 use Rattle.fsmd_pair_answers.specs.declared.answer.PairAnswer.TheVariants.{Equivalent, Counterexample, Undecided}
 use Rattle.fsmd_pair_answers.specs.PairAnswers.{IsPairAnswer}
-use Rattle.show_search_views.specs.MoveLines.{history_text}
+use Rattle.show_move_lines.specs.MoveLines.{history_text}
 use Rattle.show_search_views.specs.CertificateLines.{certificate_lines}
 use Rattle.show_search_views.specs.declared.why.Explanation.{Explanation}
 

@@ -6,12 +6,13 @@ ghost use Rattle.cert_model.specs.View.{node_of};
 ghost use Rattle.search_tables.specs.SearchTables.{machines};
 ghost use Rattle.show_search_views.specs.CertificateLines.{node_text, certificate_lines};
 
-use crate::texts::{mode_text, write_points};
+use crate::modes::mode_text;
 use cert_model::cert::Node;
 use fs_ast::machine::Machine;
 use nf_terms::stop::NoMemory;
 use show_fact_text::lines::write_fact;
 use show_fact_text::names::SideNames;
+use show_move_lines::texts::write_points;
 use std::alloc::Global;
 
 // Adds the lines of a node: its points and its mode, and then its fact.

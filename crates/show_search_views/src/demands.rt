@@ -7,14 +7,15 @@ ghost use Rattle.cert_model.specs.View.{node_of};
 ghost use Rattle.search_tables.specs.SearchTables.{machines};
 ghost use Rattle.show_search_views.specs.Demands.{start_demand, mode_demand, demands_by_mode, demands_of, demands};
 
+use crate::modes::mode_text;
 use crate::move_demands::{push_both, push_lefts, push_outputs, push_rights};
-use crate::texts::{mode_text, write_points};
 use cert_bisimulation::mode::Mode;
 use cert_machine_pairs::covers::cover_of;
 use cert_model::cert::Node;
 use fs_ast::machine::Machine;
 use fs_cut::cover::{Cover, Point};
 use nf_terms::stop::NoMemory;
+use show_move_lines::texts::write_points;
 use std::alloc::Global;
 
 // What the start asks.
@@ -105,6 +106,25 @@ fn push_nodes(
     Ok(())
 }
 
+// What the obligations of a certificate ask, over the covers of the machines.
+fn demands_over(
+    alloc: Global,
+    a: &Machine,
+    b: &Machine,
+    ca: &Cover,
+    cb: &Cover,
+    nodes: &[Node],
+) -> Result<Vec<Vec<u8>>, NoMemory>
+    requires left { ca.now ≡ cover_of a.now }
+    requires right { cb.now ≡ cover_of b.now }
+    ensures { IfOk result (λ texts. map (λ t. t.items) texts.items ≡ demands (machines a.now b.now) (map node_of nodes.now)) }
+{
+    let mut texts = Vec::new(alloc);
+    texts.push(start_demand(alloc, a, b)?)?;
+    push_nodes(alloc, &mut texts, a, b, ca, cb, nodes)?;
+    Ok(texts)
+}
+
 /// What the obligations of a certificate ask, in order. The one refusal is out of memory.
 pub fn demands(
     alloc: Global,
@@ -116,8 +136,5 @@ pub fn demands(
 {
     let ca = cover_of(alloc, a)?;
     let cb = cover_of(alloc, b)?;
-    let mut texts = Vec::new(alloc);
-    texts.push(start_demand(alloc, a, b)?)?;
-    push_nodes(alloc, &mut texts, a, b, &ca, &cb, nodes)?;
-    Ok(texts)
+    demands_over(alloc, a, b, &ca, &cb, nodes)
 }

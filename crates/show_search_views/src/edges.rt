@@ -2,20 +2,20 @@
 
 ghost use Rattle.std.specs.Prelude.{◌≡◌, ◌++◌, IfOk, OnOk, slice_get};
 ghost use Rattle.search_tables.specs.View.{table_in};
-ghost use Rattle.show_search_views.specs.MoveReplays.{turn_of_move, with_turn, with_turns, AreOf};
-ghost use Rattle.show_search_views.specs.MoveLines.{moved_at};
-ghost use Rattle.show_search_views.specs.View.{side_machines, turn_in};
+ghost use Rattle.show_move_lines.specs.MoveReplays.{turn_of_move, with_turn, with_turns, AreOf};
+ghost use Rattle.show_move_lines.specs.MoveLines.{moved_at};
+ghost use Rattle.show_move_lines.specs.View.{side_machines, turn_in};
 ghost use Rattle.show_search_views.specs.SearchPictures.{move_edge, turn_edge, turns_edges};
 
-use crate::lines::write_move;
-use crate::sides::Sides;
-use crate::turn::Turn;
-use crate::turns::{make_turn, turn};
 use itoa::Buffer;
 use nf_terms::stop::NoMemory;
 use search_tables::moves::Move;
 use search_tables::nodes::TableNode;
 use show_dot_text::graphs::write_edge;
+use show_move_lines::lines::write_move;
+use show_move_lines::sides::Sides;
+use show_move_lines::turn::Turn;
+use show_move_lines::turns::{make_turn, turn};
 use std::alloc::Global;
 
 // The label of a move: its paths.

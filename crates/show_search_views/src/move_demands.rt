@@ -7,14 +7,14 @@ ghost use Rattle.search_tables.specs.SearchTables.{machines};
 ghost use Rattle.show_search_views.specs.Demands.{side_moved, move_demand, output_demand, output_demands, left_demands};
 ghost use Rattle.show_search_views.specs.Demands.{right_demands, both_demands};
 
-use crate::points::end_of;
-use crate::texts::write_points;
 use cert_model::cert::Node;
 use fs_ast::machine::Machine;
 use fs_cut::cover::Path;
 use fs_model::parts::VarInfo;
 use fs_path_text::paths::write_named_path;
 use nf_terms::stop::NoMemory;
+use show_move_lines::points::end_of;
+use show_move_lines::texts::write_points;
 use std::alloc::Global;
 
 // Adds the path of a side, or `-` where it stays.
@@ -33,8 +33,35 @@ fn write_side(
     Ok(())
 }
 
-// What a move from a node asks.
+// Adds what a move from a node asks.
 #[tactic(auto, unfolding(crate::specs::Demands::move_demand))]
+fn write_move_demand(
+    alloc: Global,
+    out: &mut Vec<u8>,
+    a: &Machine,
+    b: &Machine,
+    node: &Node,
+    left: Option<&Path>,
+    right: Option<&Path>,
+) -> Result<(), NoMemory>
+    ensures { OnOk result (out.new.items ≡ out.old.items
+        ++ move_demand (machines a.now b.now) (node_of node.now) (option_map (λ p. path_of p.now) left.entry)
+        (option_map (λ p. path_of p.now) right.entry)) }
+{
+    write_side(alloc, out, a, left)?;
+    out.extend_from_slice(b" | ")?;
+    write_side(alloc, out, b, right)?;
+    out.extend_from_slice(b": the fact at ")?;
+    write_points(
+        out,
+        a,
+        b,
+        end_of(node.left, left),
+        end_of(node.right, right),
+    )
+}
+
+// What a move from a node asks.
 fn move_demand(
     alloc: Global,
     a: &Machine,
@@ -48,17 +75,7 @@ fn move_demand(
         (option_map (λ p. path_of p.now) right.entry)) }
 {
     let mut text = Vec::new(alloc);
-    write_side(alloc, &mut text, a, left)?;
-    text.extend_from_slice(b" | ")?;
-    write_side(alloc, &mut text, b, right)?;
-    text.extend_from_slice(b": the fact at ")?;
-    write_points(
-        &mut text,
-        a,
-        b,
-        end_of(node.left, left),
-        end_of(node.right, right),
-    )?;
+    write_move_demand(alloc, &mut text, a, b, node, left, right)?;
     Ok(text)
 }
 

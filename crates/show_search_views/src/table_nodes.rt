@@ -2,18 +2,18 @@
 
 ghost use Rattle.std.specs.Prelude.{◌≡◌, ◌++◌, IfOk, OnOk};
 ghost use Rattle.search_tables.specs.View.{table_node_in, table_in};
-ghost use Rattle.show_search_views.specs.View.{side_machines};
+ghost use Rattle.show_move_lines.specs.View.{side_machines};
 ghost use Rattle.show_search_views.specs.SearchPictures.{node_label, table_node_line, table_node_lines};
 
 use crate::marks::look_at;
-use crate::sides::Sides;
-use crate::texts::write_points;
 use itoa::Buffer;
 use nf_terms::stop::NoMemory;
 use search_tables::nodes::TableNode;
 use show_dot_text::graphs::write_node;
 use show_fact_text::lines::write_fact;
 use show_fact_text::names::SideNames;
+use show_move_lines::sides::Sides;
+use show_move_lines::texts::write_points;
 use std::alloc::Global;
 
 // The label of a node: its points, and its fact.

@@ -7,7 +7,6 @@ ghost use Rattle.search_tables.specs.SearchTables.{machines};
 ghost use Rattle.show_search_views.specs.Why.{moves_of, history_of, heading_of, found_lines, why_lines, IsExplanation};
 
 use crate::certificate_lines::certificate_lines;
-use crate::history::history;
 use fs_ast::machine::Machine;
 use fs_pair::positions::Pairing;
 use fsmd_pair_answers::answer::PairAnswer;
@@ -16,6 +15,7 @@ use nf_terms::stop::NoMemory;
 use search::searching::search;
 use search_tables::moves::Move;
 use search_tables::outcome::Outcome;
+use show_move_lines::history::history;
 use std::alloc::Global;
 
 /// The answer that two machines get, and the lines of what led to it.

@@ -1,7 +1,7 @@
 use Rattle.std.proofs.Common.{◌≡◌, ◌++◌, drop}
 use Rattle.search_tables.specs.View.{table_in}
-use Rattle.show_search_views.specs.MoveReplays.{with_turns, AreOf}
-use Rattle.show_search_views.specs.View.{side_machines}
+use Rattle.show_move_lines.specs.MoveReplays.{with_turns, AreOf}
+use Rattle.show_move_lines.specs.View.{side_machines}
 use Rattle.show_search_views.specs.SearchPictures.{turns_edges}
 use Rattle.show_search_views.proofs.edges.draw_moves.Given as goal
 

@@ -1,6 +1,6 @@
 use Rattle.std.proofs.Common.{◌≡◌, ◌++◌, drop}
 use Rattle.search_tables.specs.View.{table_in}
-use Rattle.show_search_views.specs.View.{side_machines}
+use Rattle.show_move_lines.specs.View.{side_machines}
 use Rattle.show_search_views.specs.SearchPictures.{table_node_lines}
 use Rattle.show_search_views.proofs.table_nodes.write_table_nodes.Given as goal
 

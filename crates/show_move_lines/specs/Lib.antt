@@ -1,0 +1,4 @@
+pub mod MoveReplays
+pub mod MoveLines
+pub mod MoveLaws
+pub mod View

@@ -1,0 +1,30 @@
+-- The types of src/ as plain data.
+use Rattle.std.specs.Prelude.{ℕ, List, Option, Some, None}
+use Rattle.fs_pair.specs.Partners.{position_name}
+use Rattle.fs_cut.specs.View.{point_of}
+use Rattle.fs_model.specs.declared.sides.Pos.{Pos}
+use Rattle.sym_paths.specs.View.{post_in}
+use Rattle.sym_facts.specs.View.{missing_in}
+use Rattle.search_tables.specs.SearchTables.{MachinePair, Target, Unknown, Known}
+use Rattle.search_tables.specs.View.{table_node_in}
+use Rattle.show_move_lines.specs.declared.sides.Sides.{Sides}
+use Rattle.show_move_lines.specs.declared.points.Standing.{Standing}
+use Rattle.show_move_lines.specs.declared.turn.Turn.{Turn as CodeTurn}
+use Rattle.show_move_lines.specs.declared.turn.Turn.TheVariants as code
+use Rattle.show_move_lines.specs.MoveReplays.{Turn, Idle, Makes, Weakens}
+
+abbrev pub side_machines : Sides → MachinePair
+side_machines s = record { left = s.left.now; right = s.right.now }
+
+-- the names of the positions of two machines
+abbrev pub position_name_in : MachinePair → Pos → List ℕ
+position_name_in m = position_name m.left m.right
+
+abbrev pub target_in : Option Standing → Target
+target_in None = Unknown
+target_in (Some s) = Known s.number (table_node_in s.node.now)
+
+abbrev pub turn_in : CodeTurn → Turn
+turn_in code.Idle = Idle
+turn_in (code.Makes P Q f) = Makes (point_of P) (point_of Q) f
+turn_in (code.Weakens k P Q post x f) = Weakens k (point_of P) (point_of Q) (post_in post) (missing_in x) f

@@ -1,0 +1,68 @@
+//! The node at two points.
+
+ghost use Rattle.std.specs.Prelude.{◌≡◌, option_map};
+ghost use Rattle.fs_cut.specs.Covers.{same_point};
+ghost use Rattle.fs_cut.specs.View.{point_of, path_of};
+ghost use Rattle.sym_paths.specs.Execution.{end_of};
+ghost use Rattle.search_tables.specs.SearchTables.{is_at, node_target};
+ghost use Rattle.search_tables.specs.View.{table_node_in, table_in};
+ghost use Rattle.show_move_lines.specs.View.{target_in};
+
+use fs_cut::cover::{Path, Point};
+use search_tables::nodes::TableNode;
+
+/// A node with its number.
+#[derive(Clone, Copy)]
+pub struct Standing<'a> {
+    pub number: usize,
+    pub node: &'a TableNode,
+}
+
+// Whether two points are the same.
+fn same_point(p: Point, q: Point) -> bool
+    ensures { result ≡ same_point (point_of p) (point_of q) }
+{
+    match p {
+        Point::Start => match q {
+            Point::Start => true,
+            Point::At(_) | Point::Done => false,
+        },
+        Point::At(state) => match q {
+            Point::At(other) => state.0 == other.0,
+            Point::Start | Point::Done => false,
+        },
+        Point::Done => match q {
+            Point::Done => true,
+            Point::Start | Point::At(_) => false,
+        },
+    }
+}
+
+// Whether a node stands at two points.
+fn is_at(left: Point, right: Point, node: &TableNode) -> bool
+    ensures { result ≡ is_at (point_of left) (point_of right) (table_node_in node.now) }
+{
+    same_point(node.left, left) && same_point(node.right, right)
+}
+
+/// The first node at two points.
+pub fn find(nodes: &[TableNode], left: Point, right: Point) -> Option<Standing<'_>>
+    ensures { target_in result ≡ node_target (table_in nodes.now) (point_of left) (point_of right) }
+{
+    for (number, node) in nodes.iter().enumerate() {
+        if is_at(left, right, node) {
+            return Some(Standing { number, node });
+        }
+    }
+    None
+}
+
+/// Where a side comes to, which keeps its point where it stays.
+pub fn end_of(point: Point, path: Option<&Path>) -> Point
+    ensures { point_of result ≡ end_of (point_of point) (option_map (λ p. path_of p.now) path.entry) }
+{
+    match path {
+        Some(path) => path.to,
+        None => point,
+    }
+}
