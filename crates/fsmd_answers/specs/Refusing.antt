@@ -1,5 +1,5 @@
 -- What the bytes of a file give, or why no answer was found.
-use Rattle.std.specs.Prelude.{◌≡◌, ℕ, List}
+use Rattle.std.specs.Prelude.{◌≡◌, ℕ, List, Option, Some, None, Result, Ok, Err}
 use Rattle.fs_rules.specs.MachineOfParts.{machine_of}
 use Rattle.fs_model.specs.Source.{Source}
 use Rattle.fs_model.specs.Machines.{Fsmd}
@@ -12,6 +12,12 @@ use Rattle.fsmd_answers.specs.MachineFiles.{SpellsParts}
 abbrev pub WhereAnswered : (Answer → Type 0) → Refusal → Type 0
 WhereAnswered P (Answered answer) = P answer
 WhereAnswered P NoMemory = Unit {0}
+
+-- the answer that is given, or that is in a refusal
+abbrev pub answer_in : Result Answer Refusal → Option Answer
+answer_in (Ok answer) = Some answer
+answer_in (Err (Answered answer)) = Some answer
+answer_in (Err NoMemory) = None
 
 -- these parts and this machine are what the bytes spell
 pub record IsLoaded (parts : Source) (m : Fsmd) (bytes : List ℕ) : Type 0 where

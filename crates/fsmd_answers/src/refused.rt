@@ -1,7 +1,9 @@
 //! Why nothing is given of what a file should spell.
 
-ghost use Rattle.std.specs.Prelude.{◌≡◌};
+ghost use Rattle.std.specs.Prelude.{◌≡◌, Some, None, IfOk};
+ghost use Rattle.std.specs.Result.{OnErr};
 ghost use Rattle.fsmd_answers.specs.declared.refused.Refused.TheVariants.{NoMemory};
+ghost use Rattle.fsmd_answers.specs.Refusing.{answer_in};
 
 use fsmd_replies::answer::Answer;
 use std::alloc::AllocError;
@@ -20,5 +22,17 @@ impl From<AllocError> for Refused {
 
     fn from(_error: AllocError) -> Refused {
         Refused::NoMemory
+    }
+}
+
+/// The answer that is given, or that is in a refusal. The one error is out of memory.
+pub fn answer_of(given: Result<Answer, Refused>) -> Result<Answer, AllocError>
+    ensures ok { IfOk result (λ answer. answer_in given ≡ Some answer) }
+    ensures none { OnErr result (answer_in given ≡ None) }
+{
+    match given {
+        Ok(answer) => Ok(answer),
+        Err(Refused::Answered(answer)) => Ok(answer),
+        Err(Refused::NoMemory) => Err(AllocError),
     }
 }

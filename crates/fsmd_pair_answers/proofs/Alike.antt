@@ -14,8 +14,8 @@ use Rattle.search_tables.specs.declared.moves.Move.{Move}
 use Rattle.search_tables.specs.Obstacles.{Obstacle, Stuck, Spin, Wide, Large, Exhausted}
 use Rattle.search_tables.specs.View.{Points}
 use Rattle.search_tables.specs.SearchTables.{machines}
-use Rattle.search.specs.SearchOutcomes.{IsClosedWith, StopsAtObstacle}
-use Rattle.search.proofs.Alike.{not_stuck, not_spinning}
+use Rattle.search_laws.specs.SearchOutcomes.{IsClosedWith, StopsAtObstacle}
+use Rattle.search_laws.proofs.Alike.{not_stuck, not_spinning}
 use Rattle.fsmd_pair_answers.specs.declared.answer.PairAnswer.{PairAnswer}
 use Rattle.fsmd_pair_answers.specs.declared.answer.PairAnswer.TheVariants.{Equivalent, Counterexample, Undecided}
 use Rattle.fsmd_pair_answers.specs.PairAnswers.{IsCounterexample, HasObstacle, is_open_obstacle, IsLeftOpen, HasLimit, ShowsSame, IsPairAnswer, IsClosedOrLimit}

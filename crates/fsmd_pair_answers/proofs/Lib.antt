@@ -5,4 +5,4 @@ pub mod Named
 pub mod Once
 pub mod Ranks
 mod Shown
-pub use Rattle.search.proofs.Interfaces
+pub use Rattle.search_laws.proofs.Interfaces

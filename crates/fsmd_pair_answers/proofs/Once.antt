@@ -20,7 +20,7 @@ use Rattle.search_tables.specs.Obstacles.{Obstacle, Stuck, Spin, Wide, Large, Ex
 use Rattle.search_tables.specs.View.{Points, points_at}
 use Rattle.search_tables.proofs.Ending.{Ends, stands_ends, same_moves, no_certificate}
 use Rattle.search_tables.proofs.OneSpin.{one_spin}
-use Rattle.search.specs.SearchOutcomes.{IsClosedWith, StopsAtObstacle}
+use Rattle.search_laws.specs.SearchOutcomes.{IsClosedWith, StopsAtObstacle}
 use Rattle.fsmd_pair_answers.specs.declared.answer.PairAnswer.TheVariants.{Equivalent, Counterexample, Undecided}
 use Rattle.fsmd_replies.specs.ObstacleTexts.{obstacle_text, undecided_at, cycle_text, node_points_text, text_of_lookup}
 use Rattle.fsmd_pair_answers.specs.PairAnswers.{IsCounterexample, HasObstacle, is_open_obstacle, IsLeftOpen, IsFoundBeyond, ShowsSame, IsUndecided}

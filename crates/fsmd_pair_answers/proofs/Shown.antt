@@ -4,7 +4,7 @@ use Rattle.fs_model.specs.Machines.{Fsmd}
 use Rattle.cert_bisimulation.specs.Tables.{Node}
 use Rattle.sym_facts.specs.Facts.{Fact}
 use Rattle.search_tables.specs.SearchTables.{machines}
-use Rattle.search.specs.SearchOutcomes.{IsClosedWith}
+use Rattle.search_laws.specs.SearchOutcomes.{IsClosedWith}
 use Rattle.search_laws.specs.Certificates.{IsCertificate}
 use Rattle.search_laws.proofs.Small.{closed_holds}
 use Rattle.fsmd_pair_answers.specs.PairAnswers.{IsLeftOpen, ShowsSame}

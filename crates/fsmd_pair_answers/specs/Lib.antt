@@ -1,6 +1,6 @@
 pub mod PairAnswers
 pub mod PairAnswerLaws
 pub use Rattle.search_laws.specs.Certificates
-pub use Rattle.search.specs.SearchOutcomes
+pub use Rattle.search_laws.specs.SearchOutcomes
 pub use Rattle.alike_behaviour.specs.Alike
 pub use Rattle.fsmd_replies.specs.ObstacleTexts

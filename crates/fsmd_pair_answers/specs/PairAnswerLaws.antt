@@ -16,7 +16,7 @@ use Rattle.search_tables.specs.SearchTables.{MachinePair, machines}
 use Rattle.search_tables.specs.Obstacles.{Obstacle, Stuck, Spin, Wide, Large, Exhausted}
 use Rattle.search_tables.specs.View.{Points}
 use Rattle.alike_behaviour.specs.Alike.{WhereAlike}
-use Rattle.search.specs.SearchOutcomes.{IsClosedWith, StopsAtObstacle}
+use Rattle.search_laws.specs.SearchOutcomes.{IsClosedWith, StopsAtObstacle}
 use Rattle.fsmd_pair_answers.specs.declared.answer.PairAnswer.{PairAnswer}
 use Rattle.fsmd_pair_answers.specs.declared.answer.PairAnswer.TheVariants.{Equivalent, Counterexample, Undecided}
 use Rattle.fsmd_pair_answers.specs.PairAnswers.{is_open_obstacle, IsLeftOpen, IsFoundBeyond, IsPairAnswer, IsClosedOrLimit}

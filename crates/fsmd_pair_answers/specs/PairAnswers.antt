@@ -14,7 +14,7 @@ use Rattle.search_tables.specs.declared.moves.Move.{Move}
 use Rattle.search_tables.specs.SearchTables.{MachinePair, machines}
 use Rattle.search_tables.specs.Obstacles.{Obstacle, Stuck, Spin, Wide, Large, Exhausted}
 use Rattle.search_tables.specs.View.{Points}
-use Rattle.search.specs.SearchOutcomes.{IsClosedWith, StopsAtObstacle}
+use Rattle.search_laws.specs.SearchOutcomes.{IsClosedWith, StopsAtObstacle}
 use Rattle.search_laws.specs.Certificates.{IsCertificate}
 use Rattle.fsmd_replies.specs.ObstacleTexts.{obstacle_text}
 use Rattle.fsmd_pair_answers.specs.declared.obstacles.Found.{Found}

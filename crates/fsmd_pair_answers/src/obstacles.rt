@@ -5,7 +5,7 @@ ghost use Rattle.std.specs.Result.{result_map_both};
 ghost use Rattle.fs_pair.specs.Interfaces.{interface_fault};
 ghost use Rattle.fs_pair.specs.Positions.{positions};
 ghost use Rattle.search_tables.specs.SearchTables.{machines};
-ghost use Rattle.search.specs.SearchOutcomes.{IsSearchOutcome};
+ghost use Rattle.search_laws.specs.SearchOutcomes.{IsSearchOutcome};
 ghost use Rattle.fsmd_pair_answers.specs.declared.obstacles.Found.TheVariants.{Open, Limit};
 ghost use Rattle.fsmd_pair_answers.specs.PairAnswers.{IsFound};
 
@@ -14,7 +14,7 @@ use fs_ast::machine::Machine;
 use fs_pair::positions::Pairing;
 use fsmd_replies::obstacles::{large_line, line_over, spin_line, stuck_line, wide_line};
 use nf_terms::stop::NoMemory;
-use search::searching::search;
+use search_laws::searching::search;
 use search_tables::outcome::Outcome;
 use std::alloc::Global;
 

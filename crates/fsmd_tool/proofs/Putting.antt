@@ -9,6 +9,8 @@ use Rattle.fsmd_replies.specs.declared.answer.Status.TheVariants.{Fault}
 use Rattle.fsmd_replies.specs.declared.answer.Answer.{Answer}
 use Rattle.fsmd_replies.specs.declared.answer.Answer.TheVariants.{Usage}
 use Rattle.fsmd_answers.specs.declared.refused.Refused.{Refused as Refusal}
+use Rattle.fsmd_answers.specs.declared.refused.Refused.TheVariants as refusal
+use Rattle.fsmd_answers.specs.Refusing.{answer_in}
 use Rattle.fsmd_replies.specs.Statuses.{status_of, certificate_in}
 use Rattle.fsmd_replies.specs.AskedFiles.{cert_of}
 use Rattle.fsmd_replies.specs.Replies.{reply, unstored_reply}
@@ -89,6 +91,12 @@ unwritten o old mid now answer (Err e) read n = unwritten_of o answer (file_chan
 
 pub unwritten_to_words : {T E : Type 0} (o w : Option Asked) (s : FileChange) (r : Result T E) → w ≡ o → OnErr r (IsUnwritten o s) → OnErr r (IsUnwritten w s)
 unwritten_to_words o w s r e h = subst (λ v. OnErr r (IsUnwritten v s)) (sym e) h
+
+-- what the answer that is given meets, or that is in a refusal
+pub in_answer : (P : Answer → Type 0) (r : Result Answer Refusal) (x : Answer) → answer_in r ≡ Some x → AnswersBy P r → P x
+in_answer P (Ok y) x e h = subst P (let k : y ≡ x = cc e in k) h
+in_answer P (Err (refusal.Answered y)) x e h = subst P (let k : y ≡ x = cc e in k) h
+in_answer P (Err refusal.NoMemory) x e h = absurd (let k : None ≡ Some x = e in cc)
 
 -- what is answered to what is asked, where that is this
 pub answers_as : (o : Option Asked) (g : Call) (r : Result Answer Refusal) → g.asked ≡ o → AnswersBy (IsCorrectInOrder (FollowsFrom o) 0 g) r

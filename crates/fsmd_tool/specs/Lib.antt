@@ -22,6 +22,7 @@ pub use Rattle.fsmd_answers.specs.MachineFiles
 pub use Rattle.fsmd_answers.specs.ProgramFiles
 pub use Rattle.fsmd_answers.specs.Readings
 pub use Rattle.fsmd_answers.specs.Refusals
+pub use Rattle.fsmd_answers.specs.Refusing
 pub use Rattle.fsmd_answers.specs.Replays
 pub use Rattle.fsmd_answers.specs.RunAnswers
 pub use Rattle.fsmd_answers.specs.ScheduleFiles

@@ -24,7 +24,7 @@ use crate::shrink::shrink_files;
 use crate::synthesis::{bind_files, compile_file, schedule_files};
 use fs_base::outside::{Files, Sink};
 use fsmd_answers::generated::compare_generated;
-use fsmd_answers::refused::Refused;
+use fsmd_answers::refused::{Refused, answer_of};
 use fsmd_replies::answer::{Answer, Status};
 use fsmd_words::asking::{Ask, AskError};
 use fsmd_words::words::ask;
@@ -54,45 +54,6 @@ fn answer_command<F: Files>(alloc: Global, ask: &Ask, files: &mut F) -> Result<A
     }
 }
 
-// What is answered to what is asked.
-fn answer<F: Files>(alloc: Global, ask: &Ask, files: &mut F) -> Result<Answer, AllocError>
-    requires { IsWithinLimits (asked_of_ask ask.now) }
-    ensures correct { IfOk result (IsCorrectInOrder (FollowsFrom (Some (asked_of_ask ask.now))) 0
-        (call (Some (asked_of_ask ask.now)) (F.told files.old) (F.told files.new))) }
-    ensures only_read { OnlyRead (F.told files.old) (F.told files.new) }
-    ensures loads { LoadsNamed (call (Some (asked_of_ask ask.now)) (F.told files.old) (F.told files.new)) }
-{
-    match answer_command(alloc, ask, files) {
-        Ok(answer) => Ok(answer),
-        Err(Refused::Answered(answer)) => Ok(answer),
-        Err(Refused::NoMemory) => Err(AllocError),
-    }
-}
-
-// Puts the reply to what is asked.
-fn put_asked<F: Files, S: Sink>(
-    alloc: Global,
-    ask: &Ask,
-    files: &mut F,
-    out: &mut S,
-) -> Result<Status, AllocError>
-    requires { IsWithinLimits (asked_of_ask ask.now) }
-    ensures answered { IfOk result
-        (λ status. Answered (call (Some (asked_of_ask ask.now)) (F.told files.old) (F.told files.new))
-        (put_between status (S.told out.old) (S.told out.new))) }
-    ensures err { OnErr result ((S.told out.new).got ≡ (S.told out.old).got) }
-    ensures unwritten { OnErr result
-        (IsUnwritten (Some (asked_of_ask ask.now)) (file_change (F.told files.old) (F.told files.new))) }
-    ensures counts { NoneFell (F.told files.old).faults (F.told files.new).faults }
-    ensures store_counts { NoneFell (F.told files.old).store_faults (F.told files.new).store_faults }
-    ensures sink_counts { (S.told out.old).faults ≤ (S.told out.new).faults }
-    ensures unchanged { KeepsFiles (call (Some (asked_of_ask ask.now)) (F.told files.old) (F.told files.new)) }
-    ensures loads { LoadsNamed (call (Some (asked_of_ask ask.now)) (F.told files.old) (F.told files.new)) }
-{
-    let answer = answer(alloc, ask, files)?;
-    put_answer(alloc, &answer, ask, files, out)
-}
-
 // Puts the reply to words.
 fn put_reply<F: Files, S: Sink>(
     alloc: Global,
@@ -113,7 +74,10 @@ fn put_reply<F: Files, S: Sink>(
     ensures loads { LoadsNamed (call (asked_by_words words.now) (F.told files.old) (F.told files.new)) }
 {
     match ask(alloc, words) {
-        Ok(ask) => put_asked(alloc, &ask, files, out),
+        Ok(ask) => {
+            let answer = answer_of(answer_command(alloc, &ask, files))?;
+            put_answer(alloc, &answer, &ask, files, out)
+        }
         Err(AskError::Usage) => put_usage(out),
         Err(AskError::NoMemory) => Err(AllocError),
     }

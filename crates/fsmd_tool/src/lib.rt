@@ -20,4 +20,5 @@ pub mod put;
 mod shrink;
 mod synthesis;
 
+pub use fsmd_answers::{compare, judge, refused};
 pub use fsmd_replies::answer;

@@ -30,8 +30,8 @@ fn behind_first(words: &[String]) -> &[String]
     if words.is_empty() { words } else { &words[1..] }
 }
 
-// The status where there are no words.
-fn status_without_words(error: &io::Error) -> Status
+/// The status where there are no words.
+pub fn status_without_words(error: &io::Error) -> Status
     ensures { (result ≡ NoMemory) ⊎ (result ≡ Fault) }
 {
     match error.kind() {

@@ -42,10 +42,10 @@ fn put_fitting<S: Sink>(reply: &[u8], meant: Status, out: &mut S) -> Status
     }
 }
 
-// Puts a reply, and gives the status that is meant, or `Fault` where the sink failed.
-//
-// The error is out of memory: the reply is longer than the sink has room; then nothing was put.
-fn put_whole<S: Sink>(reply: &[u8], meant: Status, out: &mut S) -> Result<Status, AllocError>
+/// Puts a reply, and gives the status that is meant, or `Fault` where the sink failed.
+///
+/// The error is out of memory: the reply is longer than the sink has room; then nothing was put.
+pub fn put_whole<S: Sink>(reply: &[u8], meant: Status, out: &mut S) -> Result<Status, AllocError>
     ensures ok { IfOk result (λ status. IsPut reply.now meant (put_between status (S.told out.old) (S.told out.new))) }
     ensures err { OnErr result ((S.told out.new).got ≡ (S.told out.old).got) }
     ensures sink_counts { (S.told out.old).faults ≤ (S.told out.new).faults }

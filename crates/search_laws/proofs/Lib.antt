@@ -1,1 +1,3 @@
 pub mod Small
+pub use Rattle.search.proofs.Alike
+pub use Rattle.search.proofs.Interfaces

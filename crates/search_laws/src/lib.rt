@@ -10,3 +10,5 @@
 #![tactic(auto)]
 
 pub mod laws;
+
+pub use search::searching;

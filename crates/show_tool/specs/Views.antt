@@ -14,12 +14,14 @@ use Rattle.show_inputs_text.specs.InputTexts.{ShowsDifferenceOf}
 use Rattle.show_search_views.specs.Demands.{obligation_lines}
 use Rattle.fsmd_replies.specs.declared.answer.Answer.{Answer}
 use Rattle.fsmd_replies.specs.declared.answer.Answer.TheVariants.{Text, Differs, Undecided}
-use Rattle.fsmd_answers.specs.LineAnswers.{HasLines}
+use Rattle.fsmd_tool.specs.LineAnswers.{HasLines}
 use Rattle.fsmd_replies.specs.Replies.{equivalent_text}
-use Rattle.fsmd_answers.specs.ComparisonAnswers.{IsOfPair}
-use Rattle.fsmd_answers.specs.Verdicts.{IsJudged}
-use Rattle.fsmd_answers.specs.Readings.{Reading}
-use Rattle.fsmd_answers.specs.Follows.{Ends, OpensMachine, OpensPair, OpensCertificate}
+use Rattle.fsmd_tool.specs.ComparisonAnswers.{IsOfPair}
+use Rattle.fsmd_tool.specs.Verdicts.{IsJudged}
+use Rattle.fsmd_tool.specs.Readings.{Reading}
+use Rattle.fsmd_tool.specs.Follows.{Ends, OpensMachine, OpensPair, OpensCertificate}
+use Rattle.show_tool.specs.declared.views.PairView.{PairView}
+use Rattle.show_tool.specs.declared.views.PairView.TheVariants as pair_views
 use Rattle.show_words.specs.declared.asking.View.{View}
 use Rattle.show_words.specs.declared.asking.View.TheVariants.{Machine, Pair, Why, Certificate, Inputs}
 
@@ -43,6 +45,12 @@ pub record IsOfWhy (limit : ℕ) (a b : Fsmd) (answer : Answer) : Type 0 where
 pub data IsOfInputs (limit : ℕ) (a b : Fsmd) (answer : Answer) : Type 0 where
   Given : HasLines (ShowsDifferenceOf limit a b) Differs answer → IsOfInputs limit a b answer
   Other : IsOfPair limit false a b answer → IsOfInputs limit a b answer
+
+-- what is shown of two machines by their files alone
+abbrev pub IsOfPairView : PairView → (a b : Fsmd) → Answer → Type 0
+IsOfPairView pair_views.Picture = IsOfPicture
+IsOfPairView pair_views.Why = IsOfWhy 10000
+IsOfPairView pair_views.Inputs = IsOfInputs 10000
 
 -- an answer that is lines, behind others
 abbrev pub behind : (lines : List ℕ) → Answer → Answer

@@ -1,58 +1,22 @@
 //! The top call: from words to a status.
 
-ghost use Rattle.std.specs.Prelude.{◌≡◌, ◌≤◌, None, Some, IfOk};
+ghost use Rattle.std.specs.Prelude.{◌≡◌, ◌≤◌, IfOk};
 ghost use Rattle.std.specs.Result.{OnErr};
 ghost use Rattle.fs_base.specs.Outside.{NoneFell};
-ghost use Rattle.fsmd_replies.specs.AskedFiles.{cert_of};
-ghost use Rattle.fsmd_tool.specs.Calls.{call, OnlyRead, IsCorrectFrom};
 ghost use Rattle.fsmd_tool.specs.SinkReplies.{put_between};
 ghost use Rattle.fsmd_tool.specs.CertificateStores.{file_change, IsUnchangedStore};
-ghost use Rattle.show_words.specs.ViewWords.{shown_view};
-ghost use Rattle.show_tool.specs.Views.{ShownFrom};
-ghost use Rattle.show_tool.specs.ViewCalls.{shown_by_words, IsShown, ViewOutcome, PutsOf};
+ghost use Rattle.show_tool.specs.ViewCalls.{shown_by_words, ViewOutcome, PutsOf};
 
 use crate::put::put_usage;
 use crate::views::answer_view;
 use fs_base::outside::{Files, Sink};
-use fsmd_answers::refused::Refused;
-use fsmd_replies::answer::{Answer, Status};
+use fsmd_replies::answer::Status;
 use fsmd_tool::put::put_answer;
+use fsmd_tool::refused::answer_of;
 use fsmd_words::asking::AskError;
 use show_words::asking::Show;
 use show_words::words::show;
 use std::alloc::{AllocError, Global};
-
-// What is answered to what is asked to be shown.
-fn answer<F: Files>(alloc: Global, show: &Show, files: &mut F) -> Result<Answer, AllocError>
-    ensures correct { IfOk result (IsCorrectFrom (ShownFrom (shown_view show.now).view) 0
-        (call (Some (shown_view show.now).asked) (F.told files.old) (F.told files.new))) }
-    ensures only_read { OnlyRead (F.told files.old) (F.told files.new) }
-{
-    match answer_view(alloc, show, files) {
-        Ok(answer) => Ok(answer),
-        Err(Refused::Answered(answer)) => Ok(answer),
-        Err(Refused::NoMemory) => Err(AllocError),
-    }
-}
-
-// Puts what is asked to be shown.
-fn put_shown<F: Files, S: Sink>(
-    alloc: Global,
-    show: &Show,
-    files: &mut F,
-    out: &mut S,
-) -> Result<Status, AllocError>
-    requires { cert_of (Some (shown_view show.now).asked) ≡ None }
-    ensures shown { IfOk result (λ status. IsShown (shown_view show.now) (F.told files.old) (F.told files.new)
-        (put_between status (S.told out.old) (S.told out.new))) }
-    ensures err { OnErr result ((S.told out.new).got ≡ (S.told out.old).got) }
-    ensures kept { IsUnchangedStore (file_change (F.told files.old) (F.told files.new)) }
-    ensures counts { NoneFell (F.told files.old).faults (F.told files.new).faults }
-    ensures sink_counts { (S.told out.old).faults ≤ (S.told out.new).faults }
-{
-    let answer = answer(alloc, show, files)?;
-    put_answer(alloc, &answer, &show.ask, files, out)
-}
 
 // Puts the reply to words.
 fn put_reply<F: Files, S: Sink>(
@@ -69,7 +33,10 @@ fn put_reply<F: Files, S: Sink>(
     ensures sink_counts { (S.told out.old).faults ≤ (S.told out.new).faults }
 {
     match show(alloc, words) {
-        Ok(show) => put_shown(alloc, &show, files, out),
+        Ok(show) => {
+            let answer = answer_of(answer_view(alloc, &show, files))?;
+            put_answer(alloc, &answer, &show.ask, files, out)
+        }
         Err(AskError::Usage) => put_usage(out),
         Err(AskError::NoMemory) => Err(AllocError),
     }

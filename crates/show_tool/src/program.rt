@@ -1,29 +1,17 @@
 //! What the program does: the words of its environment, the files and standard output of the system, and one call of
 //! `drive_show`.
 
-ghost use Rattle.std.specs.Prelude.{◌≡◌, ◌⊎◌};
-ghost use Rattle.fsmd_replies.specs.declared.answer.Status.TheVariants.{NoMemory, Fault};
-
 use crate::drive::drive_show;
 use fs_base::disk::DiskFiles;
 use fs_base::writers::WriterSink;
 use fsmd_replies::answer::Status;
+use fsmd_tool::program::status_without_words;
 use std::rt::Runtime;
 use std::{env, io};
 
 // The words of the call, without the program's name.
 fn words<R: Runtime + AllocGlobal>(rt: &R) -> io::Result<Vec<String>> {
     Ok(env::args(rt)?.skip(1).collect(rt.alloc())?)
-}
-
-// The status where there are no words.
-fn status_without_words(error: &io::Error) -> Status
-    ensures { (result ≡ NoMemory) ⊎ (result ≡ Fault) }
-{
-    match error.kind() {
-        io::ErrorKind::OutOfMemory => Status::NoMemory,
-        _ => Status::Fault,
-    }
 }
 
 /// Runs the program in a runtime, and tells how it ended: as `drive_show` does for the words of the environment, and where

@@ -1,46 +1,18 @@
 //! Puts how the program is used.
 
-ghost use Rattle.std.specs.Prelude.{◌≡◌, ◌≤◌, IfOk, IsTrue};
+ghost use Rattle.std.specs.Prelude.{◌≡◌, ◌≤◌, IfOk};
 ghost use Rattle.std.specs.Result.{OnErr};
-ghost use Rattle.fs_base.specs.Outside.{HasRoom};
 ghost use Rattle.fsmd_replies.specs.declared.answer.Status.TheVariants.{Usage};
 ghost use Rattle.fsmd_tool.specs.SinkReplies.{IsPut, put_between};
 ghost use Rattle.show_tool.specs.ViewCalls.{usage_text};
 
 use fs_base::outside::Sink;
-use fs_base::put_all::put_all;
 use fsmd_replies::answer::Status;
+use fsmd_tool::put::put_whole;
 use std::alloc::AllocError;
 
 const USAGE: &str =
     "usage: fsmd_show machine A | pair A B | why A B | certificate A B C | inputs A B\n";
-
-// Whether so many bytes have room, where it is told how many have.
-fn fits(room: Option<u64>, count: usize) -> bool
-    ensures { IsTrue result → HasRoom room count }
-{
-    match room {
-        Some(spare) => count as u64 <= spare,
-        None => true,
-    }
-}
-
-// Puts a line, and gives the status that is meant, or `Fault` where the sink failed.
-//
-// The error is out of memory: the line is longer than the sink has room; then nothing was put.
-fn put_line<S: Sink>(line: &[u8], meant: Status, out: &mut S) -> Result<Status, AllocError>
-    ensures ok { IfOk result (λ status. IsPut line.now meant (put_between status (S.told out.old) (S.told out.new))) }
-    ensures err { OnErr result ((S.told out.new).got ≡ (S.told out.old).got) }
-    ensures sink_counts { (S.told out.old).faults ≤ (S.told out.new).faults }
-{
-    if !fits(out.room(), line.len()) {
-        return Err(AllocError);
-    }
-    match put_all(out, line) {
-        Ok(()) => Ok(meant),
-        Err(_) => Ok(Status::Fault),
-    }
-}
 
 /// Puts how the program is used, and gives `Usage`, or `Fault` where the sink failed.
 ///
@@ -50,5 +22,5 @@ pub fn put_usage<S: Sink>(out: &mut S) -> Result<Status, AllocError>
     ensures err { OnErr result ((S.told out.new).got ≡ (S.told out.old).got) }
     ensures sink_counts { (S.told out.old).faults ≤ (S.told out.new).faults }
 {
-    put_line(USAGE.as_bytes(), Status::Usage, out)
+    put_whole(USAGE.as_bytes(), Status::Usage, out)
 }

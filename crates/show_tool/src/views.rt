@@ -1,28 +1,28 @@
 //! What each view answers, from its files.
 
-ghost use Rattle.std.specs.Prelude.{◌≡◌, None, Some};
+ghost use Rattle.std.specs.Prelude.{◌≡◌, None, Some, IfOk};
 ghost use Rattle.fsmd_words.specs.AskedWords.{asked_of_ask};
 ghost use Rattle.fs_pair.specs.Interfaces.{interface_fault};
 ghost use Rattle.fs_pair.specs.Positions.{positions};
 ghost use Rattle.show_machine_pictures.specs.Pictures.{picture_of};
 ghost use Rattle.fsmd_replies.specs.declared.answer.Answer.TheVariants.{Text};
-ghost use Rattle.fsmd_answers.specs.Follows.{Ends, OpensPair, OpensMachine, OpensCertificate};
+ghost use Rattle.fsmd_tool.specs.Follows.{Ends, OpensPair, OpensMachine, OpensCertificate};
 ghost use Rattle.fsmd_tool.specs.Calls.{call, OnlyRead, IsCorrectFrom, AnswersBy};
 ghost use Rattle.show_words.specs.ViewWords.{shown_view};
-ghost use Rattle.show_tool.specs.Views.{IsOfPicture, IsOfWhy, IsOfInputs, IsOfCertificate, ShownFrom};
+ghost use Rattle.show_tool.specs.Views.{IsOfPairView, IsOfCertificate, ShownFrom};
 
 use crate::answers::{certificate_of, differing_machines, picture_machines, why_machines};
 use fs_ast::machine::Machine;
 use fs_base::outside::Files;
 use fs_pair::positions::Pairing;
-use fsmd_answers::refused::Refused;
 use fsmd_replies::answer::{Answer, Lines, Operand};
 use fsmd_tool::load::{load_certificate, load_machine};
 use fsmd_tool::pair::{Pair, load_pair};
+use fsmd_tool::refused::Refused;
 use fsmd_words::asking::Ask;
 use show_machine_pictures::pictures::picture_of;
 use show_words::asking::{Show, View};
-use std::alloc::Global;
+use std::alloc::{AllocError, Global};
 
 // What `machine` answers: the picture of a machine.
 fn show_machine<F: Files>(alloc: Global, ask: &Ask, files: &mut F) -> Result<Answer, Refused>
@@ -35,37 +35,44 @@ fn show_machine<F: Files>(alloc: Global, ask: &Ask, files: &mut F) -> Result<Ans
     Ok(Answer::Text { lines })
 }
 
-// What `pair` answers: the picture of the search of two machines.
-fn show_pair<F: Files>(alloc: Global, ask: &Ask, files: &mut F) -> Result<Answer, Refused>
-    ensures answers { AnswersBy (IsCorrectFrom (OpensPair (λ a b. Ends (IsOfPicture a b))) 0
-        (call (Some (asked_of_ask ask.now)) (F.told files.old) (F.told files.new))) result }
-    ensures only_read { OnlyRead (F.told files.old) (F.told files.new) }
-{
-    let Pair {
-        left,
-        right,
-        pairing,
-    } = load_pair(alloc, ask, files)?;
-    Ok(picture_machines(alloc, &left, &right, &pairing)?)
+/// What is shown of two machines by their files alone.
+#[derive(Clone, Copy)]
+pub enum PairView {
+    /// The picture of what a search comes to.
+    Picture,
+    /// What led to the answer that they get.
+    Why,
+    /// The file of inputs that show a difference.
+    Inputs,
 }
 
-// What `why` answers.
-fn show_why<F: Files>(alloc: Global, ask: &Ask, files: &mut F) -> Result<Answer, Refused>
-    ensures answers { AnswersBy (IsCorrectFrom (OpensPair (λ a b. Ends (IsOfWhy 10000 a b))) 0
-        (call (Some (asked_of_ask ask.now)) (F.told files.old) (F.told files.new))) result }
-    ensures only_read { OnlyRead (F.told files.old) (F.told files.new) }
+// What is answered of two machines.
+fn answer_machines(
+    alloc: Global,
+    view: PairView,
+    left: &Machine,
+    right: &Machine,
+    pairing: &Pairing,
+) -> Result<Answer, AllocError>
+    requires paired { pairing.now ≡ positions left.now right.now }
+    requires alike { interface_fault left.now right.now ≡ None }
+    ensures { IfOk result (IsOfPairView view left.now right.now) }
 {
-    let Pair {
-        left,
-        right,
-        pairing,
-    } = load_pair(alloc, ask, files)?;
-    Ok(why_machines(alloc, &left, &right, &pairing)?)
+    match view {
+        PairView::Picture => picture_machines(alloc, left, right, pairing),
+        PairView::Why => why_machines(alloc, left, right, pairing),
+        PairView::Inputs => differing_machines(alloc, left, right, pairing),
+    }
 }
 
-// What `inputs` answers.
-fn show_inputs<F: Files>(alloc: Global, ask: &Ask, files: &mut F) -> Result<Answer, Refused>
-    ensures answers { AnswersBy (IsCorrectFrom (OpensPair (λ a b. Ends (IsOfInputs 10000 a b))) 0
+// What `pair`, `why` and `inputs` answer.
+fn show_pair<F: Files>(
+    alloc: Global,
+    view: PairView,
+    ask: &Ask,
+    files: &mut F,
+) -> Result<Answer, Refused>
+    ensures answers { AnswersBy (IsCorrectFrom (OpensPair (λ a b. Ends (IsOfPairView view a b))) 0
         (call (Some (asked_of_ask ask.now)) (F.told files.old) (F.told files.new))) result }
     ensures only_read { OnlyRead (F.told files.old) (F.told files.new) }
 {
@@ -74,7 +81,7 @@ fn show_inputs<F: Files>(alloc: Global, ask: &Ask, files: &mut F) -> Result<Answ
         right,
         pairing,
     } = load_pair(alloc, ask, files)?;
-    Ok(differing_machines(alloc, &left, &right, &pairing)?)
+    Ok(answer_machines(alloc, view, &left, &right, &pairing)?)
 }
 
 // What a certificate of two machines answers to the file that spells it.
@@ -120,9 +127,9 @@ pub fn answer_view<F: Files>(alloc: Global, show: &Show, files: &mut F) -> Resul
 {
     match show.view {
         View::Machine => show_machine(alloc, &show.ask, files),
-        View::Pair => show_pair(alloc, &show.ask, files),
-        View::Why => show_why(alloc, &show.ask, files),
+        View::Pair => show_pair(alloc, PairView::Picture, &show.ask, files),
+        View::Why => show_pair(alloc, PairView::Why, &show.ask, files),
         View::Certificate => show_certificate(alloc, &show.ask, files),
-        View::Inputs => show_inputs(alloc, &show.ask, files),
+        View::Inputs => show_pair(alloc, PairView::Inputs, &show.ask, files),
     }
 }
