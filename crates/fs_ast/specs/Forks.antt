@@ -1,6 +1,5 @@
 -- Decision trees as the code has them, and how many leaves a guard gives.
 use Rattle.std.specs.Prelude.{ℕ, ◌+◌, min, Option, Some, None}
-use Rattle.fs_model.specs.View.{literal_of}
 use Rattle.fs_model.specs.Terms.{Guard, Test, Not, And, Or}
 use Rattle.fs_model.specs.Trees.{Tree, Empty, Leaf, Node}
 use Rattle.fs_ast.specs.declared.trees.DecisionTree.{DecisionTree}
@@ -11,7 +10,7 @@ use Rattle.fs_ast.specs.NumberedParts.{resolved_transition}
 abbrev pub tree_of : DecisionTree → Tree
 tree_of trees.Fail = Empty
 tree_of (trees.Leaf l) = Leaf (resolved_transition l.now).assignments (resolved_transition l.now).target
-tree_of (trees.Test' l p on_yes q on_no) = Node (literal_of l.now) (tree_of on_yes) (tree_of on_no)
+tree_of (trees.Test' l p on_yes q on_no) = Node l (tree_of on_yes) (tree_of on_no)
 
 -- the leaves of the tree of a guard, from those of its two subtrees
 abbrev pub leaves_by : Guard ℕ → (on_yes on_no : ℕ) → ℕ

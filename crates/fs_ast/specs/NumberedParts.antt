@@ -13,7 +13,7 @@ abbrev pub resolved_transition : NumberedLine → Transition ℕ ℕ
 resolved_transition l = record {
   guard = option_map guard_of l.guard;
   target = l.target.0;
-  assignments = map assignment_of l.assigns.items;
+  assignments = map assignment_of l.assigns.value.items;
 }
 
 -- what a state says

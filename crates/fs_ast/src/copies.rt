@@ -1,12 +1,12 @@
 //! Copies of the parts of a machine.
 
 ghost use Rattle.std.specs.Prelude.{◌≡◌, map, option_map, IfOk};
-ghost use Rattle.fs_model.specs.View.{guard_of, assignment_of};
+ghost use Rattle.fs_model.specs.View.{guard_of};
 ghost use Rattle.fs_ast.specs.NumberedParts.{resolved_transition, resolved_state};
 
 use crate::resolve::{State, Transition};
 use fs_model::name::NoMemory;
-use fs_model::parts::{Assign, Guard, VarId, VarInfo};
+use fs_model::parts::{Guard, VarId, VarInfo};
 use std::alloc::Global;
 
 /// Copies of variables.
@@ -38,28 +38,14 @@ fn copy_condition(
     }
 }
 
-/// Copies of assignments.
-pub fn copy_assigns(
-    alloc: Global,
-    assigns: &[Assign<VarId>],
-) -> Result<Vec<Assign<VarId>>, NoMemory>
-    ensures { IfOk result (λ out. map assignment_of out.items ≡ map assignment_of assigns.now) }
-{
-    let mut out = Vec::with_capacity(alloc, assigns.len())?;
-    for assign in assigns {
-        out.push(assign.try_clone(alloc)?)?;
-    }
-    Ok(out)
-}
-
-// Copies of transitions.
+// Copies of transitions, which share the assignments.
 fn copy_lines(alloc: Global, lines: &[Transition]) -> Result<Vec<Transition>, NoMemory>
     ensures { IfOk result (λ out. map resolved_transition out.items ≡ map resolved_transition lines.now) }
 {
     let mut out = Vec::new(alloc);
     for line in lines {
         let guard = copy_condition(alloc, &line.guard)?;
-        let assigns = copy_assigns(alloc, &line.assigns)?;
+        let assigns = line.assigns.clone()?;
         out.push(Transition {
             guard,
             target: line.target,

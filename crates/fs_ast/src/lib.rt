@@ -14,6 +14,7 @@ pub mod laws;
 pub mod machine;
 mod resolve;
 mod shape_rules;
+mod shared_literal;
 mod trees;
 
 pub use fs_model::{name, parts};

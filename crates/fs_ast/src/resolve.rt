@@ -10,17 +10,19 @@ ghost use Rattle.fs_rules.specs.Places.{names_stated};
 ghost use Rattle.fs_ast.specs.NumberedParts.{resolved_transition, state_with_line, spelled_state_with_line};
 
 use fs_model::copies::renamed_assignments;
+use fs_model::memory::share;
 use fs_model::name::{Name, NoMemory};
 use fs_model::parts::{Assign, Guard, RawLine, RawState, StateId, VarId};
 use fs_rules::scope::Scope;
 use std::alloc::Global;
+use std::rc::Rc;
 
-/// A transition over the numbers of variables and states.
+/// A transition over the numbers of variables and states. Its branches share its assignments.
 #[derive(Drop)]
 pub struct Transition {
     pub guard: Option<Guard<VarId>>,
     pub target: StateId,
-    pub assigns: Vec<Assign<VarId>>,
+    pub assigns: Rc<Vec<Assign<VarId>>>,
 }
 
 /// A state with its transitions. `line` is the line of its first word.
@@ -72,7 +74,7 @@ fn numbered_line(alloc: Global, scope: &Scope, line: &RawLine) -> Result<Transit
         (source_transition_of line.now)) }
 {
     let guard = condition(alloc, scope, &line.guard)?;
-    let assigns = assignments(alloc, scope, &line.assigns)?;
+    let assigns = share(alloc, assignments(alloc, scope, &line.assigns)?)?;
     Ok(Transition {
         guard,
         target: scope.state_id(&line.target),

@@ -1,29 +1,28 @@
 //! Decision trees of transitions, and their branches.
 
-ghost use Rattle.std.specs.Prelude.{◌≡◌, ◌++◌, ◌∷◌, [], List, map, IfOk};
-ghost use Rattle.fs_model.specs.declared.parts.VarId.{VarId};
-ghost use Rattle.fs_model.specs.declared.parts.Lit.{Lit as LitOf};
+ghost use Rattle.std.specs.Prelude.{◌≡◌, ◌++◌, map, IfOk};
 ghost use Rattle.std.specs.Result.{OnOk};
-ghost use Rattle.fs_model.specs.View.{literal_of, guard_of, branch_of};
-ghost use Rattle.fs_model.specs.Trees.{Leaf, tree_of_guard, tree_of_transitions, opposite, leaves, branches_of};
+ghost use Rattle.fs_model.specs.View.{shared_literal_of, guard_of, branch_of};
+ghost use Rattle.fs_model.specs.Trees.{Leaf, tree_of_guard, tree_of_transitions, leaves, branches_of};
 ghost use Rattle.fs_model.specs.Trees.{count_leaves};
 ghost use Rattle.fs_ast.specs.NumberedParts.{resolved_transition};
 ghost use Rattle.fs_ast.specs.Forks.{tree_of, leaves_by, leaves_by_condition, capped_leaves};
 
-use crate::copies::copy_assigns;
 use crate::resolve::Transition;
+use crate::shared_literal::SharedLiteral;
 use fs_model::limits::BRANCH_LIMIT;
 use fs_model::memory::both_boxed;
 use fs_model::name::NoMemory;
 use fs_model::parts::{Branch, Guard, Lit, VarId};
 use std::alloc::Global;
+use std::rc::Rc;
 
 // A decision tree over transitions.
 #[derive(Drop)]
 enum DecisionTree<'a> {
     Fail,
     Leaf(&'a Transition),
-    Test(&'a Lit<VarId>, Box<DecisionTree<'a>>, Box<DecisionTree<'a>>),
+    Test(SharedLiteral, Box<DecisionTree<'a>>, Box<DecisionTree<'a>>),
 }
 
 /// How many leaves the tree of transitions has, or 65 where there are more.
@@ -100,8 +99,9 @@ fn tree_of_guard<'a>(
 {
     match guard {
         Guard::Lit(lit) => {
+            let literal = SharedLiteral::of(alloc, lit)?;
             let (on_yes, on_no) = both_boxed(alloc, on_yes, on_no)?;
-            Ok(DecisionTree::Test(lit, on_yes, on_no))
+            Ok(DecisionTree::Test(literal, on_yes, on_no))
         }
         Guard::Not(a) => tree_of_guard(alloc, a, on_no, on_yes),
         Guard::And(a, b) => {
@@ -123,10 +123,11 @@ fn copy_tree<'a>(alloc: Global, tree: &DecisionTree<'a>) -> Result<DecisionTree<
     match tree {
         DecisionTree::Fail => Ok(DecisionTree::Fail),
         DecisionTree::Leaf(line) => Ok(DecisionTree::Leaf(*line)),
-        DecisionTree::Test(lit, on_yes, on_no) => {
+        DecisionTree::Test(literal, on_yes, on_no) => {
+            let literal = literal.try_clone()?;
             let on_yes = copy_tree(alloc, on_yes)?;
             let (on_yes, on_no) = both_boxed(alloc, on_yes, copy_tree(alloc, on_no)?)?;
-            Ok(DecisionTree::Test(*lit, on_yes, on_no))
+            Ok(DecisionTree::Test(literal, on_yes, on_no))
         }
     }
 }
@@ -135,11 +136,11 @@ fn copy_tree<'a>(alloc: Global, tree: &DecisionTree<'a>) -> Result<DecisionTree<
 fn walk(
     alloc: Global,
     tree: &DecisionTree,
-    way: &mut Vec<Lit<VarId>>,
+    way: &mut Vec<Rc<Lit<VarId>>>,
     out: &mut Vec<Branch>,
 ) -> Result<(), NoMemory>
     ensures branches { OnOk result
-        (map branch_of out.new.items ≡ map branch_of out.old.items ++ leaves (tree_of tree.now) (map literal_of way.old.items)) }
+        (map branch_of out.new.items ≡ map branch_of out.old.items ++ leaves (tree_of tree.now) (map shared_literal_of way.old.items)) }
     ensures way { OnOk result (way.new.items ≡ way.old.items) }
 {
     match tree {
@@ -148,10 +149,11 @@ fn walk(
             add_branch(alloc, way.as_slice(), line, out)?;
             Ok(())
         }
-        DecisionTree::Test(lit, on_yes, on_no) => {
-            way.push(lit.try_clone(alloc)?)?;
+        DecisionTree::Test(literal, on_yes, on_no) => {
+            way.push(literal.literal()?)?;
             walk(alloc, on_yes, way, out)?;
-            negate_last(way);
+            let _ = way.pop();
+            way.push(literal.negation()?)?;
             walk(alloc, on_no, way, out)?;
             let _ = way.pop();
             Ok(())
@@ -159,55 +161,45 @@ fn walk(
     }
 }
 
-// Turns the last literal of a way into its negation.
-fn negate_last(way: &mut Vec<Lit<VarId>>)
-    ensures { (front : List (LitOf VarId)) (last : LitOf VarId) → way.old.items ≡ front ++ last ∷ []
-        → way.new.items ≡ front ++ record { rel = opposite last.rel; left = last.left; right = last.right } ∷ [] }
-{
-    if let Some(mut last) = way.pop() {
-        last.rel = last.rel.negated();
-        way.push_reserved(last);
-    }
-}
-
 // Adds the branch that takes a transition at the end of a way.
 fn add_branch(
     alloc: Global,
-    way: &[Lit<VarId>],
+    way: &[Rc<Lit<VarId>>],
     line: &Transition,
     out: &mut Vec<Branch>,
 ) -> Result<(), NoMemory>
     ensures { OnOk result
         (map branch_of out.new.items ≡ map branch_of out.old.items
         ++ leaves (Leaf (resolved_transition line.now).assignments (resolved_transition line.now).target)
-        (map literal_of way.now)) }
+        (map shared_literal_of way.now)) }
 {
     out.push(branch(alloc, way, line)?)?;
     Ok(())
 }
 
 // The branch that takes a transition at the end of a way.
-fn branch(alloc: Global, way: &[Lit<VarId>], line: &Transition) -> Result<Branch, NoMemory>
+fn branch(alloc: Global, way: &[Rc<Lit<VarId>>], line: &Transition) -> Result<Branch, NoMemory>
     ensures { IfOk result
         (λ b. branch_of b ≡ record {
-          literals = map literal_of way.now;
+          literals = map shared_literal_of way.now;
           assignments = (resolved_transition line.now).assignments;
           target = (resolved_transition line.now).target;
         }) }
 {
     Ok(Branch {
         lits: copy_way(alloc, way)?,
-        assigns: copy_assigns(alloc, &line.assigns)?,
+        assigns: line.assigns.clone()?,
         target: line.target,
     })
 }
 
-fn copy_way(alloc: Global, way: &[Lit<VarId>]) -> Result<Vec<Lit<VarId>>, NoMemory>
-    ensures { IfOk result (λ out. map literal_of out.items ≡ map literal_of way.now) }
+// One owner more of each literal of a way.
+fn copy_way(alloc: Global, way: &[Rc<Lit<VarId>>]) -> Result<Vec<Rc<Lit<VarId>>>, NoMemory>
+    ensures { IfOk result (λ out. map shared_literal_of out.items ≡ map shared_literal_of way.now) }
 {
     let mut out = Vec::with_capacity(alloc, way.len())?;
     for lit in way {
-        out.push(lit.try_clone(alloc)?)?;
+        out.push(lit.clone()?)?;
     }
     Ok(out)
 }

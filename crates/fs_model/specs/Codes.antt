@@ -110,6 +110,9 @@ literal_at none = record { relation = Eq; left = Variable 0; right = Variable 0 
 pub literal_back : (l : Literal ℕ) → literal_at (code_literal l) ≡ l
 literal_back l = λ j. record { relation = rel_back l.relation j; left = term_back l.left j; right = term_back l.right j }
 
+abbrev pub coded_literal : Coded (Literal ℕ)
+coded_literal = record { code = code_literal; inj = λ x y e. sym (literal_back x) ∙ ap literal_at e ∙ literal_back y }
+
 abbrev pub code_guard : Guard ℕ → Gv
 code_guard (Test l) = node 0 (code_literal l) gnil
 code_guard (Not g) = node 1 (code_guard g) gnil

@@ -1,5 +1,6 @@
 -- The plain data that the types of src/ stand for.
 use Rattle.std.specs.Prelude.{ℕ, List, map, option_map}
+use Rattle.std.specs.declared.rc.Rc.{Rc}
 use Rattle.fs_model.specs.declared.parts.VarId.{VarId}
 use Rattle.fs_model.specs.declared.parts.Expr.{Expr}
 use Rattle.fs_model.specs.declared.parts.Expr.TheVariants.{Num, Var, Read', Add', Sub', Mul', Div', Rem', Neg'}
@@ -68,10 +69,14 @@ guard_of g = guard_by (λ x. x.0) g
 abbrev pub assignment_of : Assign VarId → Assignment ℕ
 assignment_of a = assignment_by (λ x. x.0) a
 
+-- what a shared literal says
+abbrev pub shared_literal_of : {A : Type 0} → Rc (Lit VarId) A → Literal ℕ
+shared_literal_of l = literal_of l.value
+
 abbrev pub branch_of : Branch → Leaf
 branch_of b = record {
-  literals = map literal_of b.lits.items;
-  assignments = map assignment_of b.assigns.items;
+  literals = map shared_literal_of b.lits.items;
+  assignments = map assignment_of b.assigns.value.items;
   target = b.target.0;
 }
 

@@ -4,6 +4,7 @@ ghost use Rattle.std.specs.Prelude.{◌≡◌, IfOk};
 
 use crate::name::NoMemory;
 use std::alloc::{AllocError, AllocFailed, Global};
+use std::rc::Rc;
 
 impl From<AllocError> for NoMemory {
     fn from(_refused: AllocError) -> NoMemory {
@@ -22,6 +23,13 @@ pub fn put_in_box<T: Drop>(alloc: Global, value: T) -> Result<Box<T>, NoMemory>
     ensures { IfOk result (λ b. b.value ≡ value) }
 {
     Ok(Box::new(alloc, value)?)
+}
+
+/// The value with one owner, of which there may be more.
+pub fn share<T: Drop>(alloc: Global, value: T) -> Result<Rc<T>, NoMemory>
+    ensures { IfOk result (λ r. r.value ≡ value) }
+{
+    Ok(Rc::new(alloc, value)?)
 }
 
 /// Two values, each in a box of its own.

@@ -6,6 +6,7 @@ ghost use Rattle.fs_model.specs.Trees.{opposite};
 ghost use Rattle.fs_model.specs.Runs.{is_input, is_output, is_scalar, is_array, is_port};
 
 use crate::name::Name;
+use std::rc::Rc;
 
 /// The number of a variable: its place among the variables of its machine, from 0.
 #[derive(Clone, Copy, PartialEq, Eq)]
@@ -196,10 +197,11 @@ pub struct VarInfo {
     pub sort: Sort,
 }
 
-/// A branch of a state: the literals on the way to it, its assignments and its target.
+/// A branch of a state: the literals on the way to it, its assignments and its target. Branches share both: the branches
+/// below a test have one literal, and the branches of a transition have one list of assignments.
 #[derive(Drop)]
 pub struct Branch {
-    pub lits: Vec<Lit<VarId>>,
-    pub assigns: Vec<Assign<VarId>>,
+    pub lits: Vec<Rc<Lit<VarId>>>,
+    pub assigns: Rc<Vec<Assign<VarId>>>,
     pub target: StateId,
 }

@@ -5,13 +5,14 @@ ghost use Rattle.std.specs.Option.{SomeIff};
 ghost use Rattle.fs_model.specs.Meaning.{literal_holds};
 ghost use Rattle.fs_model.specs.Trees.{literals_hold};
 ghost use Rattle.fs_model.specs.Touched.{AllInRange};
-ghost use Rattle.fs_model.specs.View.{literal_of, branch_of};
+ghost use Rattle.fs_model.specs.View.{literal_of, shared_literal_of, branch_of};
 ghost use Rattle.fs_runs.specs.Values.{store_from};
 ghost use Rattle.fs_runs.specs.Reads.{LiteralFits, touched_by_way, touched_by_branches, taken_branch};
 
 use crate::eval::value_of;
 use crate::values::Value;
 use fs_model::parts::{Branch, Lit, VarId};
+use std::rc::Rc;
 
 // Whether a literal holds, and `None` exactly when a number of it lies outside 128 bits.
 fn literal_holds(lit: &Lit<VarId>, values: &[Value]) -> Option<bool>
@@ -24,9 +25,9 @@ fn literal_holds(lit: &Lit<VarId>, values: &[Value]) -> Option<bool>
 }
 
 // Whether all literals of a way hold. What comes after one that fails is not looked at.
-fn literals_hold(way: &[Lit<VarId>], values: &[Value]) -> Option<bool>
-    ensures { SomeIff result (AllInRange (touched_by_way (map literal_of way.now) (store_from values.now)))
-        (literals_hold (map literal_of way.now) (store_from values.now)) }
+fn literals_hold(way: &[Rc<Lit<VarId>>], values: &[Value]) -> Option<bool>
+    ensures { SomeIff result (AllInRange (touched_by_way (map shared_literal_of way.now) (store_from values.now)))
+        (literals_hold (map shared_literal_of way.now) (store_from values.now)) }
 {
     for lit in way {
         if !literal_holds(lit, values)? {

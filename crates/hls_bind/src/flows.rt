@@ -3,7 +3,7 @@
 ghost use Rattle.std.specs.Prelude.{◌≡◌, ◌<◌, ◌++◌, length, map, IfOk};
 ghost use Rattle.std.specs.List.{flat_map};
 ghost use Rattle.std.specs.Result.{OnOk};
-ghost use Rattle.fs_model.specs.View.{term_of, literal_of, assignment_of, branch_of};
+ghost use Rattle.fs_model.specs.View.{term_of, literal_of, shared_literal_of, assignment_of, branch_of};
 ghost use Rattle.fs_model.specs.PartFolds.{scalars, uses_in_literal};
 ghost use Rattle.fs_ast.specs.SoundParts.{scalars_in, assigned_in};
 ghost use Rattle.fs_variable_sets.specs.Sets.{has_variable, also_all};
@@ -17,6 +17,7 @@ use fs_model::parts::{Assign, Branch, Expr, Lit, StateId, VarId};
 use fs_variable_sets::VariableSet;
 use fs_variable_sets::flows::{Flow, live_sets};
 use std::alloc::Global;
+use std::rc::Rc;
 
 // A set and the scalars that an expression reads.
 #[tactic(auto, using(fs_variable_sets::proofs::Members::also_joined))]
@@ -53,8 +54,8 @@ fn with_assignment(set: VariableSet, assign: &Assign<VarId>) -> VariableSet
 }
 
 // The scalars that literals read.
-fn read_by_literals(lits: &[Lit<VarId>]) -> VariableSet
-    ensures { has_variable result ≡ has_below_128 (flat_map (uses_in_literal scalars) (map literal_of lits.now)) }
+fn read_by_literals(lits: &[Rc<Lit<VarId>>]) -> VariableSet
+    ensures { has_variable result ≡ has_below_128 (flat_map (uses_in_literal scalars) (map shared_literal_of lits.now)) }
 {
     let mut set = VariableSet::empty();
     for lit in lits {
@@ -79,7 +80,7 @@ pub fn assigned_scalars(branch: &Branch) -> VariableSet
     ensures { has_variable result ≡ has_below_128 (assigned_in (branch_of branch.now).assignments) }
 {
     let mut set = VariableSet::empty();
-    for assign in &branch.assigns {
+    for assign in branch.assigns.as_slice() {
         if let Assign::Set(x, _) = assign {
             set = set.with(*x);
         }
@@ -94,7 +95,7 @@ fn flow(from: u32, branch: &Branch) -> Flow
     Flow {
         from: from as usize,
         target: branch.target.0 as usize,
-        reads: with_assignments(read_by_literals(&branch.lits), &branch.assigns),
+        reads: with_assignments(read_by_literals(&branch.lits), branch.assigns.as_slice()),
         writes: assigned_scalars(branch),
     }
 }

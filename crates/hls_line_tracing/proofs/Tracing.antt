@@ -36,7 +36,7 @@ each_of P qs xs e h k d i =
 -- ---- what a state does
 pub first_item_at :
     (m : Fsmd) (q : ℕ) (bs : List CodeBranch) (b : CodeBranch) → IsSound m → q < length m.states
-    → map branch_of bs ≡ branches_of (transitions_of m q) → map assignment_of (slice_index_or bs 0 b).assigns.items ≡ item_of m q
+    → map branch_of bs ≡ branches_of (transitions_of m q) → map assignment_of (slice_index_or bs 0 b).assigns.value.items ≡ item_of m q
 first_item_at m q bs b sound h e =
     ap (λ (x : Branch). x.assignments) (sym (get_or-map branch_of bs 0 b no_branch (has_first m q bs sound h e)))
     ∙ ap (λ (l : List Branch). (slice_index_or l 0 no_branch).assignments) e

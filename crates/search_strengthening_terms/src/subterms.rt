@@ -13,6 +13,7 @@ use nf_terms::poly::Poly;
 use nf_terms::stop::NoMemory;
 use nf_terms::tree::Side;
 use std::alloc::Global;
+use std::rc::Rc;
 use sym_paths::evaluation::evaluate;
 
 // Adds the term that an expression is.
@@ -123,7 +124,7 @@ pub(crate) fn add_literals(
     alloc: Global,
     all: &mut Collection<'_>,
     side: Side,
-    literals: &[Lit<VarId>],
+    literals: &[Rc<Lit<VarId>>],
 ) -> Result<(), NoMemory> {
     for l in literals {
         add_expr(alloc, all, side, &l.left)?;

@@ -2,7 +2,7 @@
 
 ghost use Rattle.std.specs.Prelude.{◌≡◌, ◌++◌, OnOk, IfOk, map, decimal};
 ghost use Rattle.std.specs.List.{flat_map};
-ghost use Rattle.fs_model.specs.View.{literal_of, assignment_of, branch_of};
+ghost use Rattle.fs_model.specs.View.{shared_literal_of, assignment_of, branch_of};
 ghost use Rattle.show_machine_pictures.specs.Pictures.{after_and, way_text, assignment_line, branch_label, branch_edge};
 ghost use Rattle.show_machine_pictures.specs.Pictures.{branch_edges};
 
@@ -14,6 +14,7 @@ use fs_path_text::paths::point_text;
 use itoa::Buffer;
 use show_dot_text::graphs::write_edge;
 use std::alloc::{AllocError, Global};
+use std::rc::Rc;
 
 fn write_number(out: &mut Vec<u8>, number: usize) -> Result<(), AllocError>
     ensures { OnOk result (out.new.items ≡ out.old.items ++ decimal number) }
@@ -27,9 +28,9 @@ fn write_more_literals(
     alloc: Global,
     out: &mut Vec<u8>,
     variables: &[VarInfo],
-    literals: &[Lit<VarId>],
+    literals: &[Rc<Lit<VarId>>],
 ) -> Result<(), AllocError>
-    ensures { OnOk result (out.new.items ≡ out.old.items ++ flat_map (after_and variables.now) (map literal_of literals.now)) }
+    ensures { OnOk result (out.new.items ≡ out.old.items ++ flat_map (after_and variables.now) (map shared_literal_of literals.now)) }
 {
     for literal in literals {
         out.extend_from_slice(b" && ")?;
@@ -43,9 +44,9 @@ fn write_way(
     alloc: Global,
     out: &mut Vec<u8>,
     variables: &[VarInfo],
-    literals: &[Lit<VarId>],
+    literals: &[Rc<Lit<VarId>>],
 ) -> Result<(), AllocError>
-    ensures { OnOk result (out.new.items ≡ out.old.items ++ way_text variables.now (map literal_of literals.now)) }
+    ensures { OnOk result (out.new.items ≡ out.old.items ++ way_text variables.now (map shared_literal_of literals.now)) }
 {
     match literals {
         [] => Ok(()),
@@ -88,7 +89,7 @@ fn branch_label(
     write_number(&mut label, number)?;
     write_way(alloc, &mut label, variables, &branch.lits)?;
     label.extend_from_slice(b"\n")?;
-    write_assign_lines(alloc, &mut label, variables, &branch.assigns)?;
+    write_assign_lines(alloc, &mut label, variables, branch.assigns.as_slice())?;
     Ok(label)
 }
 

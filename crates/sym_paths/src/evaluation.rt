@@ -1,7 +1,7 @@
 //! Expressions over a vector.
 
 ghost use Rattle.std.specs.Prelude.{◌≡◌, map};
-ghost use Rattle.fs_model.specs.View.{term_of, literal_of};
+ghost use Rattle.fs_model.specs.View.{term_of, literal_of, shared_literal_of};
 ghost use Rattle.nf_terms.specs.Computed.{Answers};
 ghost use Rattle.nf_rel.specs.View.{literal_in};
 ghost use Rattle.sym_paths.specs.ValuationStores.{at as position_of};
@@ -20,6 +20,7 @@ use nf_terms::poly::Poly;
 use nf_terms::stop::NfStop;
 use nf_terms::tree::{Pos, Side};
 use std::alloc::Global;
+use std::rc::Rc;
 
 // The position of a variable of a side.
 pub(crate) fn at(side: Side, x: VarId) -> Pos
@@ -91,10 +92,10 @@ pub(crate) fn evaluate_literals(
     alloc: Global,
     side: Side,
     v: &Vector,
-    literals: &[Lit<VarId>],
+    literals: &[Rc<Lit<VarId>>],
 ) -> Result<Vec<NLit>, NfStop>
     ensures { Answers (answer_in_data (λ ls. map literal_in ls.items) result)
-        (each (λ l. evaluated_literal side v.now l) (map literal_of literals.now)) }
+        (each (λ l. evaluated_literal side v.now l) (map shared_literal_of literals.now)) }
 {
     let mut out = Vec::new(alloc);
     for literal in literals {

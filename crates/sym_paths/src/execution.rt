@@ -1,7 +1,7 @@
 //! Paths over a vector.
 
 ghost use Rattle.std.specs.Prelude.{◌≡◌, map};
-ghost use Rattle.fs_model.specs.View.{branch_of, literal_of, assignment_of};
+ghost use Rattle.fs_model.specs.View.{branch_of, shared_literal_of, assignment_of};
 ghost use Rattle.fs_model.specs.Machines.{transitions_of};
 ghost use Rattle.fs_model.specs.Trees.{branches_of};
 ghost use Rattle.nf_terms.specs.Computed.{Answers};
@@ -21,6 +21,7 @@ use nf_substitution::vector::Vector;
 use nf_terms::stop::NfStop;
 use nf_terms::tree::Side;
 use std::alloc::Global;
+use std::rc::Rc;
 
 /// Conditions, and a vector where they are true.
 #[derive(Drop)]
@@ -51,8 +52,8 @@ fn branches(m: &Machine, state: StateId) -> &[Branch]
 }
 
 // The literals of a branch. None where there is no such branch.
-fn literals(m: &Machine, state: StateId, number: u32) -> &[Lit<VarId>]
-    ensures { map literal_of result.now ≡ (branch_at m.now state.0 number).literals }
+fn literals(m: &Machine, state: StateId, number: u32) -> &[Rc<Lit<VarId>>]
+    ensures { map shared_literal_of result.now ≡ (branch_at m.now state.0 number).literals }
 {
     match branches(m, state).get(number as usize) {
         Some(branch) => branch.lits.as_slice(),

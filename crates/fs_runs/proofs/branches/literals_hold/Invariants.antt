@@ -1,7 +1,7 @@
 use Rattle.std.proofs.Common.{◌≡◌, drop}
 use Rattle.std.specs.Prelude.{map}
 use Rattle.fs_model.specs.Touched.{AllInRange}
-use Rattle.fs_model.specs.View.{literal_of}
+use Rattle.fs_model.specs.View.{shared_literal_of}
 use Rattle.fs_runs.specs.Values.{store_from}
 use Rattle.fs_model.specs.Trees.{literals_hold}
 use Rattle.fs_runs.specs.Reads.{touched_by_way}
@@ -9,9 +9,9 @@ use Rattle.fs_runs.proofs.branches.literals_hold.Given as goal
 
 abbrev pub invariant-loop-lit : goal.invariant-loop-lit
 invariant-loop-lit l = record {
-  there : AllInRange (touched_by_way (map literal_of (drop l.lit-index l.way)) (store_from l.values))
-      → AllInRange (touched_by_way (map literal_of l.way) (store_from l.values));
-  back : AllInRange (touched_by_way (map literal_of l.way) (store_from l.values))
-      → AllInRange (touched_by_way (map literal_of (drop l.lit-index l.way)) (store_from l.values));
-  hold : literals_hold (map literal_of (drop l.lit-index l.way)) (store_from l.values) ≡ literals_hold (map literal_of l.way) (store_from l.values);
+  there : AllInRange (touched_by_way (map shared_literal_of (drop l.lit-index l.way)) (store_from l.values))
+      → AllInRange (touched_by_way (map shared_literal_of l.way) (store_from l.values));
+  back : AllInRange (touched_by_way (map shared_literal_of l.way) (store_from l.values))
+      → AllInRange (touched_by_way (map shared_literal_of (drop l.lit-index l.way)) (store_from l.values));
+  hold : literals_hold (map shared_literal_of (drop l.lit-index l.way)) (store_from l.values) ≡ literals_hold (map shared_literal_of l.way) (store_from l.values);
 }

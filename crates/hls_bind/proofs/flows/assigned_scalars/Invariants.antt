@@ -7,5 +7,5 @@ use Rattle.hls_bind.specs.BranchFlows.{has_below_128}
 use Rattle.hls_bind.proofs.flows.assigned_scalars.Given as goal
 
 abbrev pub invariant-loop-assign : goal.invariant-loop-assign
-invariant-loop-assign l = also_all (assigned_in (map assignment_of (drop l.assign-index l.branch.assigns.items))) (has_variable l.set)
-    ≡ has_below_128 (assigned_in (map assignment_of l.branch.assigns.items))
+invariant-loop-assign l = also_all (assigned_in (map assignment_of (drop l.assign-index l.branch.assigns.value.items))) (has_variable l.set)
+    ≡ has_below_128 (assigned_in (map assignment_of l.branch.assigns.value.items))

@@ -9,5 +9,5 @@ bounds-branches-0 c = has_first c.args.m.now c.args.state.0 c.branches.result.no
 
 pub returns : goal.returns
 returns c =
-    ap (map assignment_of) c.as_slice.ensures.value
+    ap (map assignment_of) (c.as_slice.ensures.value ∙ ap (λ v. v.items) c.deref.ensures)
     ∙ first_item_at c.args.m.now c.args.state.0 c.branches.result.now c.index-branches-0.result c.branches.ensures.sound c.requires c.branches.ensures.branches
