@@ -140,7 +140,8 @@ fn walk(
     out: &mut Vec<Branch>,
 ) -> Result<(), NoMemory>
     ensures branches { OnOk result
-        (map branch_of out.new.items ≡ map branch_of out.old.items ++ leaves (tree_of tree.now) (map shared_literal_of way.old.items)) }
+        (map branch_of out.new.items ≡ map branch_of out.old.items
+        ++ leaves (tree_of tree.now) (map shared_literal_of way.old.items)) }
     ensures way { OnOk result (way.new.items ≡ way.old.items) }
 {
     match tree {

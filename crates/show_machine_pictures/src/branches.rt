@@ -30,7 +30,8 @@ fn write_more_literals(
     variables: &[VarInfo],
     literals: &[Rc<Lit<VarId>>],
 ) -> Result<(), AllocError>
-    ensures { OnOk result (out.new.items ≡ out.old.items ++ flat_map (after_and variables.now) (map shared_literal_of literals.now)) }
+    ensures { OnOk result (out.new.items ≡ out.old.items
+        ++ flat_map (after_and variables.now) (map shared_literal_of literals.now)) }
 {
     for literal in literals {
         out.extend_from_slice(b" && ")?;

@@ -28,7 +28,8 @@ returns-then-not-branch c =
 pub loop-lit-preserved : goal.loop-lit-preserved
 loop-lit-preserved c =
     let parts = map_drop_next shared_literal_of c.args.way.now c.loop-lit.lit-index c.lit-item.result c.loop-lit-test.true c.lit-item.is in
-    let h : literal_holds (shared_literal_of c.lit-item.result) (store_from c.args.values.now) ≡ true = sym c.in_ok-literal_holds.ensures.1 ∙ c.if-not-branch.false in
+    let h : literal_holds (shared_literal_of c.lit-item.result) (store_from c.args.values.now) ≡ true = sym c.in_ok-literal_holds.ensures.1
+    ∙ c.if-not-branch.false in
     record {
       there = λ p. c.loop-lit.invariant.there
           (way_there _ _ _ _ parts h (fits_literal (shared_literal_of c.lit-item.result) (store_from c.args.values.now) c.in_ok-literal_holds.ensures.0) p);

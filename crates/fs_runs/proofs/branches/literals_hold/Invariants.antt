@@ -13,5 +13,6 @@ invariant-loop-lit l = record {
       → AllInRange (touched_by_way (map shared_literal_of l.way) (store_from l.values));
   back : AllInRange (touched_by_way (map shared_literal_of l.way) (store_from l.values))
       → AllInRange (touched_by_way (map shared_literal_of (drop l.lit-index l.way)) (store_from l.values));
-  hold : literals_hold (map shared_literal_of (drop l.lit-index l.way)) (store_from l.values) ≡ literals_hold (map shared_literal_of l.way) (store_from l.values);
+  hold : literals_hold (map shared_literal_of (drop l.lit-index l.way)) (store_from l.values)
+      ≡ literals_hold (map shared_literal_of l.way) (store_from l.values);
 }
