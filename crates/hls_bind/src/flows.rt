@@ -75,17 +75,24 @@ fn with_assignments(set: VariableSet, assigns: &[Assign<VarId>]) -> VariableSet
     set
 }
 
-/// The scalars that a branch assigns.
-pub fn assigned_scalars(branch: &Branch) -> VariableSet
-    ensures { has_variable result ≡ has_below_128 (assigned_in (branch_of branch.now).assignments) }
+// The scalars that assignments assign.
+fn scalars_assigned(assigns: &[Assign<VarId>]) -> VariableSet
+    ensures { has_variable result ≡ has_below_128 (assigned_in (map assignment_of assigns.now)) }
 {
     let mut set = VariableSet::empty();
-    for assign in branch.assigns.as_slice() {
+    for assign in assigns {
         if let Assign::Set(x, _) = assign {
             set = set.with(*x);
         }
     }
     set
+}
+
+/// The scalars that a branch assigns.
+pub fn assigned_scalars(branch: &Branch) -> VariableSet
+    ensures { has_variable result ≡ has_below_128 (assigned_in (branch_of branch.now).assignments) }
+{
+    scalars_assigned(branch.assigns.as_slice())
 }
 
 // What a branch of a state does to the sets of what is live.

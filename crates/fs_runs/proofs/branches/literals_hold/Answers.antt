@@ -10,29 +10,30 @@ use Rattle.fs_runs.proofs.branches.literals_hold.Goals as goal
 pub returns-in_err-literal_holds : goal.returns-in_err-literal_holds
 returns-in_err-literal_holds c =
     let parts = map_drop_next shared_literal_of c.args.way.now c.loop-lit.lit-index c.lit-item.result c.loop-lit-test.true c.lit-item.is in
+    let no = rw c.deref.ensures at c.in_err-literal_holds.ensures in
     rw c.from_residual.ensures
-    (λ p. c.in_err-literal_holds.ensures
+    (λ p. no
     (literal_fits (shared_literal_of c.lit-item.result) (store_from c.args.values.now)
     (way_in_front _ _ _ (store_from c.args.values.now) parts (c.loop-lit.invariant.back p))))
 
 pub returns-then-not-branch : goal.returns-then-not-branch
 returns-then-not-branch c =
     let parts = map_drop_next shared_literal_of c.args.way.now c.loop-lit.lit-index c.lit-item.result c.loop-lit-test.true c.lit-item.is in
-    let h : literal_holds (shared_literal_of c.lit-item.result) (store_from c.args.values.now) ≡ false = sym c.in_ok-literal_holds.ensures.1
-    ∙ c.if-not-branch.true in (
+    let held = rw c.deref.ensures at c.in_ok-literal_holds.ensures in
+    let h : literal_holds (shared_literal_of c.lit-item.result) (store_from c.args.values.now) ≡ false = sym held.1 ∙ c.if-not-branch.true in (
       c.loop-lit.invariant.there
-          (way_ends _ _ _ _ parts h (fits_literal (shared_literal_of c.lit-item.result) (store_from c.args.values.now) c.in_ok-literal_holds.ensures.0)),
+          (way_ends _ _ _ _ parts h (fits_literal (shared_literal_of c.lit-item.result) (store_from c.args.values.now) held.0)),
       sym (sym c.loop-lit.invariant.hold ∙ hold_not _ _ _ _ parts h),
     )
 
 pub loop-lit-preserved : goal.loop-lit-preserved
 loop-lit-preserved c =
     let parts = map_drop_next shared_literal_of c.args.way.now c.loop-lit.lit-index c.lit-item.result c.loop-lit-test.true c.lit-item.is in
-    let h : literal_holds (shared_literal_of c.lit-item.result) (store_from c.args.values.now) ≡ true = sym c.in_ok-literal_holds.ensures.1
-    ∙ c.if-not-branch.false in
+    let held = rw c.deref.ensures at c.in_ok-literal_holds.ensures in
+    let h : literal_holds (shared_literal_of c.lit-item.result) (store_from c.args.values.now) ≡ true = sym held.1 ∙ c.if-not-branch.false in
     record {
       there = λ p. c.loop-lit.invariant.there
-          (way_there _ _ _ _ parts h (fits_literal (shared_literal_of c.lit-item.result) (store_from c.args.values.now) c.in_ok-literal_holds.ensures.0) p);
+          (way_there _ _ _ _ parts h (fits_literal (shared_literal_of c.lit-item.result) (store_from c.args.values.now) held.0) p);
       back = λ p. way_back _ _ _ _ parts h (c.loop-lit.invariant.back p);
       hold = sym (hold_more _ _ _ _ parts h) ∙ c.loop-lit.invariant.hold;
     }

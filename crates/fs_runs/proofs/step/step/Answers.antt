@@ -28,14 +28,14 @@ returns-in_err-changes-clause-past c =
     let p = err_from_is_err_and c.from_residual.result c.from_residual.ensures.1 in
     rw (p.1, p.2)
     (past_taken _ c.args.m.now c.args.s.0 s (branch_of c.in-Some.branch.now) t
-    (rw (c.as_slice-2.ensures.value, c.as_slice-3.ensures.value) at c.in_err-changes.ensures.past))
+    (rw (c.as_slice-2.ensures.value, c.deref.ensures, c.as_slice-3.ensures.value) at c.in_err-changes.ensures.past))
 
 pub change_all-requires : goal.change_all-requires
 change_all-requires c =
     let s = store_from (values_of c.args.store.now) in
     let o = rw (c.branches.ensures.branches, c.as_slice.ensures.value) at c.in-Some.ensures in
     let t = takes c.args.m.now c.args.s.0 s (branch_of c.in-Some.branch.now) c.branches.ensures.sound c.requires.state o.1 in
-    let made = rw (c.as_slice-2.ensures.value, c.as_slice-3.ensures.value) at c.in_ok-changes.ensures.changes in
+    let made = rw (c.as_slice-2.ensures.value, c.deref.ensures, c.as_slice-3.ensures.value) at c.in_ok-changes.ensures.changes in
     rw (c.as_mut_slice.ensures.value, c.as_slice-4.ensures.value, made) (t.suit (values_of c.args.store.now) c.requires.store)
 
 pub returns-in-Ok-clause-step : goal.returns-in-Ok-clause-step
@@ -43,7 +43,7 @@ returns-in-Ok-clause-step c =
     let s = store_from (values_of c.args.store.now) in
     let o = rw (c.branches.ensures.branches, c.as_slice.ensures.value) at c.in-Some.ensures in
     let t = takes c.args.m.now c.args.s.0 s (branch_of c.in-Some.branch.now) c.branches.ensures.sound c.requires.state o.1 in
-    let made = rw (c.as_slice-2.ensures.value, c.as_slice-3.ensures.value) at c.in_ok-changes.ensures.changes in
+    let made = rw (c.as_slice-2.ensures.value, c.deref.ensures, c.as_slice-3.ensures.value) at c.in_ok-changes.ensures.changes in
     let done = rw (c.as_mut_slice.ensures.value, c.as_slice-4.ensures.value, made) at c.in-Ok.ensures.changed in
     let long : length c.change_all.new.values ≡ c.args.store.now.values.len = search rules in
     subst (λ vs. Step c.args.m.now c.args.s.0 s c.in-Some.branch.now.target.0 (store_from vs))
@@ -59,5 +59,5 @@ returns-in-Ok-clause-target c =
 pub returns-in-Ok-clause-in_range : goal.returns-in-Ok-clause-in_range
 returns-in-Ok-clause-in_range c =
     let o = rw (c.branches.ensures.branches, c.as_slice.ensures.value) at c.in-Some.ensures in
-    let fit = rw (c.as_slice-2.ensures.value, c.as_slice-3.ensures.value) at c.in_ok-changes.ensures.fit in
+    let fit = rw (c.as_slice-2.ensures.value, c.deref.ensures, c.as_slice-3.ensures.value) at c.in_ok-changes.ensures.fit in
     (takes c.args.m.now c.args.s.0 _ (branch_of c.in-Some.branch.now) c.branches.ensures.sound c.requires.state o.1).touched_back o.0 fit
