@@ -9,4 +9,5 @@ pub loop-lit-preserved : goal.loop-lit-preserved
 loop-lit-preserved c =
     read_more (uses_in_literal scalars) shared_literal_of c.args.lits.now c.loop-lit.lit-index c.lit-item.result (has_variable c.loop-lit.set)
     (has_variable c.with_literal-set.result) _ c.loop-lit-test.true c.lit-item.is
-    (c.with_literal-set.ensures ∙ ap (λ l. also_all (uses_in_literal scalars (literal_of l)) (has_variable c.loop-lit.set)) c.deref.ensures) c.loop-lit.invariant
+    (c.with_literal-set.ensures ∙ ap (λ l. also_all (uses_in_literal scalars (literal_of l)) (has_variable c.loop-lit.set)) c.deref.ensures)
+    c.loop-lit.invariant
