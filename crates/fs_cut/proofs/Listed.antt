@@ -309,3 +309,24 @@ lists_points m start forks ps f p = record {
       (sym (points_listed_by m (listed_paths start forks) P)
       ∙ ap (λ (l : List Point). has_point (points_with_paths (listed_paths start forks) l) P) (sym p) ∙ h);
 }
+
+-- ---- what the cover has of one point
+pub start_listed : (m : Fsmd) → paths_by m Start m.reset ≡ paths_from (cover_of m) Start
+start_listed m = sym (paths_listed m Start refl)
+
+pub done_missing : (m : Fsmd) → paths_from (cover_of m) Done ≡ []
+done_missing m = paths_listed m Done refl
+
+fork_listed_by : (m : Fsmd) (q : ℕ) (b : Bool) → is_fork m q ≡ b → cond b (paths_of m (At q)) [] ≡ paths_from (cover_of m) (At q)
+fork_listed_by m q true e = sym (paths_listed m (At q) e)
+fork_listed_by m q false e = sym (others_missing m (At q) e)
+
+pub fork_listed : (m : Fsmd) (q : ℕ) → cond (is_fork m q) (paths_of m (At q)) [] ≡ paths_from (cover_of m) (At q)
+fork_listed m q = fork_listed_by m q (is_fork m q) refl
+
+past_by : (m : Fsmd) (q : ℕ) (b : Bool) → is_fork m q ≡ b → length m.states ≤ q → is_fork m q ≡ false
+past_by m q true e h = absurd (omega (arith, fork_state m q e, h))
+past_by m q false e h = e
+
+pub past_missing : (m : Fsmd) (q : ℕ) → length m.states ≤ q → paths_from (cover_of m) (At q) ≡ []
+past_missing m q h = others_missing m (At q) (past_by m q (is_fork m q) refl h)

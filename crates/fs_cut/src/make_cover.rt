@@ -4,7 +4,7 @@ ghost use Rattle.std.specs.Prelude.{◌≡◌, ◌<◌, ◌++◌, [], ◌∷◌,
 ghost use Rattle.std.specs.List.{range_with_len};
 ghost use Rattle.std.specs.Result.{OnOk};
 ghost use Rattle.fs_cut.specs.Paths.{At, is_fork};
-ghost use Rattle.fs_cut.specs.Covers.{paths_of, points_of, cover_of};
+ghost use Rattle.fs_cut.specs.Covers.{paths_of, paths_from, points_of, cover_of};
 ghost use Rattle.fs_cut.specs.View.{point_of, path_of};
 
 use crate::cover::{Cover, Path, Point};
@@ -25,8 +25,8 @@ pub fn cover(alloc: Global, m: &Machine) -> Result<Cover, NoMemory>
     Ok(Cover::of(points, start, forks))
 }
 
-// The points of a machine.
-fn points(alloc: Global, m: &Machine) -> Result<Vec<Point>, NoMemory>
+/// The points of a machine, in the order of its cover.
+pub fn points(alloc: Global, m: &Machine) -> Result<Vec<Point>, NoMemory>
     ensures { IfOk result (λ out. map point_of out.items ≡ points_of m.now) }
 {
     let mut out = Vec::new(alloc);
@@ -59,6 +59,31 @@ fn fork_paths(alloc: Global, m: &Machine, state: StateId) -> Result<Vec<Path>, N
         paths(alloc, m, Point::At(state), state)
     } else {
         Ok(Vec::new(alloc))
+    }
+}
+
+// The paths that the cover has of a state by its number, none where no state has it.
+#[tactic(auto, using(crate::proofs::Listed::fork_listed))]
+fn state_paths(alloc: Global, m: &Machine, state: StateId) -> Result<Vec<Path>, NoMemory>
+    ensures { IfOk result (λ out. map path_of out.items ≡ paths_from (cover_of m.now) (At state.0)) }
+{
+    if state.0 < m.state_count() {
+        fork_paths(alloc, m, state)
+    } else {
+        Ok(Vec::new(alloc))
+    }
+}
+
+/// The paths that the cover of a machine has of a point: one for each branch of its state in order of branches, and none of
+/// what isn't among the points. The one refusal is out of memory.
+#[tactic(auto, using(crate::proofs::Listed::start_listed))]
+pub fn point_paths(alloc: Global, m: &Machine, point: Point) -> Result<Vec<Path>, NoMemory>
+    ensures { IfOk result (λ out. map path_of out.items ≡ paths_from (cover_of m.now) (point_of point)) }
+{
+    match point {
+        Point::Start => paths(alloc, m, point, m.reset()),
+        Point::At(state) => state_paths(alloc, m, state),
+        Point::Done => Ok(Vec::new(alloc)),
     }
 }
 

@@ -3,13 +3,13 @@
 ghost use Rattle.std.specs.Prelude.{◌≡◌, ◌++◌, IfOk, map, decimal};
 ghost use Rattle.std.specs.List.{flat_map};
 ghost use Rattle.std.specs.Result.{OnOk};
-ghost use Rattle.fs_cut.specs.Covers.{paths_from};
+ghost use Rattle.fs_cut.specs.Covers.{paths_from, cover_of};
 ghost use Rattle.fs_cut.specs.View.{point_of, path_of};
 ghost use Rattle.fs_path_text.specs.PathTexts.{point_text, named_path, path_line, paths_text};
 
 use fs_ast::machine::Machine;
-use fs_cut::cover::{Cover, Path, Point};
-use fs_cut::make_cover::cover;
+use fs_cut::cover::{Path, Point};
+use fs_cut::make_cover::{point_paths, points};
 use std::alloc::{AllocError, Global};
 
 /// What a point prints as: `start`, the state's name, or `done`. Takes no memory.
@@ -81,30 +81,43 @@ fn write_paths(
     Ok(())
 }
 
-// The lines of the paths that a cover has from each of these points.
-fn write_points(
+// Adds the lines of the paths of a point.
+fn write_point(
     alloc: Global,
     machine: &Machine,
-    cover: &Cover,
-    points: &[Point],
-) -> Result<Vec<u8>, AllocError>
+    point: Point,
+    out: &mut Vec<u8>,
+) -> Result<(), AllocError>
+    ensures { OnOk result
+        (out.new.items ≡ out.old.items
+        ++ flat_map (path_line machine.now) (paths_from (cover_of machine.now) (point_of point))) }
+{
+    match point_paths(alloc, machine, point) {
+        Ok(paths) => write_paths(alloc, machine, &paths, out),
+        Err(_) => Err(AllocError),
+    }
+}
+
+// The lines of the paths of each of these points.
+fn write_points(alloc: Global, machine: &Machine, points: &[Point]) -> Result<Vec<u8>, AllocError>
     ensures { IfOk result
-        (λ out. out.items ≡ flat_map (λ P. flat_map (path_line machine.now) (paths_from cover.now P)) (map point_of points.now)) }
+        (λ out. out.items
+        ≡ flat_map (λ P. flat_map (path_line machine.now) (paths_from (cover_of machine.now) P)) (map point_of points.now)) }
 {
     let mut out = Vec::new(alloc);
     for point in points {
-        write_paths(alloc, machine, cover.from(*point), &mut out)?;
+        write_point(alloc, machine, *point, &mut out)?;
     }
     Ok(out)
 }
 
 /// The text that lists the paths of a machine, each on a line: by the points that they begin at, in order, and
-/// then by branches.
+/// then by branches. It holds the paths of one point at a time.
 pub fn list_paths(alloc: Global, machine: &Machine) -> Result<Vec<u8>, AllocError>
     ensures { IfOk result (λ out. out.items ≡ paths_text machine.now) }
 {
-    match cover(alloc, machine) {
-        Ok(cover) => write_points(alloc, machine, &cover, cover.points()),
+    match points(alloc, machine) {
+        Ok(points) => write_points(alloc, machine, &points),
         Err(_) => Err(AllocError),
     }
 }
