@@ -3,7 +3,10 @@ use Rattle.std.proofs.Common.{◌≡◌, ◌≤◌, ℕ, ◌+◌, ◌*◌, ℤ, 
 use Rattle.std.proofs.Common.{arith, refl, ap, sym, ◌∙◌}
 use Rattle.std.proofs.lemmas.Int.{ints}
 use Rattle.std.proofs.lemmas.Bool.{le-leb, leb-true, and_from}
+use Rattle.std.proofs.lemmas.List.Folds.{list_all-append}
+use Rattle.std.specs.List.{list_all}
 use Rattle.std.specs.Ordering.{int_eq}
+use Rattle.std.specs.Prelude.{is_some}
 use Rattle.nf_terms.proofs.Booleans.{and_first, and_second}
 use Rattle.nf_terms.proofs.Partings.{ordered_term, term_ordered}
 use Rattle.nf_terms.proofs.Simple.{light}
@@ -17,6 +20,9 @@ use Rattle.nf_terms.specs.RawSums.{raw_sum, monomial_product}
 use Rattle.nf_terms.specs.Computed.{Computed, Done, Wide, after, if_small}
 use Rattle.fs_model.specs.declared.sides.Pos.{Pos}
 use Rattle.nf_terms.specs.declared.form.Nf.{Nf}
+use Rattle.nf_terms.specs.declared.form.Nf.TheVariants.{Num, Arr, Seq}
+use Rattle.nf_terms.specs.declared.symbols.Sort.TheVariants.{Scalar}
+use Rattle.nf_terms.specs.Symbols.{symbols_of_monomial, symbols_of}
 use Rattle.nf_sums.specs.RawSumForms.{normal_form}
 use Rattle.nf_sums.specs.Operations.{operation, normal_sum, normal_product, number}
 use Rattle.nf_sums.proofs.Bags.{size-joined}
@@ -24,16 +30,12 @@ use Rattle.nf_sums.proofs.Exact.{small_done}
 use Rattle.nf_sums.proofs.Settling.{form_stays}
 use Rattle.nf_sums.proofs.Sorting.{joined_deep}
 use Rattle.nf_sums.proofs.Terms.{size-sum, weight-sum}
-use Rattle.nf_substitution.specs.SamePlaces.{pos_equal, own_pos}
-use Rattle.nf_substitution.specs.Vectors.{number_at}
+use Rattle.nf_substitution.specs.SamePlaces.{pos_equal}
+use Rattle.nf_substitution.specs.Vectors.{form_at, number_or, number_at}
 use Rattle.nf_substitution.specs.BareNumbers.{bare_number}
-use Rattle.nf_substitution.specs.StayingTerms.{most_atoms, is_symbol, symbol_stays, atoms_stay, monomial_stays, terms_stay}
+use Rattle.nf_substitution.specs.StayingTerms.{most_atoms, is_symbol, number_symbol, symbol_stays, atoms_stay, monomial_stays, terms_stay, has_symbol}
 use Rattle.nf_substitution.specs.Substitution.{atoms_substituted, terms_substituted, polynomial_substituted}
 use Rattle.nf_substitution.proofs.LoneSymbols.{bare_number_is}
-
--- a symbol is its own number where the vector has none for it
-pub own_symbol : (p : Pos) → true ≡ is_symbol p (bare_number (polynomial_of_symbol p))
-own_symbol p = sym (own_pos p)
 
 -- ---- an operation gives a raw sum that is in order
 
@@ -126,11 +128,17 @@ one_more k c p z w o d s =
 
 module _ (v : List (Pos × Nf)) where
   number_stays : (p : Pos) → symbol_stays v p ≡ true → number_at v p ≡ polynomial_of_symbol p
-  number_stays p e = by_found (bare_number (number_at v p)) refl e
+  number_stays p e = by_form (form_at Scalar p v) e
     where
-      by_found : (f : Option Pos) → bare_number (number_at v p) ≡ f → is_symbol p f ≡ true → number_at v p ≡ polynomial_of_symbol p
-      by_found None g h = absurd (cc h)
-      by_found (Some q) g h = bare_number_is (number_at v p) q g ∙ ap polynomial_of_symbol (sym (pos_equal p q h))
+      by_form : (f : Option Nf) → is_symbol p (number_symbol f) ≡ true → number_or (polynomial_of_symbol p) f ≡ polynomial_of_symbol p
+      by_form None h = refl
+      by_form (Some (Num q)) h = by_symbol (bare_number q) refl h
+        where
+          by_symbol : (o : Option Pos) → bare_number q ≡ o → is_symbol p o ≡ true → q ≡ polynomial_of_symbol p
+          by_symbol None g i = absurd (cc i)
+          by_symbol (Some x) g i = bare_number_is q x g ∙ ap polynomial_of_symbol (sym (pos_equal p x i))
+      by_form (Some (Arr a)) h = refl
+      by_form (Some (Seq l)) h = refl
 
   -- atoms that stay are as many as their size
   own_size : (m : Monomial) → atoms_stay v m ≡ true → size_of_monomial m ≡ degree m
@@ -191,3 +199,34 @@ module _ (v : List (Pos × Nf)) where
   -- what the look at a polynomial tells
   pub polynomial_stays : (p : Polynomial) (b : Bool) → IsNormal p → b ≡ terms_stay v p → b ≡ true → polynomial_substituted v p ≡ Done p
   polynomial_stays p b n h e = sum_stays p n Zero p refl (sym h ∙ e)
+
+  -- ---- the symbols of what stays have forms
+
+  symbol_there : (p : Pos) → symbol_stays v p ≡ true → has_symbol v (p, Scalar) ≡ true
+  symbol_there p e = by_form (form_at Scalar p v) e
+    where
+      by_form : (f : Option Nf) → is_symbol p (number_symbol f) ≡ true → is_some f ≡ true
+      by_form None h = h
+      by_form (Some f) h = refl
+
+  monomial_there : (m : Monomial) → atoms_stay v m ≡ true → list_all (has_symbol v) (symbols_of_monomial m) ≡ true
+  monomial_there One e = refl
+  monomial_there (Times (Symbol p) m) e =
+      and_from (has_symbol v (p, Scalar)) (list_all (has_symbol v) (symbols_of_monomial m))
+      (symbol_there p (and_first (symbol_stays v p) (atoms_stay v m) e)) (monomial_there m (and_second (symbol_stays v p) (atoms_stay v m) e))
+  monomial_there (Times (Read a i) m) e = absurd (cc e)
+  monomial_there (Times (Quotient p q) m) e = absurd (cc e)
+  monomial_there (Times (Remainder p q) m) e = absurd (cc e)
+
+  terms_there : (p : Polynomial) → terms_stay v p ≡ true → list_all (has_symbol v) (symbols_of p) ≡ true
+  terms_there Zero e = refl
+  terms_there (Plus m c p) e =
+      list_all-append (has_symbol v) (symbols_of_monomial m) (symbols_of p)
+      ∙ and_from (list_all (has_symbol v) (symbols_of_monomial m)) (list_all (has_symbol v) (symbols_of p))
+      (monomial_there m (and_second (nat_le (degree m) most_atoms) (atoms_stay v m) (and_first (monomial_stays v m) (terms_stay v p) e)))
+      (terms_there p (and_second (monomial_stays v m) (terms_stay v p) e))
+
+  pub symbols_there : (p : Polynomial) (b : Bool) → b ≡ terms_stay v p → b ≡ true → list_all (has_symbol v) (symbols_of p) ≡ true
+  symbols_there p b h e = terms_there p (sym h ∙ e)
+
+pub ruleset staying = (polynomial_stays, symbols_there)

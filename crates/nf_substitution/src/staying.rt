@@ -23,14 +23,13 @@ fn is_symbol(p: Pos, found: Option<Pos>) -> bool
     }
 }
 
-// Whether a vector's number for a symbol is the symbol.
-#[tactic(auto, using(crate::proofs::Unchanged::own_symbol))]
+// Whether a vector has a number for a symbol, which is the symbol.
 fn symbol_stays(v: &Vector, p: Pos) -> bool
     ensures { result ≡ symbol_stays v.now p }
 {
     match v.form(Sort::Scalar, p) {
         Some(Nf::Num(number)) => is_symbol(p, bare_number(number)),
-        _ => true,
+        _ => false,
     }
 }
 

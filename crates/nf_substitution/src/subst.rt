@@ -1,6 +1,8 @@
 //! Substitution of a vector in normal forms: each different atom is substituted once.
 
 ghost use Rattle.std.specs.Prelude.{◌≡◌, ◌≤◌, true, [], length, take, IfOk, OnOk, OnErr};
+ghost use Rattle.std.specs.List.{list_all};
+ghost use Rattle.nf_terms.specs.Symbols.{symbols_of};
 ghost use Rattle.nf_terms.specs.TermMeaning.{Valuation, value_of, contents, items_in};
 ghost use Rattle.nf_terms.specs.View.{polynomial_in, array_in};
 ghost use Rattle.nf_terms.specs.Computed.{Answers, Done};
@@ -9,7 +11,7 @@ ghost use Rattle.nf_substitution.specs.Vectors.{list_of_base, vector_meaning};
 ghost use Rattle.nf_substitution.specs.Substitution.{polynomial_substituted, array_substituted, items_substituted};
 ghost use Rattle.nf_substitution.specs.Substitution.{list_substituted};
 ghost use Rattle.nf_substitution.specs.Keeping.{with_terms, with_array, with_items, IsFront};
-ghost use Rattle.nf_substitution.specs.StayingTerms.{terms_stay};
+ghost use Rattle.nf_substitution.specs.StayingTerms.{terms_stay, has_symbol};
 
 use crate::evaluation::{array_value, sum_value};
 use crate::kept_atoms::put_terms;
@@ -80,12 +82,13 @@ impl<'v> Subst<'v> {
         put_sum(alloc, &mut self.bank, sum)
     }
 
-    /// Whether the vector is known to leave a polynomial as it is: each atom of it is a symbol that the vector has for itself, and
-    /// no monomial has more than 2,048. The look takes no memory, and keeps nothing.
-    #[tactic(auto, using(crate::proofs::Unchanged::polynomial_stays))]
+    /// Whether the vector is known to have the symbols of a polynomial, and to leave it as it is: each atom is a symbol that the
+    /// vector has as its own form, and no monomial has more than 2,048. The look takes no memory, and keeps nothing.
+    #[tactic(auto, using(crate::proofs::Unchanged::staying))]
     pub fn leaves(&self, p: &Poly) -> bool
         ensures look { result ≡ terms_stay self.now.vector p.now }
         ensures left { result ≡ true → polynomial_substituted self.now.vector p.now ≡ Done p.now }
+        ensures there { result ≡ true → list_all (has_symbol self.now.vector) (symbols_of p.now) ≡ true }
     {
         terms_stay(self.vector, p.tree())
     }

@@ -19,7 +19,7 @@ use nf_terms::poly::Poly;
 use nf_terms::stop::{NfStop, NoMemory};
 use nf_terms::tree::Pos;
 use std::alloc::Global;
-use sym_facts::entailment::substitute_shared;
+use sym_facts::entailment::{leaves_form, substitute};
 use sym_facts::fact::own_symbol;
 
 // A number, tied to one number that is freed.
@@ -123,7 +123,7 @@ fn tie_freed_form(
 }
 
 /// The equation of a position that has this form: the form over the new meanings, where all its symbols are held, else a tie to a
-/// position that is freed, where there is one. A form that stays is shared.
+/// position that is freed, where there is one. A form that is left as it is is shared.
 ///
 /// `Wide` and `Large` come exactly at the first operation that is not narrow, or narrow and not small. `NoMemory`: out of memory.
 pub fn equation_found(
@@ -138,8 +138,12 @@ pub fn equation_found(
     ensures answers { Answers result (equation_found v.now meanings.now form.now freed.now) }
     ensures vector { s.new.vector ≡ s.old.vector }
 {
+    if leaves_form(s, form.form()) {
+        return Ok(Some(form.try_clone()?));
+    }
     if form_held(alloc, meanings, form.form())? {
-        return Ok(Some(substitute_shared(alloc, s, form)?));
+        let value = substitute(alloc, s, form.form())?;
+        return Ok(Some(SharedForm::of(alloc, value)?));
     }
     match tie_freed_form(alloc, s, v, meanings, form.form(), freed)? {
         Some(tie) => Ok(Some(SharedForm::of(alloc, tie)?)),

@@ -2,7 +2,10 @@
 
 ghost use Rattle.std.specs.Prelude.{◌≡◌, ◌<◌, ◌^◌, true, map, length, IfOk, Some};
 ghost use Rattle.nf_terms.specs.Computed.{Answers, Done};
+ghost use Rattle.std.specs.List.{list_all};
+ghost use Rattle.nf_terms.specs.Symbols.{symbols_of_form};
 ghost use Rattle.nf_terms.specs.declared.form.Nf.TheVariants.{Num};
+ghost use Rattle.nf_substitution.specs.StayingTerms.{has_symbol};
 ghost use Rattle.nf_rel.specs.NormalLiterals.{IsNormalLiteral};
 ghost use Rattle.nf_rel.specs.View.{literal_in};
 ghost use Rattle.sym_paths.specs.Sequences.{each};
@@ -50,30 +53,15 @@ pub fn substitute(alloc: Global, s: &mut Subst, form: &Nf) -> Result<Nf, NfStop>
     }
 }
 
-// Whether the vector is known to leave a form as it is.
-fn leaves_form(s: &Subst, form: &Nf) -> bool
-    ensures { result ≡ true → form_substituted s.now.vector form.now ≡ Done form.now }
+/// Whether the vector is known to have the symbols of a form, and to leave it as it is. The look takes no memory.
+pub fn leaves_form(s: &Subst, form: &Nf) -> bool
+    ensures left { result ≡ true → form_substituted s.now.vector form.now ≡ Done form.now }
+    ensures there { result ≡ true → list_all (has_symbol s.now.vector) (symbols_of_form form.now) ≡ true }
 {
     match form {
         Nf::Num(p) => s.leaves(p),
         Nf::Arr(_) | Nf::Seq(_) => false,
     }
-}
-
-/// As `substitute`, of a form that is shared: no term of it is copied where the vector is known to leave it.
-pub fn substitute_shared(
-    alloc: Global,
-    s: &mut Subst,
-    form: &SharedForm,
-) -> Result<SharedForm, NfStop>
-    ensures answers { Answers result (form_substituted s.old.vector form.now) }
-    ensures vector { s.new.vector ≡ s.old.vector }
-{
-    if leaves_form(s, form.form()) {
-        return Ok(form.try_clone()?);
-    }
-    let value = substitute(alloc, s, form.form())?;
-    Ok(SharedForm::of(alloc, value)?)
 }
 
 /// What a vector has at a position, of the sort of a form. The one refusal is out of memory.
