@@ -1,13 +1,11 @@
 -- Which positions the first two passes of a rebase make free: of a couple with equal values never the second one.
-use Rattle.std.proofs.Common.{◌≡◌, pos, cond, Bool, true, false, refl, ap, ap₂, sym, subst, ◌∙◌, List, [], ◌∷◌, Option, Some, None, map}
+use Rattle.std.proofs.Common.{◌≡◌, pos, cond, Bool, true, false, refl, ap, sym, subst, ◌∙◌, List, [], ◌∷◌, Option, Some, None, map}
 use Rattle.std.specs.Prelude.{is_some}
-use Rattle.std.specs.Ordering.{int_eq}
-use Rattle.std.specs.Cmp.{signed_Decides}
 use Rattle.std.proofs.lemmas.Bool.{and_from}
 use Rattle.fs_model.specs.declared.parts.Sort.{Sort}
 use Rattle.fs_model.specs.declared.parts.Sort.TheVariants as sort
 use Rattle.fs_pair.specs.declared.positions.Position.{Position}
-use Rattle.nf_terms.specs.NormalTerms.{Polynomial, ArrayTerm, Zero, Plus, Over, NoWrites, Write, polynomial_of_symbol, bare_array}
+use Rattle.nf_terms.specs.NormalTerms.{Polynomial, ArrayTerm, Zero, Over, NoWrites, Write, polynomial_of_symbol, bare_array}
 use Rattle.nf_terms.specs.Lists.{bare_list}
 use Rattle.nf_terms.specs.Symbols.{symbols_of}
 use Rattle.nf_terms.specs.Computed.{Computed, Done, after}
@@ -23,11 +21,12 @@ use Rattle.nf_terms.specs.declared.form.Nf.TheVariants.{Num, Arr, Seq}
 use Rattle.nf_terms.proofs.Computed.{same_Done}
 use Rattle.nf_sums.proofs.Values.{goes_done}
 use Rattle.nf_substitution.specs.Vectors.{form_at, with_form, number_or, array_or, list_or, number_at, array_form, list_at}
+use Rattle.nf_substitution.proofs.LoneSymbols.{bare_number_is}
 use Rattle.nf_substitution.specs.Substitution.{polynomial_substituted}
 use Rattle.sym_facts.specs.Facts.{sort_of_terms, own_symbol}
 use Rattle.sym_facts.specs.Entailment.{form_substituted}
 use Rattle.sym_facts.proofs.StartSolved.{own_sort_of}
-use Rattle.propagate.specs.Rebases.{value_at, is_held, number_held, form_held, lone_symbol, bare_number, bare_base, symbol_of_array, symbol_of_list}
+use Rattle.propagate.specs.Rebases.{value_at, is_held, number_held, form_held, bare_base, symbol_of_array, symbol_of_list}
 use Rattle.propagate.specs.Rebases.{bare_symbol, RebaseState, with_mark, unheld_symbol, symbol_found, first_by, first_pass, Split, split_off_symbol, less_rest}
 use Rattle.propagate.specs.Rebases.{Solution}
 use Rattle.propagate.specs.Rebases.{solution, second_pass_solution, second_by, second_pass}
@@ -35,18 +34,9 @@ use Rattle.alike_terms.specs.Risen.{is_risen}
 use Rattle.alike_terms.proofs.SubstitutedWorth.{symbol_substituted}
 use Rattle.alike_facts.specs.EvenFacts.{AreEvenValues}
 use Rattle.alike_facts.proofs.Extending.{Extends, extends_self, extends_on, all_held, put_extends, put_there}
-use Rattle.alike_facts.proofs.Splits.{lone_is, split_from, split_none, solved_back}
+use Rattle.alike_facts.proofs.Splits.{split_from, split_none, solved_back}
 
 -- ---- symbols alone
-
-bare_number_is : (t : Polynomial) (s : Pos) → bare_number t ≡ Some s → t ≡ polynomial_of_symbol s
-bare_number_is Zero s e = absurd (cc e)
-bare_number_is (Plus m c Zero) s e = by_test (int_eq c (pos 1)) refl e
-  where
-    by_test : (b : Bool) → int_eq c (pos 1) ≡ b → cond {A = Option Pos} b (lone_symbol m) None ≡ Some s → Plus m c Zero ≡ polynomial_of_symbol s
-    by_test true h g = ap₂ (λ k d. Plus k d Zero) (lone_is m s g) ((signed_Decides c (pos 1)).0 h)
-    by_test false h g = absurd (cc g)
-bare_number_is (Plus m c (Plus n d p)) s e = absurd (cc e)
 
 bare_base_is : (b : Base) (s : Pos) → bare_base b ≡ Some s → b ≡ base.Sym s
 bare_base_is base.Zero s e = absurd (cc e)

@@ -7,7 +7,7 @@ use Rattle.std.specs.Cmp.{signed_Decides}
 use Rattle.std.proofs.lemmas.Int.{ints}
 use Rattle.std.proofs.lemmas.Bool.{and_from}
 use Rattle.fs_model.proofs.Booleans.{and_first}
-use Rattle.nf_terms.specs.NormalTerms.{Atom, Monomial, Polynomial, Symbol, Read, Quotient, Remainder, One, Times, Zero, Plus, polynomial_of_symbol}
+use Rattle.nf_terms.specs.NormalTerms.{Monomial, Polynomial, Symbol, One, Times, Zero, Plus, polynomial_of_symbol}
 use Rattle.nf_terms.specs.Symbols.{symbols_of_monomial, symbols_of}
 use Rattle.nf_terms.specs.Computed.{Done, after}
 use Rattle.nf_terms.specs.declared.symbols.Sort.{Sort as TermSort}
@@ -19,23 +19,13 @@ use Rattle.nf_sums.specs.OrderedSums.{worth_of, IgnoresOrder}
 use Rattle.nf_sums.specs.Operations.{normal_sum, number}
 use Rattle.nf_sums.proofs.Values.{goes_done}
 use Rattle.nf_substitution.specs.Vectors.{number_at}
+use Rattle.nf_substitution.proofs.LoneSymbols.{lone_is}
 use Rattle.nf_substitution.specs.Substitution.{atoms_substituted, terms_substituted, polynomial_substituted}
-use Rattle.propagate.specs.Rebases.{is_held, number_held, lone_atom, lone_symbol, Split, with_more_of_split, split_by, split_at, split_off_symbol, less_rest}
+use Rattle.propagate.specs.Rebases.{is_held, number_held, lone_symbol, Split, with_more_of_split, split_by, split_at, split_off_symbol, less_rest}
 use Rattle.alike_terms.proofs.RisenForms.{settled_by_worth}
 use Rattle.alike_terms.proofs.RisenSubstitutions.{substituted_rises}
 use Rattle.alike_terms.proofs.SubstitutedWorth.{sum_worth, difference_worth, unit_worth, shift}
 use Rattle.alike_facts.proofs.Extending.{all_left, all_right, all_joined, Extends, terms_again}
-
-lone_atom_is : (t : Atom) (s : Pos) → lone_atom t ≡ Some s → t ≡ Symbol s
-lone_atom_is (Symbol p) s e = let k : p ≡ s = cc e in ap Symbol k
-lone_atom_is (Read b i) s e = absurd (cc e)
-lone_atom_is (Quotient p q) s e = absurd (cc e)
-lone_atom_is (Remainder p q) s e = absurd (cc e)
-
-pub lone_is : (m : Monomial) (s : Pos) → lone_symbol m ≡ Some s → m ≡ Times (Symbol s) One
-lone_is One s e = absurd (cc e)
-lone_is (Times t One) s e = ap (λ x. Times x One) (lone_atom_is t s e)
-lone_is (Times t (Times b m)) s e = absurd (cc e)
 
 -- ---- the symbol is not held, and with it all symbols are
 

@@ -3,3 +3,5 @@ pub mod Entries
 pub mod Known
 pub mod FirstFactors
 pub mod Values
+pub mod LoneSymbols
+pub mod Unchanged

@@ -3,6 +3,8 @@ pub mod VectorPlaces
 pub mod Substitution
 pub mod Keeping
 pub mod SamePlaces
+pub mod BareNumbers
+pub mod StayingTerms
 pub use Rattle.nf_arrays.specs.NewAtoms
 pub use Rattle.nf_arrays.specs.Pushes
 pub use Rattle.nf_arrays.specs.Writes

@@ -1,17 +1,22 @@
 //! Substitution of a vector in normal forms: each different atom is substituted once.
 
-ghost use Rattle.std.specs.Prelude.{◌≡◌, ◌≤◌, [], length, take, IfOk, OnOk, OnErr};
+ghost use Rattle.std.specs.Prelude.{◌≡◌, ◌≤◌, true, [], length, take, IfOk, OnOk, OnErr};
+ghost use Rattle.std.specs.List.{list_all};
+ghost use Rattle.nf_terms.specs.Symbols.{symbols_of};
 ghost use Rattle.nf_terms.specs.TermMeaning.{Valuation, value_of, contents, items_in};
 ghost use Rattle.nf_terms.specs.View.{polynomial_in, array_in};
-ghost use Rattle.nf_terms.specs.Computed.{Answers};
+ghost use Rattle.nf_terms.specs.Computed.{Answers, Done};
 ghost use Rattle.nf_bank.specs.AtomNumbers.{bound_of_sum, bound_of_array, sum_over, array_over, SpellsSum, SpellsArray};
 ghost use Rattle.nf_substitution.specs.Vectors.{list_of_base, vector_meaning};
 ghost use Rattle.nf_substitution.specs.Substitution.{polynomial_substituted, array_substituted, items_substituted};
 ghost use Rattle.nf_substitution.specs.Substitution.{list_substituted};
 ghost use Rattle.nf_substitution.specs.Keeping.{with_terms, with_array, with_items, IsFront};
+ghost use Rattle.nf_substitution.specs.StayingTerms.{terms_stay, has_symbol};
 
 use crate::evaluation::{array_value, sum_value};
+use crate::kept_atoms::put_terms;
 use crate::memo::Memo;
+use crate::staying::terms_stay;
 use crate::vector::Vector;
 use nf_arrays::pushes::push;
 use nf_bank::bank::Bank;
@@ -77,6 +82,27 @@ impl<'v> Subst<'v> {
         put_sum(alloc, &mut self.bank, sum)
     }
 
+    /// Whether the vector is known to have the symbols of a polynomial, and to leave it as it is: each atom is a symbol that the
+    /// vector has as its own form, and no monomial has more than 2,048. The look takes no memory, and keeps nothing.
+    #[tactic(auto, using(crate::proofs::Unchanged::staying))]
+    pub fn leaves(&self, p: &Poly) -> bool
+        ensures look { result ≡ terms_stay self.now.vector p.now }
+        ensures left { result ≡ true → polynomial_substituted self.now.vector p.now ≡ Done p.now }
+        ensures there { result ≡ true → list_all (has_symbol self.now.vector) (symbols_of p.now) ≡ true }
+    {
+        terms_stay(self.vector, p.tree())
+    }
+
+    // Keeps the atoms of a polynomial.
+    #[tactic(auto, using(crate::proofs::Known::known_more))]
+    fn put_terms(&mut self, alloc: Global, sum: &PolyTree) -> Result<(), NoMemory>
+        ensures vector { self.new.vector ≡ self.old.vector }
+        ensures kept { OnOk result (self.new.atoms ≡ with_terms (polynomial_in sum.now) self.old.atoms) }
+        ensures front { IsFront self.old.atoms self.new.atoms }
+    {
+        put_terms(alloc, &mut self.bank, sum)
+    }
+
     // Keeps the atoms in an array, and gives it by their numbers.
     #[tactic(auto, using(crate::proofs::Known::known_more))]
     fn put_array(&mut self, alloc: Global, array: &ArrTree) -> Result<Array, NoMemory>
@@ -123,9 +149,9 @@ impl<'v> Subst<'v> {
     }
 }
 
-// A polynomial with the vector's forms in place of its symbols.
+// A polynomial with the vector's forms in place of its symbols, found atom by atom.
 #[tactic(auto, using(nf_bank::proofs::Fronts::fronts))]
-fn keep_poly(alloc: Global, s: &mut Subst, tree: &PolyTree) -> Result<Poly, NfStop>
+fn keep_tree(alloc: Global, s: &mut Subst, tree: &PolyTree) -> Result<Poly, NfStop>
     ensures answers { Answers result (polynomial_substituted s.old.vector (polynomial_in tree.now)) }
     ensures vector { s.new.vector ≡ s.old.vector }
     ensures kept { OnOk result (s.new.atoms ≡ with_terms (polynomial_in tree.now) s.old.atoms) }
@@ -133,6 +159,20 @@ fn keep_poly(alloc: Global, s: &mut Subst, tree: &PolyTree) -> Result<Poly, NfSt
 {
     let terms = s.put_sum(alloc, tree)?;
     s.sum_value(alloc, terms.as_slice())
+}
+
+// A polynomial with the vector's forms in place of its symbols: a copy, where the vector leaves it.
+fn keep_poly(alloc: Global, s: &mut Subst, p: &Poly) -> Result<Poly, NfStop>
+    ensures answers { Answers result (polynomial_substituted s.old.vector p.now) }
+    ensures vector { s.new.vector ≡ s.old.vector }
+    ensures kept { OnOk result (s.new.atoms ≡ with_terms p.now s.old.atoms) }
+    ensures front { IsFront s.old.atoms s.new.atoms }
+{
+    if s.leaves(p) {
+        s.put_terms(alloc, p.tree())?;
+        return Ok(p.try_clone(alloc)?);
+    }
+    keep_tree(alloc, s, p.tree())
 }
 
 // An array with the vector's forms in place of its symbols.
@@ -157,7 +197,7 @@ fn keep_items(alloc: Global, s: &mut Subst, first: Seq, items: &[Poly]) -> Resul
 {
     let mut so_far = first;
     for item in items {
-        let value = keep_poly(alloc, s, item.tree())?;
+        let value = keep_poly(alloc, s, item)?;
         so_far = push(alloc, &so_far, &value)?;
     }
     Ok(so_far)
@@ -188,7 +228,7 @@ impl<'v> Subst<'v> {
         ensures refused { OnErr result (self.new ≡ self.old) }
     {
         let count = self.count();
-        let answer = keep_poly(alloc, self, p.tree());
+        let answer = keep_poly(alloc, self, p);
         if answer.is_err() {
             self.forget(count);
         }

@@ -4,6 +4,7 @@ ghost use Rattle.std.specs.Prelude.{◌≡◌, [], Some, option_map, IsTrue, IfO
 ghost use Rattle.std.specs.Ordering.{is_eq};
 ghost use Rattle.nf_terms.specs.Order.{cmp_polynomial, cmp_array};
 ghost use Rattle.nf_terms.specs.Lists.{cmp_list};
+ghost use Rattle.nf_terms.specs.declared.form.Nf.TheVariants as normal;
 ghost use Rattle.nf_substitution.specs.Vectors.{form_at, form_of, has_form, number_at, array_form, list_at, array_of_base};
 ghost use Rattle.nf_substitution.specs.Vectors.{list_of_base};
 ghost use Rattle.nf_substitution.specs.Vectors.{with_form, AreNormalForms};
@@ -142,6 +143,42 @@ impl Vector {
             Some(list) => list,
             None => unreachable!(),
         }
+    }
+
+    /// The number of a position, shared, or the position's symbol. The one refusal is out of memory.
+    pub fn shared_number(&self, alloc: Global, p: &Pos) -> Result<SharedForm, NoMemory>
+        ensures { IfOk result (λ n. n ≡ normal.Num (number_at self.now p.now)) }
+    {
+        if let Some(shared) = self.shared_form(Sort::Scalar, *p) {
+            if let Nf::Num(_) = shared.form() {
+                return shared.try_clone();
+            }
+        }
+        SharedForm::of(alloc, Nf::Num(Poly::symbol(alloc, *p)?))
+    }
+
+    /// The array of a position, shared, or the position's symbol. The one refusal is out of memory.
+    pub fn shared_array(&self, alloc: Global, p: &Pos) -> Result<SharedForm, NoMemory>
+        ensures { IfOk result (λ a. a ≡ normal.Arr (array_form self.now p.now)) }
+    {
+        if let Some(shared) = self.shared_form(Sort::Array, *p) {
+            if let Nf::Arr(_) = shared.form() {
+                return shared.try_clone();
+            }
+        }
+        SharedForm::of(alloc, Nf::Arr(Arr::bare(alloc, Base::Sym(*p))))
+    }
+
+    /// The list of a position, shared, or the position's symbol. The one refusal is out of memory.
+    pub fn shared_list(&self, alloc: Global, p: &Pos) -> Result<SharedForm, NoMemory>
+        ensures { IfOk result (λ l. l ≡ normal.Seq (list_at self.now p.now)) }
+    {
+        if let Some(shared) = self.shared_form(Sort::List, *p) {
+            if let Nf::Seq(_) = shared.form() {
+                return shared.try_clone();
+            }
+        }
+        SharedForm::of(alloc, Nf::Seq(Seq::bare(alloc, SeqBase::Sym(*p))))
     }
 
     /// A copy of the number of a position, or the position's symbol. The one refusal is out of memory.

@@ -7,8 +7,7 @@ use Rattle.std.specs.Ordering.{int_eq}
 use Rattle.fs_model.specs.declared.parts.Sort.{Sort}
 use Rattle.fs_model.specs.declared.parts.Sort.TheVariants as sort
 use Rattle.fs_pair.specs.declared.positions.Position.{Position}
-use Rattle.nf_terms.specs.NormalTerms.{Atom, Monomial, Polynomial, ArrayTerm, Symbol, Read, Quotient, Remainder, One, Times, Zero}
-use Rattle.nf_terms.specs.NormalTerms.{Plus, Over, NoWrites, Write, polynomial_of_symbol}
+use Rattle.nf_terms.specs.NormalTerms.{Monomial, Polynomial, ArrayTerm, Zero, Plus, Over, NoWrites, Write, polynomial_of_symbol}
 use Rattle.nf_terms.specs.Forms.{same_form}
 use Rattle.nf_terms.specs.Symbols.{symbols_of}
 use Rattle.nf_terms.specs.Computed.{Computed, Done, after}
@@ -22,6 +21,7 @@ use Rattle.nf_terms.specs.declared.symbols.Sort.TheVariants as term
 use Rattle.nf_terms.specs.declared.form.Nf.{Nf}
 use Rattle.nf_terms.specs.declared.form.Nf.TheVariants.{Num, Arr, Seq}
 use Rattle.nf_sums.specs.Operations.{normal_sum, normal_difference}
+pub use Rattle.nf_substitution.specs.BareNumbers.{lone_atom, lone_symbol, bare_number}
 use Rattle.nf_substitution.specs.Vectors.{form_at, number_at, array_form, list_at, with_form}
 use Rattle.nf_substitution.specs.Substitution.{polynomial_substituted}
 use Rattle.nf_rel.specs.Literals.{NormalLiteral, True}
@@ -53,22 +53,6 @@ abbrev pub literal_held : List (Pos × Nf) → NormalLiteral → Bool
 literal_held ms l = literal_within (is_held ms) l
 
 -- ---- symbols alone
-abbrev pub lone_atom : Atom → Option Pos
-lone_atom (Symbol p) = Some p
-lone_atom (Read b i) = None
-lone_atom (Quotient p q) = None
-lone_atom (Remainder p q) = None
-
-abbrev pub lone_symbol : Monomial → Option Pos
-lone_symbol One = None
-lone_symbol (Times a One) = lone_atom a
-lone_symbol (Times a (Times b m)) = None
-
-abbrev pub bare_number : Polynomial → Option Pos
-bare_number Zero = None
-bare_number (Plus m c Zero) = cond (int_eq c (pos 1)) (lone_symbol m) None
-bare_number (Plus m c (Plus n d p)) = None
-
 abbrev pub bare_base : Base → Option Pos
 bare_base base.Zero = None
 bare_base (base.Sym p) = Some p

@@ -1,62 +1,16 @@
 //! Forms that are symbols alone.
 
-ghost use Rattle.std.specs.Prelude.{◌≡◌, [], ◌∷◌};
-ghost use Rattle.nf_terms.specs.View.{atom_in, monomial_in};
-ghost use Rattle.nf_terms.specs.NormalTerms.{polynomial_of};
-ghost use Rattle.propagate.specs.Rebases.{lone_atom, lone_symbol, bare_number, symbol_of_array, symbol_of_list, bare_symbol};
-ghost use Rattle.propagate.specs.Rebases.{value_at};
+ghost use Rattle.std.specs.Prelude.{◌≡◌};
+ghost use Rattle.propagate.specs.Rebases.{symbol_of_array, symbol_of_list, bare_symbol, value_at};
 
 use fs_model::parts::Sort;
+use nf_substitution::bare_numbers::bare_number;
 use nf_substitution::vector::Vector;
 use nf_terms::arr::Arr;
 use nf_terms::form::Nf;
-use nf_terms::poly::Poly;
 use nf_terms::seq::Seq;
 use nf_terms::symbols::Sort as TermSort;
-use nf_terms::tree::{Atom, Base, MonoTree, Pos, SeqBase};
-
-// The symbol that an atom is.
-fn lone_atom(atom: &Atom) -> Option<Pos>
-    ensures { result ≡ lone_atom (atom_in atom.now) }
-{
-    match atom {
-        Atom::Sym(p) => Some(*p),
-        Atom::Read(_, _) | Atom::Div(_, _) | Atom::Rem(_, _) => None,
-    }
-}
-
-/// The symbol that a monomial is.
-pub fn lone_symbol(mono: &MonoTree) -> Option<Pos>
-    ensures { result ≡ lone_symbol (monomial_in mono.now) }
-{
-    match mono.atoms.as_slice() {
-        [] => None,
-        [atom] => lone_atom(atom),
-        [_, _, ..] => None,
-    }
-}
-
-// The symbol that a monomial with its coefficient is.
-fn bare_term(mono: &MonoTree, coefficient: &i128) -> Option<Pos>
-    ensures { result ≡ bare_number (polynomial_of ((monomial_in mono.now, coefficient.now) ∷ [])) }
-{
-    if *coefficient == 1 {
-        lone_symbol(mono)
-    } else {
-        None
-    }
-}
-
-// The symbol that a number is.
-fn bare_number(number: &Poly) -> Option<Pos>
-    ensures { result ≡ bare_number number.now }
-{
-    match number.monos() {
-        [] => None,
-        [term] => bare_term(&term.0, &term.1),
-        [_, _, ..] => None,
-    }
-}
+use nf_terms::tree::{Base, Pos, SeqBase};
 
 // The symbol that an array is: it has no writes.
 fn bare_array(array: &Arr) -> Option<Pos>

@@ -10,6 +10,7 @@ use crate::held_symbols::{form_held, number_held};
 use crate::values::{difference_from, value_at};
 use fs_model::parts::Sort;
 use fs_pair::positions::Position;
+use nf_substitution::shared_form::SharedForm;
 use nf_substitution::subst::Subst;
 use nf_substitution::vector::Vector;
 use nf_sums::sums::add;
@@ -18,7 +19,7 @@ use nf_terms::poly::Poly;
 use nf_terms::stop::{NfStop, NoMemory};
 use nf_terms::tree::Pos;
 use std::alloc::Global;
-use sym_facts::entailment::substitute;
+use sym_facts::entailment::{leaves_form, substitute};
 use sym_facts::fact::own_symbol;
 
 // A number, tied to one number that is freed.
@@ -94,7 +95,7 @@ fn form_tied(
 {
     for q in freed {
         let value = value_at(alloc, v, q.sort, &q.pos)?;
-        if form.is_same(&value) {
+        if form.is_same(value.form()) {
             return Ok(Some(own_symbol(alloc, q.sort, q.pos)?));
         }
     }
@@ -122,7 +123,7 @@ fn tie_freed_form(
 }
 
 /// The equation of a position that has this form: the form over the new meanings, where all its symbols are held, else a tie to a
-/// position that is freed, where there is one.
+/// position that is freed, where there is one. A form that is left as it is is shared.
 ///
 /// `Wide` and `Large` come exactly at the first operation that is not narrow, or narrow and not small. `NoMemory`: out of memory.
 pub fn equation_found(
@@ -130,15 +131,22 @@ pub fn equation_found(
     s: &mut Subst<'_>,
     v: &Vector,
     meanings: &Vector,
-    form: &Nf,
+    form: &SharedForm,
     freed: &[Position],
-) -> Result<Option<Nf>, NfStop>
+) -> Result<Option<SharedForm>, NfStop>
     requires { s.old.vector ≡ meanings.now }
     ensures answers { Answers result (equation_found v.now meanings.now form.now freed.now) }
     ensures vector { s.new.vector ≡ s.old.vector }
 {
-    if form_held(alloc, meanings, form)? {
-        return Ok(Some(substitute(alloc, s, form)?));
+    if leaves_form(s, form.form()) {
+        return Ok(Some(form.try_clone()?));
     }
-    tie_freed_form(alloc, s, v, meanings, form, freed)
+    if form_held(alloc, meanings, form.form())? {
+        let value = substitute(alloc, s, form.form())?;
+        return Ok(Some(SharedForm::of(alloc, value)?));
+    }
+    match tie_freed_form(alloc, s, v, meanings, form.form(), freed)? {
+        Some(tie) => Ok(Some(SharedForm::of(alloc, tie)?)),
+        None => Ok(None),
+    }
 }

@@ -166,7 +166,7 @@ fn equation_given(
     let position = marked.position;
     let value = value_at(alloc, v, position.sort, &position.pos)?;
     if let Some(equation) = equation_found(alloc, s, v, meanings, &value, freed.as_slice())? {
-        return Ok(Some(SharedForm::of(alloc, equation)?));
+        return Ok(Some(equation));
     }
     freed.push(position)?;
     Ok(None)

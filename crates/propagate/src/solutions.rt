@@ -3,6 +3,7 @@
 ghost use Rattle.std.specs.Prelude.{Some, option_map};
 ghost use Rattle.nf_terms.specs.Computed.{Answers};
 ghost use Rattle.sym_paths.specs.View.{answer_in_data};
+ghost use Rattle.nf_substitution.specs.Vectors.{number_at};
 ghost use Rattle.propagate.specs.Rebases.{split_off_symbol, less_rest, solution, second_pass_solution};
 ghost use Rattle.propagate.specs.View.{split_in, solution_in};
 
@@ -12,8 +13,10 @@ use fs_model::parts::Sort;
 use nf_substitution::subst::subst_poly;
 use nf_substitution::vector::Vector;
 use nf_sums::sums::sub;
+use nf_terms::form::Nf;
 use nf_terms::poly::Poly;
 use nf_terms::stop::NfStop;
+use nf_terms::symbols::Sort as TermSort;
 use nf_terms::tree::Pos;
 use std::alloc::Global;
 
@@ -72,6 +75,25 @@ fn number_solved(
     }
 }
 
+// The same of the number that a vector has for a position: it is read where it stands.
+fn value_solved(
+    alloc: Global,
+    v: &Vector,
+    meanings: &Vector,
+    p: Pos,
+) -> Result<Option<Solution>, NfStop>
+    ensures { Answers (answer_in_data (option_map solution_in) result)
+        (solution meanings.now p (split_off_symbol meanings.now (number_at v.now p))) }
+{
+    match v.form(TermSort::Scalar, p) {
+        Some(Nf::Num(number)) => number_solved(alloc, meanings, p, number),
+        _ => {
+            let symbol = Poly::symbol(alloc, p)?;
+            number_solved(alloc, meanings, p, &symbol)
+        }
+    }
+}
+
 /// The symbol that a position can hold, with its new meaning, where the position is not free and is a number.
 ///
 /// `Wide` and `Large` come exactly at the first operation that is not narrow, or narrow and not small: the substitution in the
@@ -90,10 +112,7 @@ pub fn solve_position(
         return Ok(None);
     }
     match sort {
-        Sort::Scalar => {
-            let number = v.number(alloc, &p)?;
-            number_solved(alloc, meanings, p, &number)
-        }
+        Sort::Scalar => value_solved(alloc, v, meanings, p),
         Sort::Array | Sort::Port => Ok(None),
     }
 }

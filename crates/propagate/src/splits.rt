@@ -8,8 +8,8 @@ ghost use Rattle.propagate.specs.Rebases.{split_off_symbol};
 ghost use Rattle.propagate.specs.RebaseSteps.{signed_term};
 ghost use Rattle.propagate.specs.View.{split_in};
 
-use crate::bare_symbols::lone_symbol;
 use crate::held_symbols::is_held;
+use nf_substitution::bare_numbers::lone_symbol;
 use nf_substitution::vector::Vector;
 use nf_terms::copies::push_term_copy;
 use nf_terms::poly::Poly;

@@ -8,9 +8,9 @@ ghost use Rattle.sym_facts.specs.Facts.{sort_of_terms};
 ghost use Rattle.propagate.specs.Rebases.{value_at};
 
 use fs_model::parts::Sort;
+use nf_substitution::shared_form::SharedForm;
 use nf_substitution::vector::Vector;
 use nf_sums::sums::sub;
-use nf_terms::form::Nf;
 use nf_terms::poly::Poly;
 use nf_terms::stop::{NfStop, NoMemory};
 use nf_terms::symbols::Sort as TermSort;
@@ -28,14 +28,14 @@ pub fn sort_of_terms(sort: Sort) -> TermSort
     }
 }
 
-/// What a vector has at a position of a sort. The one refusal is out of memory.
-pub fn value_at(alloc: Global, v: &Vector, sort: Sort, p: &Pos) -> Result<Nf, NoMemory>
+/// What a vector has at a position of a sort, shared. The one refusal is out of memory.
+pub fn value_at(alloc: Global, v: &Vector, sort: Sort, p: &Pos) -> Result<SharedForm, NoMemory>
     ensures { IfOk result (λ f. f ≡ value_at v.now sort p.now) }
 {
     match sort {
-        Sort::Scalar => Ok(Nf::Num(v.number(alloc, p)?)),
-        Sort::Array => Ok(Nf::Arr(v.array(alloc, p)?)),
-        Sort::Port => Ok(Nf::Seq(v.list(alloc, p)?)),
+        Sort::Scalar => v.shared_number(alloc, p),
+        Sort::Array => v.shared_array(alloc, p),
+        Sort::Port => v.shared_list(alloc, p),
     }
 }
 

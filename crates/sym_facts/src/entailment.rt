@@ -1,7 +1,11 @@
 //! What of a fact a post entails.
 
-ghost use Rattle.std.specs.Prelude.{◌≡◌, ◌<◌, ◌^◌, map, length, IfOk, Some};
-ghost use Rattle.nf_terms.specs.Computed.{Answers};
+ghost use Rattle.std.specs.Prelude.{◌≡◌, ◌<◌, ◌^◌, true, map, length, IfOk, Some};
+ghost use Rattle.nf_terms.specs.Computed.{Answers, Done};
+ghost use Rattle.std.specs.List.{list_all};
+ghost use Rattle.nf_terms.specs.Symbols.{symbols_of_form};
+ghost use Rattle.nf_terms.specs.declared.form.Nf.TheVariants.{Num};
+ghost use Rattle.nf_substitution.specs.StayingTerms.{has_symbol};
 ghost use Rattle.nf_rel.specs.NormalLiterals.{IsNormalLiteral};
 ghost use Rattle.nf_rel.specs.View.{literal_in};
 ghost use Rattle.sym_paths.specs.Sequences.{each};
@@ -22,6 +26,7 @@ use nf_substitution::subst::Subst;
 use nf_substitution::vector::Vector;
 use nf_sums::sums::number;
 use nf_terms::form::Nf;
+use nf_terms::poly::Poly;
 use nf_terms::stop::{NfStop, NoMemory};
 use nf_terms::tree::Pos;
 use std::alloc::Global;
@@ -48,6 +53,17 @@ pub fn substitute(alloc: Global, s: &mut Subst, form: &Nf) -> Result<Nf, NfStop>
     }
 }
 
+/// Whether the vector is known to have the symbols of a form, and to leave it as it is. The look takes no memory.
+pub fn leaves_form(s: &Subst, form: &Nf) -> bool
+    ensures left { result ≡ true → form_substituted s.now.vector form.now ≡ Done form.now }
+    ensures there { result ≡ true → list_all (has_symbol s.now.vector) (symbols_of_form form.now) ≡ true }
+{
+    match form {
+        Nf::Num(p) => s.leaves(p),
+        Nf::Arr(_) | Nf::Seq(_) => false,
+    }
+}
+
 /// What a vector has at a position, of the sort of a form. The one refusal is out of memory.
 pub fn form_like(alloc: Global, v: &Vector, p: &Pos, form: &Nf) -> Result<Nf, NoMemory>
     ensures { IfOk result (λ f. f ≡ like v.now p.now form.now) }
@@ -57,6 +73,25 @@ pub fn form_like(alloc: Global, v: &Vector, p: &Pos, form: &Nf) -> Result<Nf, No
         Nf::Arr(_) => Ok(Nf::Arr(v.array(alloc, p)?)),
         Nf::Seq(_) => Ok(Nf::Seq(v.list(alloc, p)?)),
     }
+}
+
+// Whether the arriving number of a position is the one substituted. No term is copied where the vector leaves the number.
+fn number_met(
+    alloc: Global,
+    s: &mut Subst,
+    v: &Vector,
+    p: &Pos,
+    number: &Poly,
+) -> Result<bool, NfStop>
+    requires { s.old.vector ≡ v.now }
+    ensures answers { Answers result (equation_is_met v.now p.now (Some (Num number.now))) }
+    ensures vector { s.new.vector ≡ s.old.vector }
+{
+    if s.leaves(number) {
+        return Ok(v.has_number(alloc, p, number)?);
+    }
+    let value = s.poly(alloc, number)?;
+    Ok(v.has_number(alloc, p, &value)?)
 }
 
 // Whether the arriving form of a position is the one substituted.
@@ -72,10 +107,7 @@ fn form_met(
     ensures vector { s.new.vector ≡ s.old.vector }
 {
     match shared.form() {
-        Nf::Num(number) => {
-            let value = s.poly(alloc, number)?;
-            Ok(v.has_number(alloc, p, &value)?)
-        }
+        Nf::Num(number) => number_met(alloc, s, v, p, number),
         Nf::Arr(array) => {
             let value = s.arr(alloc, array)?;
             Ok(v.has_array(alloc, p, &value))
