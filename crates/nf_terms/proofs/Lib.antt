@@ -5,6 +5,7 @@ pub mod NormalParts
 pub mod Agreement
 pub mod Copying
 pub mod Degrees
+pub mod Gathered
 pub mod LastWrite
 pub mod Parts
 pub mod Simple

@@ -3,6 +3,8 @@
 ghost use Rattle.std.specs.Prelude.{◌≡◌, IfOk};
 ghost use Rattle.nf_terms.specs.View.{atom_in, monomial_in, polynomial_in, array_in};
 
+use crate::atoms::{make_quotient, make_read, make_remainder};
+use crate::copies::{push_atom, push_term, push_write};
 use crate::stop::NoMemory;
 use crate::tree::{ArrTree, Atom, MonoTree, PolyTree};
 use std::alloc::Global;
@@ -16,19 +18,13 @@ impl Atom {
         match self {
             Atom::Sym(p) => Ok(Atom::Sym(*p)),
             Atom::Read(array, index) => {
-                let array = Box::new(alloc, array.try_clone(alloc)?)?;
-                let index = Box::new(alloc, index.try_clone(alloc)?)?;
-                Ok(Atom::Read(array, index))
+                make_read(alloc, array.try_clone(alloc)?, index.try_clone(alloc)?)
             }
             Atom::Div(left, right) => {
-                let left = Box::new(alloc, left.try_clone(alloc)?)?;
-                let right = Box::new(alloc, right.try_clone(alloc)?)?;
-                Ok(Atom::Div(left, right))
+                make_quotient(alloc, left.try_clone(alloc)?, right.try_clone(alloc)?)
             }
             Atom::Rem(left, right) => {
-                let left = Box::new(alloc, left.try_clone(alloc)?)?;
-                let right = Box::new(alloc, right.try_clone(alloc)?)?;
-                Ok(Atom::Rem(left, right))
+                make_remainder(alloc, left.try_clone(alloc)?, right.try_clone(alloc)?)
             }
         }
     }
@@ -42,7 +38,7 @@ impl MonoTree {
     {
         let mut atoms = Vec::with_capacity(alloc, self.atoms.len())?;
         for atom in &self.atoms {
-            atoms.push(atom.try_clone(alloc)?)?;
+            push_atom(&mut atoms, atom.try_clone(alloc)?)?;
         }
         Ok(MonoTree { atoms })
     }
@@ -56,7 +52,7 @@ impl PolyTree {
     {
         let mut monos = Vec::with_capacity(alloc, self.monos.len())?;
         for (mono, coefficient) in &self.monos {
-            monos.push((mono.try_clone(alloc)?, *coefficient))?;
+            push_term(&mut monos, mono.try_clone(alloc)?, coefficient)?;
         }
         Ok(PolyTree { monos })
     }
@@ -70,7 +66,11 @@ impl ArrTree {
     {
         let mut writes = Vec::with_capacity(alloc, self.writes.len())?;
         for (index, value) in &self.writes {
-            writes.push((index.try_clone(alloc)?, value.try_clone(alloc)?))?;
+            push_write(
+                &mut writes,
+                index.try_clone(alloc)?,
+                value.try_clone(alloc)?,
+            )?;
         }
         Ok(ArrTree {
             base: self.base,

@@ -1,10 +1,10 @@
-//! Lists that grow by copies.
+//! Lists that grow.
 
 ghost use Rattle.std.specs.Prelude.{◌≡◌, ◌++◌, ◌∷◌, [], map, OnOk};
-ghost use Rattle.nf_terms.specs.View.{atom_in, monomial_in, term_in};
+ghost use Rattle.nf_terms.specs.View.{atom_in, monomial_in, polynomial_in, term_in, write_in};
 
 use crate::stop::NoMemory;
-use crate::tree::{Atom, MonoTree};
+use crate::tree::{Atom, MonoTree, PolyTree};
 use std::alloc::Global;
 
 /// Adds an atom. The one refusal is out of memory.
@@ -45,4 +45,17 @@ pub fn push_term_copy(
         (map term_in out.new.items ≡ map term_in out.old.items ++ (monomial_in mono.now, coefficient.now) ∷ []) }
 {
     push_term(out, mono.try_clone(alloc)?, coefficient)
+}
+
+/// Adds a write. The one refusal is out of memory.
+pub fn push_write(
+    out: &mut Vec<(PolyTree, PolyTree)>,
+    index: PolyTree,
+    value: PolyTree,
+) -> Result<(), NoMemory>
+    ensures { OnOk result
+        (map write_in out.new.items ≡ map write_in out.old.items ++ (polynomial_in index, polynomial_in value) ∷ []) }
+{
+    out.push((index, value))?;
+    Ok(())
 }

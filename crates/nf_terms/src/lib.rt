@@ -23,6 +23,7 @@
 #![tactic(auto)]
 
 pub mod arr;
+pub mod atoms;
 pub mod clones;
 pub mod coefficients;
 pub mod constants;

@@ -20,10 +20,7 @@ pub fn size_of_atom(atom: &Atom) -> u64
             let index = size_of_poly(index);
             size_of_arr(array).saturating_add(index).saturating_add(1)
         }
-        Atom::Div(left, right) => size_of_poly(left)
-            .saturating_add(size_of_poly(right))
-            .saturating_add(1),
-        Atom::Rem(left, right) => size_of_poly(left)
+        Atom::Div(left, right) | Atom::Rem(left, right) => size_of_poly(left)
             .saturating_add(size_of_poly(right))
             .saturating_add(1),
     }
@@ -76,10 +73,7 @@ pub fn depth_of_atom(atom: &Atom) -> u32
     match atom {
         Atom::Sym(_) => 0,
         Atom::Read(array, index) => depth_of_arr(array).max(depth_of_poly(index).saturating_add(1)),
-        Atom::Div(left, right) => depth_of_poly(left)
-            .max(depth_of_poly(right))
-            .saturating_add(1),
-        Atom::Rem(left, right) => depth_of_poly(left)
+        Atom::Div(left, right) | Atom::Rem(left, right) => depth_of_poly(left)
             .max(depth_of_poly(right))
             .saturating_add(1),
     }

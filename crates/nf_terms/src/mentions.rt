@@ -24,8 +24,9 @@ pub fn atom_mentions(atom: &Atom, p: &Pos) -> bool
     match atom {
         Atom::Sym(q) => p == q,
         Atom::Read(array, index) => arr_mentions(array, p) || poly_mentions(index, p),
-        Atom::Div(left, right) => poly_mentions(left, p) || poly_mentions(right, p),
-        Atom::Rem(left, right) => poly_mentions(left, p) || poly_mentions(right, p),
+        Atom::Div(left, right) | Atom::Rem(left, right) => {
+            poly_mentions(left, p) || poly_mentions(right, p)
+        }
     }
 }
 

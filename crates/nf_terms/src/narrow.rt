@@ -25,10 +25,7 @@ pub fn is_narrow_atom(atom: &Atom) -> bool
         Atom::Read(array, index) => {
             is_narrow_arr(array) && is_light(index) && is_narrow_inside(index)
         }
-        Atom::Div(left, right) => {
-            is_light(left) && is_narrow_inside(left) && is_light(right) && is_narrow_inside(right)
-        }
-        Atom::Rem(left, right) => {
+        Atom::Div(left, right) | Atom::Rem(left, right) => {
             is_light(left) && is_narrow_inside(left) && is_light(right) && is_narrow_inside(right)
         }
     }

@@ -1,10 +1,11 @@
 //! Whether a tree is in order: whether it is normal, but for its limits.
 
 ghost use Rattle.std.specs.Prelude.{◌≡◌, map};
-ghost use Rattle.nf_terms.specs.NormalTerms.{writes_of};
-ghost use Rattle.nf_terms.specs.View.{atom_in, monomial_in, polynomial_in, array_in, write_in};
+ghost use Rattle.nf_terms.specs.NormalTerms.{monomial_of, polynomial_of, writes_of};
+ghost use Rattle.nf_terms.specs.View.{atom_in, monomial_in, polynomial_in, array_in, term_in, write_in};
 ghost use Rattle.nf_terms.specs.Normal.{is_written as written, write_rises as rises, stays_read as stays, ordered_atom};
 ghost use Rattle.nf_terms.specs.Normal.{ordered_monomial, ordered, ordered_array};
+ghost use Rattle.nf_terms.specs.Normal.{atom_rises as rising_atom, monomial_rises as rising_monomial};
 
 use crate::constants::{constant_part, differs_by_constant, is_constant};
 use crate::order::{compare_atoms, compare_monos, compare_polys};
@@ -35,6 +36,26 @@ pub fn write_rises(index: &PolyTree, writes: &[(PolyTree, PolyTree)]) -> bool
     }
 }
 
+// Whether an atom does not stand after the next one.
+fn atom_rises(atom: &Atom, later: &[Atom]) -> bool
+    ensures { result ≡ rising_atom (atom_in atom.now) (monomial_of (map atom_in later.now)) }
+{
+    match later {
+        [] => true,
+        [next, ..] => compare_atoms(atom, next) != Ordering::Greater,
+    }
+}
+
+// Whether a monomial stands before the next one.
+fn monomial_rises(mono: &MonoTree, later: &[(MonoTree, i128)]) -> bool
+    ensures { result ≡ rising_monomial (monomial_in mono.now) (polynomial_of (map term_in later.now)) }
+{
+    match later {
+        [] => true,
+        [(next, _coefficient), ..] => compare_monos(mono, next) == Ordering::Less,
+    }
+}
+
 /// Whether a read of the array at the index stays an atom.
 #[tactic(auto, using(crate::proofs::LastWrite::last_write))]
 pub fn stays_read(array: &ArrTree, index: &PolyTree) -> bool
@@ -59,12 +80,7 @@ pub fn is_ordered_atom(atom: &Atom) -> bool
         Atom::Read(array, index) => {
             is_ordered_arr(array) && is_ordered_poly(index) && stays_read(array, index)
         }
-        Atom::Div(left, right) => {
-            is_ordered_poly(left)
-                && is_ordered_poly(right)
-                && !(is_constant(left) && is_constant(right))
-        }
-        Atom::Rem(left, right) => {
+        Atom::Div(left, right) | Atom::Rem(left, right) => {
             is_ordered_poly(left)
                 && is_ordered_poly(right)
                 && !(is_constant(left) && is_constant(right))
@@ -78,13 +94,8 @@ pub fn is_ordered_mono(mono: &MonoTree) -> bool
     ensures { result ≡ ordered_monomial (monomial_in mono.now) }
 {
     for (i, atom) in mono.atoms.iter().enumerate() {
-        if !is_ordered_atom(atom) {
+        if !is_ordered_atom(atom) || !atom_rises(atom, &mono.atoms[i + 1..]) {
             return false;
-        }
-        if let Some(next) = mono.atoms.get(i + 1) {
-            if compare_atoms(atom, next) == Ordering::Greater {
-                return false;
-            }
         }
     }
     true
@@ -99,10 +110,8 @@ pub fn is_ordered_poly(poly: &PolyTree) -> bool
         if *coefficient == 0 || !is_ordered_mono(mono) {
             return false;
         }
-        if let Some((next, _)) = poly.monos.get(i + 1) {
-            if compare_monos(mono, next) != Ordering::Less {
-                return false;
-            }
+        if !monomial_rises(mono, &poly.monos[i + 1..]) {
+            return false;
         }
     }
     true

@@ -1,20 +1,20 @@
-use Rattle.std.proofs.Common.{◌≡◌, ◌++◌, map, drop}
+use Rattle.std.proofs.Common.{◌≡◌, map, drop}
 use Rattle.nf_terms.specs.NormalTerms.{monomial_of, polynomial_of, writes_of}
 use Rattle.nf_terms.specs.View.{atom_in, term_in, write_in}
-use Rattle.nf_terms.specs.Symbols.{symbols_of_monomial, symbols_of, symbols_of_writes}
+use Rattle.nf_terms.specs.GatheredSymbols.{with_monomial, with_polynomial, with_writes}
 use Rattle.nf_terms.proofs.symbols.+symbols.Given as goal
 
-abbrev pub invariant-push_arr-loop-index : goal.invariant-push_arr-loop-index
-invariant-push_arr-loop-index l =
-    l.out.items ++ symbols_of_writes (writes_of (map write_in (drop l.index-index l.index-items))) ≡ l.initial.out.items
-    ++ symbols_of_writes (writes_of (map write_in l.index-items))
+abbrev pub invariant-add_arr-loop-index : goal.invariant-add_arr-loop-index
+invariant-add_arr-loop-index l =
+    with_writes l.out.items (writes_of (map write_in (drop l.index-index l.index-items))) ≡ with_writes l.initial.out.items
+    (writes_of (map write_in l.index-items))
 
-abbrev pub invariant-push_mono-loop-atom : goal.invariant-push_mono-loop-atom
-invariant-push_mono-loop-atom l =
-    l.out.items ++ symbols_of_monomial (monomial_of (map atom_in (drop l.atom-index l.atom-items))) ≡ l.initial.out.items
-    ++ symbols_of_monomial (monomial_of (map atom_in l.atom-items))
+abbrev pub invariant-add_mono-loop-atom : goal.invariant-add_mono-loop-atom
+invariant-add_mono-loop-atom l =
+    with_monomial l.out.items (monomial_of (map atom_in (drop l.atom-index l.atom-items))) ≡ with_monomial l.initial.out.items
+    (monomial_of (map atom_in l.atom-items))
 
-abbrev pub invariant-push_poly-loop-mono : goal.invariant-push_poly-loop-mono
-invariant-push_poly-loop-mono l =
-    l.out.items ++ symbols_of (polynomial_of (map term_in (drop l.mono-index l.mono-items))) ≡ l.initial.out.items
-    ++ symbols_of (polynomial_of (map term_in l.mono-items))
+abbrev pub invariant-add_poly-loop-mono : goal.invariant-add_poly-loop-mono
+invariant-add_poly-loop-mono l =
+    with_polynomial l.out.items (polynomial_of (map term_in (drop l.mono-index l.mono-items))) ≡ with_polynomial l.initial.out.items
+    (polynomial_of (map term_in l.mono-items))
