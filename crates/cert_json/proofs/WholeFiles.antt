@@ -1,18 +1,18 @@
 -- Of a file that has the form of a certificate and is within the limits nothing is left out.
-use Rattle.std.proofs.Common.{◌≡◌, ℕ, zero, suc, ◌+◌, ◌≤◌, List, [], ◌∷◌, length, Bool, true, false, ◌&&◌, ◌||◌, not, nat_lt, Option, Some, None, Ordering, Less}
+use Rattle.std.proofs.Common.{◌≡◌, ℕ, suc, List, [], ◌∷◌, length, Bool, true, false, ◌&&◌, ◌||◌, not, nat_lt, Option, Some, None, Ordering, Less}
 use Rattle.std.proofs.Common.{Equal, Greater, nat_cmp, refl, sym, ap, ap₂, ◌∙◌, subst, arith}
-use Rattle.std.specs.Prelude.{⊤, option_and_then, is_some, codes, if◌then◌else◌}
+use Rattle.std.specs.Prelude.{⊤, option_and_then, is_some, codes}
 use Rattle.std.specs.Cmp.Lexicographic.{slice_cmp}
 use Rattle.std.specs.Ordering.{match_ordering, is_eq}
 use Rattle.std.proofs.lemmas.Bool.{and_parts, eqb-true, ltb-false, false≢true}
 use Rattle.std.proofs.lemmas.Map.Lookups.{exact_bytes}
 use Rattle.serde_json.specs.Data.{Data, null, boolean, number, string, array, object, Items, no_items, item, Members, no_members, member}
 use Rattle.serde_json.specs.Events.{items_len, members_len}
-use Rattle.serde_json.specs.Find.{get, get_member, as_str, as_array, as_object}
-use Rattle.cert_json.specs.Shape.{member_count_of, are_texts, name_texts, is_text, is_list_of_texts, is_map_of_texts, is_mode, is_within, whole_number_in}
+use Rattle.serde_json.specs.Find.{get_member, as_array, as_object}
+use Rattle.cert_json.specs.Shape.{are_texts, name_texts, is_text, is_list_of_texts, is_map_of_texts, is_mode, is_within, whole_number_in}
 use Rattle.cert_json.specs.Shape.{is_node, are_nodes, is_list_of_nodes, is_format, is_file, has_more, has_many_conditions, some_has_many, some_of_file_has_many}
 use Rattle.cert_json.specs.Shape.{has_too_many}
-use Rattle.cert_json.specs.Trim.{first_items, short_items, short_list, trim, trim_items, trim_members}
+use Rattle.cert_json.specs.Trim.{short_list, trim, trim_items, trim_members}
 use Rattle.cert_json.proofs.TrimLaws.{first_all}
 use Rattle.cert_json.proofs.ListLaws.{none_are}
 

@@ -9,7 +9,7 @@ use Rattle.serde_json.specs.View.{view, number_view, members_view}
 use Rattle.serde_json.specs.declared.value.Value.{String, Number, Bool, Null, the_lemmas}
 use Rattle.serde_json.proofs.Views.{view-Object, members_view-insert_entry}
 use Rattle.serde_json.specs.Data.{no_members}
-use Rattle.cert_json.specs.Trim.{trim, trim_items, short_list}
+use Rattle.cert_json.specs.Trim.{trim_items, short_list}
 use Rattle.cert_json.specs.Lists.{join_items, add_item, IsShort}
 use Rattle.cert_json.proofs.Turns.{converted-array, converted-object, item_read, item_refused, items_over, member_read, member_refused, key_refused}
 use Rattle.cert_json.proofs.Turns.{members_over}
