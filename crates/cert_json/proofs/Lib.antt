@@ -2,4 +2,6 @@ mod Counts
 mod Turns
 mod TrimLaws
 mod ListLaws
+mod WholeFiles
 mod Files
+mod Digits

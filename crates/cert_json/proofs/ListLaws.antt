@@ -8,14 +8,14 @@ use Rattle.std.proofs.lemmas.Bool.{and_parts, ltb-true, ltb-false, lt-ltb, le-lt
 use Rattle.base_laws.proofs.Booleans.{and_true}
 use Rattle.json.specs.Token.{Token}
 use Rattle.json.specs.Json.{parse_map}
-use Rattle.serde_json.specs.Data.{Data, Items, no_items, item, Members, no_members, member, put}
+use Rattle.serde_json.specs.Data.{Data, null, Items, no_items, item, Members, no_members, member, put}
 use Rattle.serde_json.specs.Events.{items_len}
 use Rattle.serde_json.specs.Find.{as_str}
 use Rattle.serde_json.specs.View.{view, items_view}
 use Rattle.serde_json.specs.declared.value.Value.{Value}
 use Rattle.serde_json.proofs.Views.{items_len-items_view}
 use Rattle.cert_json.specs.Shape.{are_texts, is_node, are_nodes}
-use Rattle.cert_json.specs.Trim.{first_items, short_items, trim, trim_items, trim_members}
+use Rattle.cert_json.specs.Trim.{first_items, short_items, short_list, trim, trim_items, trim_members}
 use Rattle.cert_json.specs.Lists.{join_items, add_item, add_below, most_items}
 use Rattle.cert_json.proofs.TrimLaws.{node_no_text}
 
@@ -87,7 +87,7 @@ first-add_item zero ds d = refl
 first-add_item (suc n) no_items d = let some : nat_lt 0 (suc n) ≡ true = lt-ltb 0 (suc n) (omega arith) in rw some (ap (item d) (none_first n))
 first-add_item (suc n) (item e ds) d = ap (item e) (first-add_item n ds d) ∙ below_next n e (first_items n ds) d (nat_lt (items_len (first_items n ds)) n) refl
 
-none_are : (ds : Items) → are_texts ds ≡ true → are_nodes ds ≡ true → ds ≡ no_items
+pub none_are : (ds : Items) → are_texts ds ≡ true → are_nodes ds ≡ true → ds ≡ no_items
 none_are no_items e f = refl
 none_are (item d ds) e f =
     let text = and_parts (is_some (as_str d)) (are_texts ds) e in
@@ -135,3 +135,27 @@ more_below vs v most h = items_view-push vs v ∙ rw (lt-ltb (items_len (items_v
 
 pub none_below : (vs : List Value) (v : Value) (most : ℕ) → most ≤ length vs → items_view vs ≡ add_below most (items_view vs) (view v)
 none_below vs v most h = rw (le-ltb (items_len (items_view vs)) most (omega (arith, items_len-items_view vs, h)))
+
+-- ---- a list of which nothing is kept, and whatever follows
+
+pub trim-join_items : (ds rest : Items) → trim_items (join_items ds rest) ≡ join_items (trim_items ds) (trim_items rest)
+trim-join_items no_items rest = refl
+trim-join_items (item d ds) rest = ap (item (trim d)) (trim-join_items ds rest)
+
+still_false : (a b c : Bool) → (b ≡ false → c ≡ false) → (a && b) ≡ false → (a && c) ≡ false
+still_false true b c f e = f e
+still_false false b c f e = refl
+
+no_texts : (ds rest : Items) → are_texts ds ≡ false → are_texts (join_items ds rest) ≡ false
+no_texts no_items rest e = absurd (false≢true (sym e))
+no_texts (item d ds) rest e = still_false (is_some (as_str d)) (are_texts ds) (are_texts (join_items ds rest)) (no_texts ds rest) e
+
+no_nodes : (ds rest : Items) → are_nodes ds ≡ false → are_nodes (join_items ds rest) ≡ false
+no_nodes no_items rest e = absurd (false≢true (sym e))
+no_nodes (item d ds) rest e = still_false (is_node d) (are_nodes ds) (are_nodes (join_items ds rest)) (no_nodes ds rest) e
+
+pub null_joined : (ds rest : Items) (texts nodes : Bool) → texts ≡ are_texts ds → nodes ≡ are_nodes ds → (texts || nodes) ≡ false
+    → null ≡ short_list (join_items ds rest)
+null_joined ds rest true nodes e f none = absurd (cc none)
+null_joined ds rest false true e f none = absurd (cc none)
+null_joined ds rest false false e f none = rw (no_texts ds rest (sym e), no_nodes ds rest (sym f))

@@ -90,7 +90,7 @@ number_under (Some d) = trim-number d
 
 -- ---- first items
 
-first_all : (n : ℕ) (ds : Items) → items_len ds ≤ n → first_items n ds ≡ ds
+pub first_all : (n : ℕ) (ds : Items) → items_len ds ≤ n → first_items n ds ≡ ds
 first_all zero no_items le = refl
 first_all zero (item d ds) le = absurd (omega arith)
 first_all (suc n) no_items le = refl

@@ -13,5 +13,6 @@ mod numbers;
 pub mod reader;
 mod shape;
 mod short_list;
+mod skip;
 mod trim;
 pub mod written;

@@ -1,10 +1,11 @@
 //! The numbers of JSON.
 
-ghost use Rattle.std.specs.Prelude.{◌≡◌, ◌<◌, ◌==◌, true, false, length, IsTrue, option_map, slice_index};
+ghost use Rattle.std.specs.Prelude.{◌≡◌, ◌<◌, ◌≤◌, ◌==◌, ◌^◌, true, false, Some, length, IsTrue, IfSome, option_map, slice_index};
+ghost use Rattle.serde_json.specs.Data.{unsigned as unsigned_number};
 ghost use Rattle.serde_json.specs.Read.{number_of as number_in, number_from, float_of};
 ghost use Rattle.serde_json.specs.View.{number_view};
 
-use fast_float::Numeral;
+use fast_float::{Numeral, parse_u64};
 use serde_json::Number;
 
 fn nearest(is_negative: bool, numeral: &Numeral<'_>) -> Option<Number>
@@ -40,14 +41,48 @@ fn has_minus(bytes: &[u8]) -> bool
     !bytes.is_empty() && bytes[0] == b'-'
 }
 
-/// The number that a token of JSON writes, where it is in range.
-pub fn number_of(text: &str) -> Option<Number>
-    ensures { option_map number_view result ≡ number_in text.now }
+// The number that a text writes, whatever its parts.
+#[inline(never)]
+fn number_of_parts(bytes: &[u8]) -> Option<Number>
+    ensures { option_map number_view result ≡ number_in bytes.now }
 {
-    let bytes = text.as_bytes();
     if has_minus(bytes) {
         signed(&Numeral::scan(&bytes[1..]))
     } else {
         unsigned(&Numeral::scan(bytes))
+    }
+}
+
+#[inline(always)]
+fn may_be_digits(bytes: &[u8]) -> bool
+    ensures { IsTrue result → 48 ≤ slice_index bytes.now 0 }
+{
+    !bytes.is_empty() && bytes[0] >= b'0'
+}
+
+// The number that digits write which stand alone and fit 64 bits.
+#[inline(always)]
+fn number_of_digits(bytes: &[u8]) -> Option<u64>
+    ensures { IfSome result (λ n. (n < 2 ^ 64) × (number_in bytes.now ≡ Some (unsigned_number n))) }
+{
+    if may_be_digits(bytes) {
+        match parse_u64(bytes) {
+            Ok(n) => Some(n),
+            Err(_) => None,
+        }
+    } else {
+        None
+    }
+}
+
+/// The number that a token of JSON writes, where it is in range.
+#[inline(always)]
+pub fn number_of(text: &str) -> Option<Number>
+    ensures { option_map number_view result ≡ number_in text.now }
+{
+    let bytes = text.as_bytes();
+    match number_of_digits(bytes) {
+        Some(n) => Number::from_u128(n as u128),
+        None => number_of_parts(bytes),
     }
 }

@@ -7,28 +7,8 @@ ghost use Rattle.cert_json.specs.Refusals.{IsFileOf, IsRefusedAsShape};
 use crate::faults::FileError;
 use crate::shape::{has_too_many, is_file};
 use crate::trim::{Fault, read_trimmed};
-use base_json_files::{JsonError, read_json};
 use serde_json::Value;
 use std::alloc::Global;
-
-// The JSON value of a certificate's bytes, with all that stands in it.
-fn read_whole(alloc: Global, bytes: &[u8]) -> Result<Value, FileError>
-    ensures read { IfOk result (λ v. IsFileOf bytes.now (view v)) }
-    ensures refused { IfErr result (λ e. IsRefusedAsShape bytes.now e) }
-{
-    let value = match read_json(alloc, bytes) {
-        Ok(value) => value,
-        Err(JsonError::NotJson) => return Err(FileError::NotJson),
-        Err(JsonError::NoMemory) => return Err(FileError::NoMemory),
-    };
-    if !is_file(&value) {
-        return Err(FileError::Shape);
-    }
-    if has_too_many(&value) {
-        return Err(FileError::TooMany);
-    }
-    Ok(value)
-}
 
 /// The JSON value of a certificate's bytes, in time linear in them.
 ///
@@ -43,7 +23,7 @@ pub fn read_file(alloc: Global, bytes: &[u8]) -> Result<Value, FileError>
         Ok(text) => text,
         Err(_) => return Err(FileError::NotJson),
     };
-    let (value, is_whole) = match read_trimmed(alloc, text) {
+    let value = match read_trimmed(alloc, text) {
         Ok(found) => found,
         Err(Fault::NotJson) => return Err(FileError::NotJson),
         Err(Fault::NoMemory) => return Err(FileError::NoMemory),
@@ -54,9 +34,5 @@ pub fn read_file(alloc: Global, bytes: &[u8]) -> Result<Value, FileError>
     if has_too_many(&value) {
         return Err(FileError::TooMany);
     }
-    if is_whole {
-        return Ok(value);
-    }
-    drop(value);
-    read_whole(alloc, bytes)
+    Ok(value)
 }

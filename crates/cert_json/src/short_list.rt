@@ -1,7 +1,7 @@
 //! Lists of which is kept what a certificate may have.
 
-ghost use Rattle.std.specs.Prelude.{◌≡◌, ◌&&◌, ◌||◌, [], ◌∷◌, ◌++◌, true, is_some, OnOk};
-ghost use Rattle.serde_json.specs.Data.{Items, no_items, array};
+ghost use Rattle.std.specs.Prelude.{◌≡◌, ◌&&◌, ◌||◌, is_some, OnOk};
+ghost use Rattle.serde_json.specs.Data.{Items, no_items};
 ghost use Rattle.serde_json.specs.Find.{as_str};
 ghost use Rattle.serde_json.specs.View.{view, items_view};
 ghost use Rattle.cert_json.specs.Shape.{is_node as is_node_in};
@@ -25,8 +25,7 @@ pub struct ShortList {
 
 /// A list of no items.
 pub fn empty_list(alloc: Global) -> ShortList
-    ensures short { IsShort no_items result }
-    ensures items { result.items.items ≡ [] }
+    ensures { IsShort no_items result }
 {
     ShortList {
         items: Vec::new(alloc),
@@ -45,8 +44,8 @@ fn note_item(list: &mut ShortList, value: &Value)
     list.all_nodes = list.all_nodes && is_node(value);
 }
 
-// Whether anything is kept of a list.
-fn is_kept(list: &ShortList) -> bool
+/// Whether anything is kept of a list.
+pub fn is_kept(list: &ShortList) -> bool
     ensures { result ≡ (list.now.all_texts || list.now.all_nodes) }
 {
     list.all_texts || list.all_nodes
@@ -60,52 +59,34 @@ fn most_kept(all_texts: bool) -> usize
 }
 
 // Adds an item to fewer than so many.
-fn push_below(
-    items: &mut Vec<Value>,
-    value: Value,
-    most: usize,
-    is_whole: &mut bool,
-) -> Result<(), AllocError>
-    ensures short { OnOk result (items_view items.new.items ≡ add_below most (items_view items.old.items) (view value)) }
-    ensures whole { OnOk result
-        (is_whole.new ≡ true → (is_whole.old ≡ true) × (items.new.items ≡ items.old.items ++ value ∷ [])) }
+fn push_below(items: &mut Vec<Value>, value: Value, most: usize) -> Result<(), AllocError>
+    ensures { OnOk result (items_view items.new.items ≡ add_below most (items_view items.old.items) (view value)) }
 {
     if items.len() < most {
         items.push(value)?;
-    } else {
-        *is_whole = false;
     }
     Ok(())
 }
 
-/// Adds an item. `is_whole` becomes false where the item, or one before it, is not kept. The one refusal is out of memory.
-pub fn add_to_list(
-    list: &mut ShortList,
-    value: Value,
-    is_whole: &mut bool,
-) -> Result<(), AllocError>
-    ensures short { OnOk result ((ds : Items) → IsShort ds list.old → IsShort (add_item ds (view value)) list.new) }
-    ensures whole { OnOk result
-        (is_whole.new ≡ true → (is_whole.old ≡ true) × (list.new.items.items ≡ list.old.items.items ++ value ∷ [])) }
+/// Adds an item. The one refusal is out of memory.
+pub fn add_to_list(list: &mut ShortList, value: Value) -> Result<(), AllocError>
+    ensures { OnOk result ((ds : Items) → IsShort ds list.old → IsShort (add_item ds (view value)) list.new) }
 {
     note_item(list, &value);
     if !is_kept(list) {
         list.items.clear();
-        *is_whole = false;
         return Ok(());
     }
-    push_below(&mut list.items, value, most_kept(list.all_texts), is_whole)
+    push_below(&mut list.items, value, most_kept(list.all_texts))
 }
 
 /// The list of what was kept, or null where it is neither one of texts nor one of nodes.
-pub fn value_of_list(list: ShortList, is_whole: &mut bool) -> Value
-    ensures short { (ds : Items) → IsShort ds list → view result ≡ short_list ds }
-    ensures whole { is_whole.new ≡ true → (is_whole.old ≡ true) × (view result ≡ array (items_view list.items.items)) }
+pub fn value_of_list(list: ShortList) -> Value
+    ensures { (ds : Items) → IsShort ds list → view result ≡ short_list ds }
 {
     if list.all_texts || list.all_nodes {
         Value::Array(list.items)
     } else {
-        *is_whole = false;
         Value::Null
     }
 }

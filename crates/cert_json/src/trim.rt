@@ -1,14 +1,15 @@
 //! Reading JSON without what no certificate has in a list.
 
-ghost use Rattle.std.specs.Prelude.{◌≡◌, ◌<◌, length, true, Some, None, Err, IfOk, OnOk};
+ghost use Rattle.std.specs.Prelude.{◌≡◌, ◌<◌, length, Some, None, Err, IfOk, OnOk};
 ghost use Rattle.json.specs.Json.{value, items, members};
-ghost use Rattle.serde_json.specs.Data.{Data, Items, Members, no_members, array};
+ghost use Rattle.serde_json.specs.Data.{Data, Items, Members, no_members};
 ghost use Rattle.serde_json.specs.Read.{of_json, of_items, of_members, converted, read as read_text};
 ghost use Rattle.serde_json.specs.View.{view, members_view};
 ghost use Rattle.cert_json.specs.Trim.{trim, trim_items, trim_members, short_list};
 
 use crate::numbers::number_of;
-use crate::short_list::{add_to_list, empty_list, value_of_list};
+use crate::short_list::{add_to_list, empty_list, is_kept, value_of_list};
+use crate::skip::skip_items;
 use json::{Invalid, Reader, Scratch, Token};
 use serde_json::{Map, Value};
 use std::alloc::{AllocError, AllocFailed, Global};
@@ -57,15 +58,9 @@ impl<T: Drop> From<AllocFailed<T>> for Fault {
 
 #[cycle(read)]
 #[inline(always)]
-fn read(
-    alloc: Global,
-    reader: &mut Reader<'_>,
-    depth: usize,
-    is_whole: &mut bool,
-) -> Result<Value, Fault>
+fn read(alloc: Global, reader: &mut Reader<'_>, depth: usize) -> Result<Value, Fault>
     ensures ok { IfOk result
-        (λ v. (d : Data) × (converted of_json (value depth reader.old) ≡ Some (d, reader.new)) × (view v ≡ trim d)
-        × (is_whole.new ≡ true → (is_whole.old ≡ true) × (view v ≡ d))) }
+        (λ v. (d : Data) × (converted of_json (value depth reader.old) ≡ Some (d, reader.new)) × (view v ≡ trim d)) }
     ensures shorter { OnOk result (length reader.new < length reader.old) }
     ensures err { result ≡ Err Fault.NotJson → converted of_json (value depth reader.old) ≡ None }
 {
@@ -83,37 +78,36 @@ fn read(
             if depth == 0 {
                 return Err(Fault::NotJson);
             }
-            Ok(read_items(alloc, reader, depth - 1, is_whole)?)
+            Ok(read_items(alloc, reader, depth - 1)?)
         }
         Token::BeginObject => {
             if depth == 0 {
                 return Err(Fault::NotJson);
             }
-            Ok(Value::Object(read_members(alloc, reader, depth - 1, is_whole)?))
+            Ok(Value::Object(read_members(alloc, reader, depth - 1)?))
         }
     }
 }
 
 #[cycle(read)]
 #[inline(never)]
-fn read_items(
-    alloc: Global,
-    reader: &mut Reader<'_>,
-    depth: usize,
-    is_whole: &mut bool,
-) -> Result<Value, Fault>
+fn read_items(alloc: Global, reader: &mut Reader<'_>, depth: usize) -> Result<Value, Fault>
     ensures ok { IfOk result
         (λ v. (ds : Items) × (converted of_items (items (value depth) (length reader.old) reader.old) ≡ Some (ds, reader.new))
-        × (view v ≡ short_list (trim_items ds)) × (is_whole.new ≡ true → (is_whole.old ≡ true) × (view v ≡ array ds))) }
+        × (view v ≡ short_list (trim_items ds))) }
     ensures shorter { OnOk result (length reader.new < length reader.old) }
     ensures err { result ≡ Err Fault.NotJson → converted of_items (items (value depth) (length reader.old) reader.old) ≡ None }
 {
     let mut found = empty_list(alloc);
     'items: while !reader.take_end_array() {
-        let item = read(alloc, reader, depth, is_whole)?;
-        add_to_list(&mut found, item, is_whole)?;
+        let item = read(alloc, reader, depth)?;
+        add_to_list(&mut found, item)?;
+        if !is_kept(&found) {
+            skip_items(reader, depth)?;
+            return Ok(Value::Null);
+        }
     }
-    Ok(value_of_list(found, is_whole))
+    Ok(value_of_list(found))
 }
 
 #[cycle(read)]
@@ -122,13 +116,11 @@ fn read_members(
     alloc: Global,
     reader: &mut Reader<'_>,
     depth: usize,
-    is_whole: &mut bool,
 ) -> Result<Map<String, Value>, Fault>
     ensures ok { IfOk result
         (λ m. (ms : Members)
         × (converted (λ es. of_members es no_members) (members (value depth) (length reader.old) reader.old)
-        ≡ Some (ms, reader.new)) × (members_view m.entries ≡ trim_members ms)
-        × (is_whole.new ≡ true → (is_whole.old ≡ true) × (members_view m.entries ≡ ms))) }
+        ≡ Some (ms, reader.new)) × (members_view m.entries ≡ trim_members ms)) }
     ensures shorter { OnOk result (length reader.new < length reader.old) }
     ensures err { result ≡ Err Fault.NotJson
         → converted (λ es. of_members es no_members) (members (value depth) (length reader.old) reader.old) ≡ None }
@@ -136,26 +128,24 @@ fn read_members(
     let mut found = Map::new(alloc);
     'members: while let Some(name) = reader.next_key()? {
         let key = String::from_str(alloc, name)?;
-        let member = read(alloc, reader, depth, is_whole)?;
+        let member = read(alloc, reader, depth)?;
         drop(found.insert(key, member)?);
     }
     Ok(found)
 }
 
-/// The value of a text without what no certificate has in a list, and whether nothing is left out.
+/// The value of a text without what no certificate has in a list.
 ///
 /// `NotJson` comes only where the text is not JSON, and `NoMemory` may come at any time.
-pub fn read_trimmed(alloc: Global, text: &str) -> Result<(Value, bool), Fault>
-    ensures ok { IfOk result
-        (λ r. (d : Data) × (read_text text.now ≡ Some d) × (view r.0 ≡ trim d) × (r.1 ≡ true → view r.0 ≡ d)) }
+pub fn read_trimmed(alloc: Global, text: &str) -> Result<Value, Fault>
+    ensures ok { IfOk result (λ v. (d : Data) × (read_text text.now ≡ Some d) × (view v ≡ trim d)) }
     ensures err { result ≡ Err Fault.NotJson → read_text text.now ≡ None }
 {
     let mut scratch = Scratch::new(alloc);
     let mut reader = Reader::new(text, &mut scratch)?;
-    let mut is_whole = true;
-    let value = read(alloc, &mut reader, 127, &mut is_whole)?;
+    let value = read(alloc, &mut reader, 127)?;
     if reader.next().is_some() {
         return Err(Fault::NotJson);
     }
-    Ok((value, is_whole))
+    Ok(value)
 }

@@ -1,19 +1,19 @@
-use Rattle.std.proofs.Common.{◌≡◌, ◌-◌, ◌<◌, [], subst, refl, ◌∷◌, length, Some, None, string_bytes, sym, ap, ap₂, ◌∙◌, arith, rules}
+use Rattle.std.proofs.Common.{◌≡◌, ◌-◌, ◌<◌, ◌≤◌, [], subst, refl, ◌∷◌, length, Some, None, string_bytes, sym, ap, ap₂, ◌∙◌, arith, rules}
 use Rattle.json.specs.Token.{Token}
 use Rattle.json.specs.Json.{parse_map, after_end_array, read_key, items, members, value}
 use Rattle.json.specs.Reads.{token_of}
 use Rattle.json.proofs.Grammar.{value_is, value-begin_array, value-begin_object, read_key-shorter}
-use Rattle.serde_json.specs.Data.{null, boolean, number, string, array, object, no_items, put}
+use Rattle.serde_json.specs.Data.{null, boolean, number, string, array, object, no_items, item, put}
 use Rattle.serde_json.specs.Read.{of_json, of_items, converted}
-use Rattle.serde_json.specs.View.{view, number_view, items_view, members_view}
+use Rattle.serde_json.specs.View.{view, number_view, members_view}
 use Rattle.serde_json.specs.declared.value.Value.{String, Number, Bool, Null, the_lemmas}
 use Rattle.serde_json.proofs.Views.{view-Object, members_view-insert_entry}
 use Rattle.serde_json.specs.Data.{no_members}
-use Rattle.cert_json.specs.Trim.{trim, trim_items}
+use Rattle.cert_json.specs.Trim.{trim_items, short_list}
 use Rattle.cert_json.specs.Lists.{join_items, add_item, IsShort}
 use Rattle.cert_json.proofs.Turns.{converted-array, converted-object, item_read, item_refused, items_over, member_read, member_refused, key_refused}
 use Rattle.cert_json.proofs.Turns.{members_over}
-use Rattle.cert_json.proofs.ListLaws.{join-no_items, none_before, one_more_item, items_view-push, trim-add_item, trim-put}
+use Rattle.cert_json.proofs.ListLaws.{join-no_items, none_before, one_more_item, trim-add_item, trim-put, trim-join_items, null_joined}
 use Rattle.cert_json.proofs.trim.+read.Goals as goal
 
 pub read-returns-in_err-token-clause-err : goal.read-returns-in_err-token-clause-err
@@ -57,21 +57,21 @@ read-returns-in_ok-from_str-in-String-clause-ok t c =
     let first : c.args.reader.now ≡ token_of c.in_ok-token.token ∷ c.next.new.self = grind arith in
     let is : c.args.reader.now ≡ Token.string c.in-String.text.now ∷ c.next.new.self = grind (arith, first) in
     let seen : view (String c.in_ok-from_str-in-String.field-0) ≡ string c.in-String.text.now = search (rules, the_lemmas) in
-    (string c.in-String.text.now, ap (converted of_json) (ap (value c.args.depth) is ∙ value_is c.args.depth _), seen, λ w. (w, seen))
+    (string c.in-String.text.now, ap (converted of_json) (ap (value c.args.depth) is ∙ value_is c.args.depth _), seen)
 
 pub read-returns-in-Bool-clause-ok : goal.read-returns-in-Bool-clause-ok
 read-returns-in-Bool-clause-ok t c =
     let first : c.args.reader.now ≡ token_of c.in_ok-token.token ∷ c.next.new.self = grind arith in
     let is : c.args.reader.now ≡ Token.boolean c.in-Bool.b ∷ c.next.new.self = grind (arith, first) in
     let seen : view (Bool c.in-Bool.b) ≡ boolean c.in-Bool.b = search (rules, the_lemmas) in
-    (boolean c.in-Bool.b, ap (converted of_json) (ap (value c.args.depth) is ∙ value_is c.args.depth _), seen, λ w. (w, seen))
+    (boolean c.in-Bool.b, ap (converted of_json) (ap (value c.args.depth) is ∙ value_is c.args.depth _), seen)
 
 pub read-returns-in-Null-clause-ok : goal.read-returns-in-Null-clause-ok
 read-returns-in-Null-clause-ok t c =
     let first : c.args.reader.now ≡ token_of c.in_ok-token.token ∷ c.next.new.self = grind arith in
     let is : c.args.reader.now ≡ Token.null ∷ c.next.new.self = grind (arith, first) in
     let seen : view (Null) ≡ null = search (rules, the_lemmas) in
-    (null, ap (converted of_json) (ap (value c.args.depth) is ∙ value_is c.args.depth _), seen, λ w. (w, seen))
+    (null, ap (converted of_json) (ap (value c.args.depth) is ∙ value_is c.args.depth _), seen)
 
 pub read-returns-in-Some-clause-ok : goal.read-returns-in-Some-clause-ok
 read-returns-in-Some-clause-ok t c =
@@ -81,7 +81,6 @@ read-returns-in-Some-clause-ok t c =
       number (number_view c.in-Some.number),
       ap (converted of_json) (ap (value c.args.depth) is ∙ value_is c.args.depth _) ∙ rw (← c.in-Some.ensures),
       seen,
-      λ w. (w, seen),
     )
 
 pub read-returns-in-None-clause-err : goal.read-returns-in-None-clause-err
@@ -103,7 +102,7 @@ read-returns-in_ok-read_items-in-BeginArray-clause-ok t c =
     (ap (value c.args.depth) (first ∙ ap (λ k. token_of k ∷ c.next.new.self) c.in-BeginArray.is) ∙ value-begin_array c.args.depth c.next.new.self (omega arith))
     ∙ converted-array (items (value (c.args.depth - 1)) (length c.next.new.self) c.next.new.self) in
     let found = c.in_ok-read_items-in-BeginArray.ensures.ok in
-    (array found.0, opened ∙ ap (parse_map array) found.1, found.2, found.3)
+    (array found.0, opened ∙ ap (parse_map array) found.1, found.2)
 
 pub read-returns-in_ok-read_members-in-BeginObject-clause-ok : goal.read-returns-in_ok-read_members-in-BeginObject-clause-ok
 read-returns-in_ok-read_members-in-BeginObject-clause-ok t c =
@@ -114,7 +113,7 @@ read-returns-in_ok-read_members-in-BeginObject-clause-ok t c =
     ∙ converted-object (members (value (c.args.depth - 1)) (length c.next.new.self) c.next.new.self) in
     let m = c.in_ok-read_members-in-BeginObject.field-0 in
     let found = c.in_ok-read_members-in-BeginObject.ensures.ok in
-    (object found.0, opened ∙ ap (parse_map object) found.1, view-Object m ∙ ap object found.2, λ w. let e = found.3 w in (e.0, view-Object m ∙ ap object e.1))
+    (object found.0, opened ∙ ap (parse_map object) found.1, view-Object m ∙ ap object found.2)
 
 pub read_items-items-init : goal.read_items-items-init
 read_items-items-init t c =
@@ -123,8 +122,7 @@ read_items-items-init t c =
       omega arith,
       no_items,
       none_before all,
-      c.empty_list-found.ensures.short,
-      λ w. (w, ap items_view c.empty_list-found.ensures.items),
+      c.empty_list-found.ensures,
       omega arith,
     )
 
@@ -154,13 +152,48 @@ read_items-items-preserved t c =
       omega (arith, l.invariant.1),
       add_item ds d,
       l.invariant.3 ∙ ap (parse_map (join_items ds)) turn ∙ one_more_item ds d (converted of_items (items p (n - 1) r)),
-      subst (λ es. IsShort es c.add_to_list.new.list) same (c.in_ok-add_to_list.ensures.short (trim_items ds) l.invariant.4),
-      (λ w.
-          let a = c.in_ok-add_to_list.ensures.whole w in
-          let b = done.ok.3 a.0 in
-          let e = l.invariant.5 b.0 in
-          (e.0, ap items_view a.1 ∙ items_view-push l.found.items.items v ∙ ap₂ add_item e.1 b.1)),
-      omega (arith, l.invariant.6),
+      subst (λ es. IsShort es c.add_to_list.new.list) same (c.in_ok-add_to_list.ensures (trim_items ds) l.invariant.4),
+      omega (arith, l.invariant.5),
+    )
+
+pub read_items-returns-in_err-skip_items-clause-err : goal.read_items-returns-in_err-skip_items-clause-err
+read_items-returns-in_err-skip_items-clause-err t c refused =
+    let p = value c.args.depth in
+    let l = c.items in
+    let n = l.invariant.0 in
+    let ds = l.invariant.2 in
+    let going : (after_end_array l.reader ≡ None) × (c.take_end_array.new.self ≡ l.reader) = grind arith in
+    let done = c.in_ok-item.ensures in
+    let r = c.read.new.reader in
+    let d = done.ok.0 in
+    let less : length r < length l.reader = rw (← going.1) done.shorter in
+    let turn = item_read p n l.reader r d (omega (arith, l.invariant.1)) going.0 (rw (← going.1) done.ok.1) in
+    let enough : length r ≤ n - 1 = omega (arith, l.invariant.1) in
+    l.invariant.3 ∙ ap (parse_map (join_items ds)) (turn ∙ ap (parse_map (item d)) (c.skip_items.ensures.err (grind arith) (n - 1) enough))
+
+pub read_items-returns-then-not-is_kept-clause-ok : goal.read_items-returns-then-not-is_kept-clause-ok
+read_items-returns-then-not-is_kept-clause-ok t c =
+    let p = value c.args.depth in
+    let l = c.items in
+    let n = l.invariant.0 in
+    let ds = l.invariant.2 in
+    let going : (after_end_array l.reader ≡ None) × (c.take_end_array.new.self ≡ l.reader) = grind arith in
+    let done = c.in_ok-item.ensures in
+    let r = c.read.new.reader in
+    let d = done.ok.0 in
+    let more = add_item ds d in
+    let less : length r < length l.reader = rw (← going.1) done.shorter in
+    let turn = item_read p n l.reader r d (omega (arith, l.invariant.1)) going.0 (rw (← going.1) done.ok.1) in
+    let enough : length r ≤ n - 1 = omega (arith, l.invariant.1) in
+    let same : add_item (trim_items ds) (view c.in_ok-item.item) ≡ trim_items more = ap (add_item (trim_items ds)) done.ok.2 ∙ sym (trim-add_item ds d) in
+    let short = subst (λ es. IsShort es c.add_to_list.new.list) same (c.in_ok-add_to_list.ensures (trim_items ds) l.invariant.4) in
+    let left = c.in_ok-skip_items.ensures.ok in
+    let seen : view (Null) ≡ null = search (rules, the_lemmas) in (
+      join_items more left.0,
+      l.invariant.3 ∙ ap (parse_map (join_items ds)) turn ∙ one_more_item ds d (converted of_items (items p (n - 1) r))
+          ∙ ap (parse_map (join_items more)) (left.1 (n - 1) enough),
+      seen ∙ null_joined (trim_items more) (trim_items left.0) _ _ short.texts short.nodes (sym c.if-not-is_kept.ensures)
+          ∙ ap short_list (sym (trim-join_items more left.0)),
     )
 
 pub read_items-returns-clause-ok : goal.read_items-returns-clause-ok
@@ -172,14 +205,13 @@ read_items-returns-clause-ok t c =
     let r = c.take_end_array.new.self in (
       ds,
       l.invariant.3 ∙ ap (parse_map (join_items ds)) (items_over p n l.reader r l.invariant.1 (grind arith)) ∙ ap (λ es. Some (es, r)) (join-no_items ds),
-      c.value_of_list.ensures.short (trim_items ds) l.invariant.4,
-      (λ w. let a = c.value_of_list.ensures.whole w in let e = l.invariant.5 a.0 in (e.0, a.1 ∙ ap array e.1)),
+      c.value_of_list.ensures (trim_items ds) l.invariant.4,
     )
 
 pub read_members-members-init : goal.read_members-members-init
 read_members-members-init t c =
     let none = ap members_view c.new-found.ensures.empty in
-    (length c.args.reader.now, omega arith, no_members, refl, none, λ w. (w, none), omega arith)
+    (length c.args.reader.now, omega arith, no_members, refl, none, omega arith)
 
 pub read_members-returns-in_err-name-clause-err : goal.read_members-returns-in_err-name-clause-err
 read_members-returns-in_err-name-clause-err t c refused =
@@ -224,8 +256,7 @@ read_members-members-preserved t c =
       put k d old,
       l.invariant.3 ∙ member_read p old n k l.reader s r d (omega (arith, l.invariant.1)) named done.ok.1,
       inserted ∙ ap₂ (λ x ms. put k x ms) done.ok.2 l.invariant.4 ∙ sym (trim-put k d old),
-      (λ w. let b = done.ok.3 w in let e = l.invariant.5 b.0 in (e.0, inserted ∙ ap₂ (λ x ms. put k x ms) b.1 e.1)),
-      omega (arith, l.invariant.6),
+      omega (arith, l.invariant.5),
     )
 
 pub read_members-returns-clause-ok : goal.read_members-returns-clause-ok
@@ -234,4 +265,4 @@ read_members-returns-clause-ok t c =
     let l = c.members in
     let n = l.invariant.0 in
     let old = l.invariant.2 in
-    (old, l.invariant.3 ∙ members_over p old n l.reader c.next_key.new.self l.invariant.1 (grind arith), l.invariant.4, l.invariant.5)
+    (old, l.invariant.3 ∙ members_over p old n l.reader c.next_key.new.self l.invariant.1 (grind arith), l.invariant.4)

@@ -1,8 +1,8 @@
-use Rattle.std.proofs.Common.{◌≡◌, ℕ, ◌+◌, ◌*◌, ◌≤◌, true, length}
+use Rattle.std.proofs.Common.{◌≡◌, ℕ, ◌+◌, ◌*◌, ◌≤◌, length}
 use Rattle.json.specs.Json.{items, members, value, parse_map}
 use Rattle.serde_json.specs.Data.{Items, Members, no_members}
 use Rattle.serde_json.specs.Read.{of_items, of_members, converted}
-use Rattle.serde_json.specs.View.{items_view, members_view}
+use Rattle.serde_json.specs.View.{members_view}
 use Rattle.cert_json.specs.Trim.{trim_items, trim_members}
 use Rattle.cert_json.specs.Lists.{join_items, IsShort}
 use Rattle.cert_json.proofs.trim.+read.Given as goal
@@ -22,7 +22,6 @@ invariant-read_items-items l =
     × (converted of_items (items (value l.depth) (length l.initial.reader) l.initial.reader)
     ≡ parse_map (join_items ds) (converted of_items (items (value l.depth) n l.reader)))
     × IsShort (trim_items ds) l.found
-    × (l.is_whole ≡ true → (l.initial.is_whole ≡ true) × (items_view l.found.items.items ≡ ds))
     × (length l.reader ≤ length l.initial.reader)
 
 abbrev pub decreases-read_items-items : goal.decreases-read_items-items
@@ -34,7 +33,6 @@ invariant-read_members-members l =
     × (converted (λ es. of_members es no_members) (members (value l.depth) (length l.initial.reader) l.initial.reader)
     ≡ converted (λ es. of_members es ms) (members (value l.depth) n l.reader))
     × (members_view l.found.entries ≡ trim_members ms)
-    × (l.is_whole ≡ true → (l.initial.is_whole ≡ true) × (members_view l.found.entries ≡ ms))
     × (length l.reader ≤ length l.initial.reader)
 
 abbrev pub decreases-read_members-members : goal.decreases-read_members-members
