@@ -13,7 +13,7 @@ use nf_terms::tree::{ArrTree, Atom, MonoTree, PolyTree};
 use std::alloc::{AllocFailed, Global};
 
 /// Why a term is not given by numbers.
-#[derive(Debug, Drop)]
+#[derive(Clone, Copy)]
 pub(crate) enum Missing {
     /// An atom is not there.
     Absent,

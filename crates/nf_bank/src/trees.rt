@@ -7,6 +7,8 @@ ghost use Rattle.nf_bank.specs.AtomNumbers.{monomial_over, sum_over, array_over}
 
 use crate::bank::Bank;
 use crate::node::{Array, AtomId, Node, Term};
+use nf_terms::atoms::{make_quotient, make_read, make_remainder};
+use nf_terms::copies::{push_atom, push_term, push_write};
 use nf_terms::stop::NoMemory;
 use nf_terms::tree::{ArrTree, Atom, MonoTree, PolyTree};
 use std::alloc::Global;
@@ -20,19 +22,16 @@ pub(crate) fn atom_tree(alloc: Global, bank: &Bank, id: AtomId) -> Result<Atom, 
     match bank.node(id) {
         Node::Sym(p) => Ok(Atom::Sym(*p)),
         Node::Read(array, index) => {
-            let array = Box::new(alloc, array_tree(alloc, bank, array)?)?;
-            let index = Box::new(alloc, sum_tree(alloc, bank, index.as_slice())?)?;
-            Ok(Atom::Read(array, index))
+            let array = array_tree(alloc, bank, array)?;
+            make_read(alloc, array, sum_tree(alloc, bank, index.as_slice())?)
         }
         Node::Div(left, right) => {
-            let left = Box::new(alloc, sum_tree(alloc, bank, left.as_slice())?)?;
-            let right = Box::new(alloc, sum_tree(alloc, bank, right.as_slice())?)?;
-            Ok(Atom::Div(left, right))
+            let left = sum_tree(alloc, bank, left.as_slice())?;
+            make_quotient(alloc, left, sum_tree(alloc, bank, right.as_slice())?)
         }
         Node::Rem(left, right) => {
-            let left = Box::new(alloc, sum_tree(alloc, bank, left.as_slice())?)?;
-            let right = Box::new(alloc, sum_tree(alloc, bank, right.as_slice())?)?;
-            Ok(Atom::Rem(left, right))
+            let left = sum_tree(alloc, bank, left.as_slice())?;
+            make_remainder(alloc, left, sum_tree(alloc, bank, right.as_slice())?)
         }
     }
 }
@@ -46,7 +45,7 @@ fn mono_tree(alloc: Global, bank: &Bank, ids: &[AtomId]) -> Result<MonoTree, NoM
 {
     let mut atoms = Vec::new(alloc);
     for id in ids {
-        atoms.push(atom_tree(alloc, bank, *id)?)?;
+        push_atom(&mut atoms, atom_tree(alloc, bank, *id)?)?;
     }
     Ok(MonoTree { atoms })
 }
@@ -61,7 +60,7 @@ fn sum_tree(alloc: Global, bank: &Bank, terms: &[Term]) -> Result<PolyTree, NoMe
     let mut monos = Vec::new(alloc);
     for term in terms {
         let mono = mono_tree(alloc, bank, term.atoms.as_slice())?;
-        monos.push((mono, term.coefficient))?;
+        push_term(&mut monos, mono, &term.coefficient)?;
     }
     Ok(PolyTree { monos })
 }
@@ -77,7 +76,7 @@ fn array_tree(alloc: Global, bank: &Bank, array: &Array) -> Result<ArrTree, NoMe
     for write in array.writes.as_slice() {
         let index = sum_tree(alloc, bank, write.index.as_slice())?;
         let value = sum_tree(alloc, bank, write.value.as_slice())?;
-        writes.push((index, value))?;
+        push_write(&mut writes, index, value)?;
     }
     Ok(ArrTree {
         base: array.base,
