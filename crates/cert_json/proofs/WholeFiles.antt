@@ -68,7 +68,8 @@ module _ (k : List ℕ) (d : Data) (same : trim d ≡ d) where
 
 -- a member of another name stays
 module _ (k j : List ℕ) (apart : is_eq (slice_cmp nat_cmp j k) ≡ false) where
-  other_name : (l : List ℕ) (e : Data) (a : Option Data) (o : Ordering) → slice_cmp nat_cmp j l ≡ o → slice_cmp nat_cmp k l ≡ Equal → a ≡ match_ordering o a (Some e) a
+  other_name : (l : List ℕ) (e : Data) (a : Option Data) (o : Ordering) → slice_cmp nat_cmp j l ≡ o → slice_cmp nat_cmp k l ≡ Equal
+      → a ≡ match_ordering o a (Some e) a
   other_name l e a Less is same = refl
   other_name l e a Greater is same = refl
   other_name l e a Equal is same =
