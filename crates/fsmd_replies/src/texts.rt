@@ -10,7 +10,7 @@ ghost use Rattle.fsmd_replies.specs.ObstacleTexts.{last_move_text, node_points_t
 
 use fs_ast::machine::Machine;
 use fs_cut::cover::{Path, Point};
-use fs_cut::make_cover::cover;
+use fs_cut::make_cover::point_paths;
 use fs_path_text::paths::{point_text, write_named_path};
 use nf_terms::stop::NoMemory;
 use search_tables::moves::Move;
@@ -41,8 +41,8 @@ fn branch_text(
 ) -> Result<Vec<u8>, NoMemory>
     ensures { IfOk result (λ text. text.items ≡ branch_text machine.now (point_of from) branch) }
 {
-    match cover(alloc, machine) {
-        Ok(cover) => path_text(alloc, machine, cover.from(from), branch),
+    match point_paths(alloc, machine, from) {
+        Ok(paths) => path_text(alloc, machine, &paths, branch),
         Err(_) => Err(NoMemory),
     }
 }

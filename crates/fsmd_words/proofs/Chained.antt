@@ -16,7 +16,7 @@ use Rattle.clap.specs.Faults.{turn_fault, walk_fault}
 use Rattle.clap.specs.Words.{Row}
 use Rattle.clap.specs.declared.error.kind.ErrorKind.TheVariants as kinds
 use Rattle.fsmd_words.proofs.Named.{first_none, second_none}
-use Rattle.fsmd_words.specs.CommandLine.{chain_command, program_alone}
+use Rattle.fsmd_command_line.specs.CommandLine.{chain_command, program_alone}
 use Rattle.fsmd_words.specs.AskedWords.{words_of}
 
 -- the command of a chain as it is built, its arguments, and its flag for help

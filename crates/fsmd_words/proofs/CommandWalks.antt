@@ -9,7 +9,7 @@ use Rattle.clap.specs.Words.{fault_of}
 use Rattle.clap.specs.declared.error.kind.ErrorKind.{ErrorKind}
 use Rattle.clap.proofs.WalkLemmas.{walk_stopped}
 use Rattle.fsmd_words.proofs.Plain.{no_hyphens, no_long, no_short}
-use Rattle.fsmd_words.specs.CommandLine.{command_line}
+use Rattle.fsmd_command_line.specs.CommandLine.{command_line}
 use Rattle.fsmd_words.specs.Examples.{IsPlainWord}
 
 -- ---- the name of a command

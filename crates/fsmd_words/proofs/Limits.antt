@@ -14,7 +14,7 @@ use Rattle.clap.specs.Faults.{entered_fault, level_fault}
 use Rattle.clap.proofs.WalkLemmas.{both}
 use Rattle.fsmd_words.proofs.Chained.{HasFewFiles, chain_built, has_few_files}
 use Rattle.fsmd_words.proofs.Named.{Each, first_none, found_has, is_taken, second_none, taken_asks}
-use Rattle.fsmd_words.specs.CommandLine.{command_line}
+use Rattle.fsmd_command_line.specs.CommandLine.{command_line}
 use Rattle.fsmd_words.specs.AskedWords.{AreParsed, Asked, Chain, IsByTurns, IsWithinLimits, asked_by, asked_in, asked_of, matched_of, number_option}
 
 -- a number in a range lies in it, where the other one does

@@ -12,9 +12,10 @@ use Rattle.clap.specs.Faults.{check_fault, entered_fault}
 use Rattle.clap.specs.declared.parser.matches.ArgMatches.{ArgMatches}
 use Rattle.clap.specs.declared.parser.matches.ArgMatches.TheViews.{out-ArgMatches, out-SubCommand}
 use Rattle.clap.specs.declared.parser.matches.SubCommand.{SubCommand}
-use Rattle.fsmd_words.specs.CommandLine.{command_line}
+use Rattle.fsmd_command_line.specs.CommandLine.{command_line}
 use Rattle.fsmd_words.specs.AskedWords.{AreParsed, AreTaken, Asked, IsByTurns, asked_by, asked_in, asked_of, is_by_turns, matched_of, where_by_turns}
 use Rattle.fsmd_words.specs.AskedWords.{where_parsed}
+use Rattle.fsmd_words.specs.Examples.{Asks}
 
 -- what each shape in a list has, the one that is found has
 abbrev pub Each : (Shape → Type 0) → List Shape → Type 0
@@ -142,6 +143,12 @@ is_asked words taken = ap is_some (taken_asks words taken) ∙ is_matched words 
 -- words that clap takes, whose matches ask this by turns, are taken
 pub are_taken : (words : List Text) (what : Asked) → AreParsed words → matched_of words ≡ Some what → IsByTurns what → AreTaken words
 are_taken words what parsed e by_turns = (parsed, subst (λ (o : Option Asked). IfSome o IsByTurns) (sym e) by_turns)
+
+-- words that clap takes ask what their matches ask, by turns
+pub parsed_asks : (words : List Text) (what : Asked) → AreParsed words → matched_of words ≡ Some what → IsByTurns what → Asks words what
+parsed_asks words what parsed e by_turns =
+    let taken = are_taken words what parsed e by_turns in
+    (taken, taken_asks words taken ∙ e)
 
 -- words that are not taken ask nothing
 pub refused_asks : (words : List Text) → (AreTaken words → ⊥) → asked_of words ≡ None

@@ -16,7 +16,7 @@ use Rattle.clap.proofs.OnLiterals.{clap_on_literals}
 use Rattle.clap.proofs.WalkLemmas.{both}
 use Rattle.fsmd_words.proofs.CommandWalks.{Passes, idle_at, level_fails, level_fails_at, line_fails, option_at, passes_none, passes_one, plain_step, plain_turn}
 use Rattle.fsmd_words.proofs.CommandWalks.{plain_value_step, plain_value_turn}
-use Rattle.fsmd_words.specs.CommandLine.{check_command, program_alone, replay_command, run_command, shrink_command}
+use Rattle.fsmd_command_line.specs.CommandLine.{check_command, program_alone, replay_command, run_command, shrink_command}
 use Rattle.fsmd_words.specs.Examples.{FailBy, IsPlainWord, SpellsNoSteps}
 
 -- ---- which words

@@ -10,7 +10,7 @@ use Rattle.clap.specs.Faults.{check_fault, defaults_fault, level_fault, settle_f
 use Rattle.clap.specs.declared.builder.value_parser.ValueParser.TheVariants as parsers
 use Rattle.fsmd_words.proofs.Chained.{between, chain_built, chain_rules, held_files, one_more}
 use Rattle.fsmd_words.proofs.CommandWalks.{NamesCommand, line, line_fault, line_walk, line_walk_fault}
-use Rattle.fsmd_words.proofs.Named.{are_taken, taken_asks}
+use Rattle.fsmd_words.proofs.Named.{parsed_asks}
 use Rattle.fsmd_words.proofs.Plain.{no_hyphens, no_long, no_short}
 use Rattle.fsmd_words.specs.Examples.{Asks, IsPlainWord}
 use Rattle.fsmd_words.specs.AskedWords.{AreParsed, Chain, IsChainLength, asked_in, chain_of_rows, matched_of}
@@ -100,7 +100,5 @@ is_matched files p low =
 
 pub plain_chain : (files : List Text) → All IsPlainWord files → IsChainLength files → Asks (codes "chain" ∷ files) (Chain files)
 plain_chain files p count =
-    let words = codes "chain" ∷ files in
-    let matches = is_matched files p count.0 in
-    let taken = are_taken words (Chain files) (is_parsed files p count.0 count.1) matches (eq-eqb (length files % 2) 1 count.2) in
-    (taken, taken_asks words taken ∙ matches)
+    parsed_asks (codes "chain" ∷ files) (Chain files) (is_parsed files p count.0 count.1) (is_matched files p count.0)
+    (eq-eqb (length files % 2) 1 count.2)

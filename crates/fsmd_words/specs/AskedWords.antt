@@ -6,7 +6,7 @@ use Rattle.std.specs.Str.{bytes_eq}
 use Rattle.std.specs.Str.Parse.{digits_value, without_leading_plus}
 use Rattle.clap.specs.Words.{Kinds, Row, Text, all_of, first_of, one_of, subcommand_of, fault_of}
 use Rattle.clap.specs.ValueTests.{is_unsigned_in}
-use Rattle.fsmd_words.specs.CommandLine.{command_line}
+use Rattle.fsmd_command_line.specs.CommandLine.{command_line}
 use Rattle.fsmd_words.specs.declared.asking.Ask.{Ask}
 use Rattle.fsmd_words.specs.declared.asking.Ask.TheVariants as asks
 
@@ -111,21 +111,32 @@ shrink_of rows = Shrink (match_word (codes "left") rows) (match_word (codes "rig
 abbrev pub chain_of_rows : List Row → Asked
 chain_of_rows rows = Chain (words_of (codes "files") rows)
 
+-- the last commands
+abbrev pub last_by : Text → List Row → Option Asked
+last_by name rows =
+    if bytes_eq name (codes "schedule") then Some (schedule_of_rows rows)
+    else (if bytes_eq name (codes "bind") then Some (bind_of rows)
+    else (if bytes_eq name (codes "shrink") then Some (shrink_of rows)
+    else (if bytes_eq name (codes "chain") then Some (chain_of_rows rows)
+    else None)))
+
+-- the commands that take one word, and the last
+abbrev pub one_word_by : Text → List Row → Option Asked
+one_word_by name rows =
+    if bytes_eq name (codes "fmt") then Some (fmt_of rows)
+    else (if bytes_eq name (codes "cuts") then Some (cuts_of rows)
+    else (if bytes_eq name (codes "generate") then Some (generate_of rows)
+    else (if bytes_eq name (codes "compile") then Some (compile_of rows)
+    else last_by name rows)))
+
+-- all commands
 abbrev pub asked_by : Text → List Row → Option Asked
 asked_by name rows =
     if bytes_eq name (codes "check") then Some (check_of rows)
     else (if bytes_eq name (codes "verify") then Some (verify_of rows)
     else (if bytes_eq name (codes "run") then Some (run_of rows)
     else (if bytes_eq name (codes "replay") then Some (replay_of rows)
-    else (if bytes_eq name (codes "fmt") then Some (fmt_of rows)
-    else (if bytes_eq name (codes "cuts") then Some (cuts_of rows)
-    else (if bytes_eq name (codes "generate") then Some (generate_of rows)
-    else (if bytes_eq name (codes "compile") then Some (compile_of rows)
-    else (if bytes_eq name (codes "schedule") then Some (schedule_of_rows rows)
-    else (if bytes_eq name (codes "bind") then Some (bind_of rows)
-    else (if bytes_eq name (codes "shrink") then Some (shrink_of rows)
-    else (if bytes_eq name (codes "chain") then Some (chain_of_rows rows)
-    else None)))))))))))
+    else one_word_by name rows)))
 
 -- what a command and its matches ask
 abbrev pub asked_in : Option (Text × List Row) → Option Asked

@@ -6,7 +6,7 @@ use Rattle.clap.specs.ValueTests.{is_unsigned_in}
 use Rattle.clap.specs.Words.{Text, fault_of}
 use Rattle.clap.specs.declared.error.kind.ErrorKind.{ErrorKind}
 use Rattle.clap.specs.declared.error.kind.ErrorKind.TheVariants as kinds
-use Rattle.fsmd_words.specs.CommandLine.{command_line}
+use Rattle.fsmd_command_line.specs.CommandLine.{command_line}
 use Rattle.fsmd_words.specs.AskedWords.{AreTaken, AreParsed, IsChainLength, Asked, asked_of}
 use Rattle.fsmd_words.specs.AskedWords.{Check, Verify, Run, Replay, Fmt, Cuts, Generate, Compile, Schedule, Bind, Shrink, Chain}
 

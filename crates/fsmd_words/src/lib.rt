@@ -3,17 +3,14 @@
 //! Promises: what words ask, exactly by `clap`'s definition of the command line; usage only for words that are not
 //! taken.
 //!
-//! Rules: `specs/CommandLine`, `specs/AskedWords`, `src/laws`.
+//! Rules: `specs/AskedWords`, `src/laws`.
 //!
 //! Words:
 //! - asked: what taken words of the command line ask
 //! - word (of a call): a text of the command line
 #![tactic(auto)]
 
-mod arguments;
 pub mod asking;
-mod command_line;
-mod commands;
 pub mod laws;
 mod matched;
 mod reading;

@@ -3,8 +3,8 @@
 ghost use Rattle.std.specs.Prelude.{◌≡◌, IfOk, IfErr, IfSome, Option, Some, None, false};
 ghost use Rattle.clap.specs.Words.{found_of, rows_of};
 ghost use Rattle.fsmd_words.specs.AskedWords.{Asked, IsByTurns, asked_of_ask, asked_by, bind_of, chain_of_rows, check_of};
-ghost use Rattle.fsmd_words.specs.AskedWords.{compile_of, cuts_of, fmt_of, is_by_turns, replay_of, run_of, schedule_of_rows};
-ghost use Rattle.fsmd_words.specs.AskedWords.{shrink_of, verify_of};
+ghost use Rattle.fsmd_words.specs.AskedWords.{compile_of, cuts_of, fmt_of, is_by_turns, last_by, one_word_by, replay_of, run_of};
+ghost use Rattle.fsmd_words.specs.AskedWords.{schedule_of_rows, shrink_of, verify_of};
 ghost use Rattle.fsmd_words.specs.declared.asking.AskError.TheVariants.{Usage};
 
 use crate::asking::{Ask, AskError};
@@ -123,6 +123,34 @@ fn ask_or_refusal(ask: Result<Ask, AllocError>) -> Result<Ask, AskError>
     Ok(ask?)
 }
 
+// What the last commands ask.
+fn last_command(alloc: Global, name: &str, found: &ArgMatches) -> Result<Ask, AskError>
+    ensures ok { IfOk result (λ ask. last_by name.now (rows_of (found_of found.now)) ≡ Some (asked_of_ask ask)) }
+    ensures usage { IfErr result (λ error. error ≡ Usage → last_by name.now (rows_of (found_of found.now)) ≡ None) }
+{
+    match name {
+        "schedule" => ask_or_refusal(schedule(alloc, found)),
+        "bind" => ask_or_refusal(bind(alloc, found)),
+        "shrink" => ask_or_refusal(shrink(alloc, found)),
+        "chain" => ask_or_refusal(chain(alloc, found)),
+        _ => Err(AskError::Usage),
+    }
+}
+
+// What the commands that take one word ask, and the last.
+fn one_word_command(alloc: Global, name: &str, found: &ArgMatches) -> Result<Ask, AskError>
+    ensures ok { IfOk result (λ ask. one_word_by name.now (rows_of (found_of found.now)) ≡ Some (asked_of_ask ask)) }
+    ensures usage { IfErr result (λ error. error ≡ Usage → one_word_by name.now (rows_of (found_of found.now)) ≡ None) }
+{
+    match name {
+        "fmt" => ask_or_refusal(fmt(alloc, found)),
+        "cuts" => ask_or_refusal(cuts(alloc, found)),
+        "generate" => Ok(Ask::Generate { n: loops(found) }),
+        "compile" => ask_or_refusal(compile(alloc, found)),
+        _ => last_command(alloc, name, found),
+    }
+}
+
 // What the command of this name asks, by its matches. `Usage` comes only for a name that is no command's.
 fn matched(alloc: Global, name: &str, found: &ArgMatches) -> Result<Ask, AskError>
     ensures ok { IfOk result (λ ask. asked_by name.now (rows_of (found_of found.now)) ≡ Some (asked_of_ask ask)) }
@@ -133,15 +161,7 @@ fn matched(alloc: Global, name: &str, found: &ArgMatches) -> Result<Ask, AskErro
         "verify" => ask_or_refusal(verify(alloc, found)),
         "run" => ask_or_refusal(run(alloc, found)),
         "replay" => ask_or_refusal(replay(alloc, found)),
-        "fmt" => ask_or_refusal(fmt(alloc, found)),
-        "cuts" => ask_or_refusal(cuts(alloc, found)),
-        "generate" => Ok(Ask::Generate { n: loops(found) }),
-        "compile" => ask_or_refusal(compile(alloc, found)),
-        "schedule" => ask_or_refusal(schedule(alloc, found)),
-        "bind" => ask_or_refusal(bind(alloc, found)),
-        "shrink" => ask_or_refusal(shrink(alloc, found)),
-        "chain" => ask_or_refusal(chain(alloc, found)),
-        _ => Err(AskError::Usage),
+        _ => one_word_command(alloc, name, found),
     }
 }
 

@@ -5,9 +5,9 @@ ghost use Rattle.fsmd_words.specs.AskedWords.{AreTaken, IsWithinLimits, asked_of
 ghost use Rattle.fsmd_words.specs.declared.asking.AskError.TheVariants as errors;
 
 use crate::asking::{Ask, AskError};
-use crate::command_line::command_line;
 use crate::reading::read;
 use clap::error::ErrorKind;
+use fsmd_command_line::command_line::command_line;
 use std::alloc::Global;
 
 /// What the words after the program's name ask.
