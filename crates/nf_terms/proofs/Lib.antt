@@ -6,6 +6,7 @@ pub mod Agreement
 pub mod Copying
 pub mod Degrees
 pub mod Gathered
+pub mod Identities
 pub mod LastWrite
 pub mod Parts
 pub mod Simple
