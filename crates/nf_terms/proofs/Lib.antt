@@ -8,6 +8,7 @@ pub mod Degrees
 pub mod Gathered
 pub mod Identities
 pub mod LastWrite
+pub mod Loops
 pub mod Parts
 pub mod Simple
 pub mod Items
