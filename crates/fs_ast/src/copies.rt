@@ -38,21 +38,41 @@ fn copy_condition(
     }
 }
 
+// A copy of a transition, which shares the assignments.
+fn copy_line(alloc: Global, line: &Transition) -> Result<Transition, NoMemory>
+    ensures { IfOk result (λ copy. resolved_transition copy ≡ resolved_transition line.now) }
+{
+    let guard = copy_condition(alloc, &line.guard)?;
+    let assigns = line.assigns.clone()?;
+    Ok(Transition {
+        guard,
+        target: line.target,
+        assigns,
+    })
+}
+
 // Copies of transitions, which share the assignments.
 fn copy_lines(alloc: Global, lines: &[Transition]) -> Result<Vec<Transition>, NoMemory>
     ensures { IfOk result (λ out. map resolved_transition out.items ≡ map resolved_transition lines.now) }
 {
     let mut out = Vec::new(alloc);
     for line in lines {
-        let guard = copy_condition(alloc, &line.guard)?;
-        let assigns = line.assigns.clone()?;
-        out.push(Transition {
-            guard,
-            target: line.target,
-            assigns,
-        })?;
+        out.push(copy_line(alloc, line)?)?;
     }
     Ok(out)
+}
+
+// A copy of a state.
+fn copy_state(alloc: Global, state: &State) -> Result<State, NoMemory>
+    ensures { IfOk result (λ copy. resolved_state copy ≡ resolved_state state.now) }
+{
+    let name = state.name.try_clone(alloc)?;
+    let lines = copy_lines(alloc, &state.lines)?;
+    Ok(State {
+        line: state.line,
+        name,
+        lines,
+    })
 }
 
 /// Copies of states.
@@ -61,13 +81,7 @@ pub fn copy_states(alloc: Global, states: &[State]) -> Result<Vec<State>, NoMemo
 {
     let mut out = Vec::new(alloc);
     for state in states {
-        let name = state.name.try_clone(alloc)?;
-        let lines = copy_lines(alloc, &state.lines)?;
-        out.push(State {
-            line: state.line,
-            name,
-            lines,
-        })?;
+        out.push(copy_state(alloc, state)?)?;
     }
     Ok(out)
 }

@@ -65,6 +65,20 @@ fn assignments(
     Ok(renamed_assignments(alloc, assigns, scope)?)
 }
 
+// Assignments over the numbers of variables, with one owner.
+fn shared_assignments(
+    alloc: Global,
+    scope: &Scope,
+    assigns: &[Assign<Name>],
+) -> Result<Rc<Vec<Assign<VarId>>>, NoMemory>
+    requires { length scope.now.vars.items ≤ most_variables }
+    ensures { IfOk result
+        (λ out. map assignment_of out.value.items ≡ map (assignment_over (place_or_end (names_of scope.now.vars.items)))
+        (map named_assignment assigns.now)) }
+{
+    share(alloc, assignments(alloc, scope, assigns)?)
+}
+
 // A transition over numbers.
 fn numbered_line(alloc: Global, scope: &Scope, line: &RawLine) -> Result<Transition, NoMemory>
     requires variables { length scope.now.vars.items ≤ most_variables }
@@ -74,7 +88,7 @@ fn numbered_line(alloc: Global, scope: &Scope, line: &RawLine) -> Result<Transit
         (source_transition_of line.now)) }
 {
     let guard = condition(alloc, scope, &line.guard)?;
-    let assigns = share(alloc, assignments(alloc, scope, &line.assigns)?)?;
+    let assigns = shared_assignments(alloc, scope, &line.assigns)?;
     Ok(Transition {
         guard,
         target: scope.state_id(&line.target),

@@ -34,13 +34,20 @@ impl Model for SharedLiteral {
     ghost invariant = { λ s. shared_literal_of s.negation ≡ negated_literal (shared_literal_of s.literal) };
 }
 
+// A copy of a literal, with one owner.
+fn share_copy(alloc: Global, lit: &Lit<VarId>) -> Result<Rc<Lit<VarId>>, NoMemory>
+    ensures { IfOk result (λ l. shared_literal_of l ≡ literal_of lit.now) }
+{
+    share(alloc, lit.try_clone(alloc)?)
+}
+
 impl SharedLiteral {
     /// Copies of a literal and of its negation, with one owner. The one refusal is out of memory.
     pub fn of(alloc: Global, lit: &Lit<VarId>) -> Result<SharedLiteral, NoMemory>
         ensures { IfOk result (λ s. s ≡ literal_of lit.now) }
     {
         let negation = share(alloc, lit.negation(alloc)?)?;
-        let literal = share(alloc, lit.try_clone(alloc)?)?;
+        let literal = share_copy(alloc, lit)?;
         Ok(SharedLiteral { literal, negation })
     }
 

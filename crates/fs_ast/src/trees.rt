@@ -1,9 +1,9 @@
 //! Decision trees of transitions, and their branches.
 
-ghost use Rattle.std.specs.Prelude.{◌≡◌, ◌++◌, map, IfOk};
+ghost use Rattle.std.specs.Prelude.{◌≡◌, ◌++◌, ◌∷◌, [], map, IfOk};
 ghost use Rattle.std.specs.Result.{OnOk};
 ghost use Rattle.fs_model.specs.View.{shared_literal_of, guard_of, branch_of};
-ghost use Rattle.fs_model.specs.Trees.{Leaf, tree_of_guard, tree_of_transitions, leaves, branches_of};
+ghost use Rattle.fs_model.specs.Trees.{Leaf, Node, tree_of_guard, tree_of_transitions, leaves, branches_of};
 ghost use Rattle.fs_model.specs.Trees.{count_leaves};
 ghost use Rattle.fs_ast.specs.NumberedParts.{resolved_transition};
 ghost use Rattle.fs_ast.specs.Forks.{tree_of, leaves_by, leaves_by_condition, capped_leaves};
@@ -86,6 +86,31 @@ fn tree_of_lines<'a>(alloc: Global, lines: &'a [Transition]) -> Result<DecisionT
     }
 }
 
+// The tree of a test over two subtrees.
+fn make_test<'a>(
+    alloc: Global,
+    literal: SharedLiteral,
+    on_yes: DecisionTree<'a>,
+    on_no: DecisionTree<'a>,
+) -> Result<DecisionTree<'a>, NoMemory>
+    ensures { IfOk result (λ tree. tree_of tree ≡ Node literal (tree_of on_yes.entry) (tree_of on_no.entry)) }
+{
+    let (on_yes, on_no) = both_boxed(alloc, on_yes, on_no)?;
+    Ok(DecisionTree::Test(literal, on_yes, on_no))
+}
+
+// The tree of a test that has one owner more, over two subtrees.
+fn copy_test<'a>(
+    alloc: Global,
+    literal: &SharedLiteral,
+    on_yes: DecisionTree<'a>,
+    on_no: DecisionTree<'a>,
+) -> Result<DecisionTree<'a>, NoMemory>
+    ensures { IfOk result (λ tree. tree_of tree ≡ Node literal.now (tree_of on_yes.entry) (tree_of on_no.entry)) }
+{
+    make_test(alloc, literal.try_clone()?, on_yes, on_no)
+}
+
 // The tree of a guard over two subtrees. It takes them, and copies only what then stands in it twice: so its work is no more
 // than its size.
 fn tree_of_guard<'a>(
@@ -98,11 +123,7 @@ fn tree_of_guard<'a>(
         (λ tree. tree_of tree ≡ tree_of_guard (guard_of guard.now) (tree_of on_yes.entry) (tree_of on_no.entry)) }
 {
     match guard {
-        Guard::Lit(lit) => {
-            let literal = SharedLiteral::of(alloc, lit)?;
-            let (on_yes, on_no) = both_boxed(alloc, on_yes, on_no)?;
-            Ok(DecisionTree::Test(literal, on_yes, on_no))
-        }
+        Guard::Lit(lit) => make_test(alloc, SharedLiteral::of(alloc, lit)?, on_yes, on_no),
         Guard::Not(a) => tree_of_guard(alloc, a, on_no, on_yes),
         Guard::And(a, b) => {
             let again = copy_tree(alloc, &on_no)?;
@@ -124,12 +145,18 @@ fn copy_tree<'a>(alloc: Global, tree: &DecisionTree<'a>) -> Result<DecisionTree<
         DecisionTree::Fail => Ok(DecisionTree::Fail),
         DecisionTree::Leaf(line) => Ok(DecisionTree::Leaf(*line)),
         DecisionTree::Test(literal, on_yes, on_no) => {
-            let literal = literal.try_clone()?;
             let on_yes = copy_tree(alloc, on_yes)?;
-            let (on_yes, on_no) = both_boxed(alloc, on_yes, copy_tree(alloc, on_no)?)?;
-            Ok(DecisionTree::Test(literal, on_yes, on_no))
+            copy_test(alloc, literal, on_yes, copy_tree(alloc, on_no)?)
         }
     }
+}
+
+// Puts a literal behind a way.
+fn push_literal(way: &mut Vec<Rc<Lit<VarId>>>, literal: Rc<Lit<VarId>>) -> Result<(), NoMemory>
+    ensures { OnOk result (way.new.items ≡ way.old.items ++ literal ∷ []) }
+{
+    way.push(literal)?;
+    Ok(())
 }
 
 // Adds the branches below a way. The way is as before.
@@ -146,15 +173,12 @@ fn walk(
 {
     match tree {
         DecisionTree::Fail => Ok(()),
-        DecisionTree::Leaf(line) => {
-            add_branch(alloc, way.as_slice(), line, out)?;
-            Ok(())
-        }
+        DecisionTree::Leaf(line) => { add_branch(alloc, way.as_slice(), line, out) }
         DecisionTree::Test(literal, on_yes, on_no) => {
-            way.push(literal.literal()?)?;
+            push_literal(way, literal.literal()?)?;
             walk(alloc, on_yes, way, out)?;
             let _ = way.pop();
-            way.push(literal.negation()?)?;
+            push_literal(way, literal.negation()?)?;
             walk(alloc, on_no, way, out)?;
             let _ = way.pop();
             Ok(())
@@ -200,7 +224,7 @@ fn copy_way(alloc: Global, way: &[Rc<Lit<VarId>>]) -> Result<Vec<Rc<Lit<VarId>>>
 {
     let mut out = Vec::with_capacity(alloc, way.len())?;
     for lit in way {
-        out.push(lit.clone()?)?;
+        push_literal(&mut out, lit.clone()?)?;
     }
     Ok(out)
 }

@@ -5,6 +5,7 @@ ghost use Rattle.std.specs.Result.{OnOk};
 ghost use Rattle.fs_model.specs.View.{named_assignment, named_guard};
 
 use crate::copies::Unrenamed;
+use crate::memory::push_value;
 use crate::name::{Name, NoMemory};
 use crate::parts::{Assign, Guard};
 use std::alloc::Global;
@@ -45,7 +46,7 @@ pub fn add_assignments(
         (map named_assignment out.new.items ≡ map named_assignment out.old.items ++ map named_assignment assigns.now) }
 {
     for assign in assigns {
-        out.push(copied_assignment(alloc, assign)?)?;
+        push_value(out, copied_assignment(alloc, assign)?)?;
     }
     Ok(())
 }

@@ -3,11 +3,12 @@
 ghost use Rattle.std.specs.Prelude.{◌≡◌, map, IfOk};
 ghost use Rattle.fs_model.specs.View.{term_by, literal_by, guard_by, assignment_by, term_of, literal_of, guard_of, assignment_of};
 ghost use Rattle.fs_model.specs.View.{declaration_of};
+ghost use Rattle.fs_model.specs.Terms.{Read, Negative, Not, ArrayWrite};
 ghost use Rattle.fs_model.specs.Trees.{negated_literal};
 ghost use Rattle.fs_model.specs.Renamed.{term_over, literal_over, guard_over, assignment_over, term_with_operands};
 ghost use Rattle.fs_model.specs.Renamed.{guard_with_parts};
 
-use crate::memory::{both_boxed, put_in_box};
+use crate::memory::{both_boxed, push_value, put_in_box};
 use crate::name::{Name, NoMemory};
 use crate::parts::{Assign, Decl, Expr, Guard, Lit, VarId};
 use std::alloc::Global;
@@ -54,28 +55,70 @@ impl Rename<Name> for Unrenamed {
 }
 
 // The expression of the same operator between other operands.
-fn same_operator<V, W>(expr: &Expr<V>, left: Box<Expr<W>>, right: Box<Expr<W>>) -> Expr<W>
-    ensures { term_by (λ x. x) result ≡ term_with_operands (term_by (λ x. x) expr.now) (term_by (λ x. x) left.value)
-        (term_by (λ x. x) right.value) }
+fn same_operator<V, W: Drop>(
+    alloc: Global,
+    expr: &Expr<V>,
+    left: Expr<W>,
+    right: Expr<W>,
+) -> Result<Expr<W>, NoMemory>
+    ensures { IfOk result
+        (λ e. term_by (λ x. x) e ≡ term_with_operands (term_by (λ x. x) expr.now) (term_by (λ x. x) left)
+        (term_by (λ x. x) right)) }
 {
-    match expr {
+    let (left, right) = both_boxed(alloc, left, right)?;
+    Ok(match expr {
         Expr::Sub(..) => Expr::Sub(left, right),
         Expr::Mul(..) => Expr::Mul(left, right),
         Expr::Div(..) => Expr::Div(left, right),
         Expr::Rem(..) => Expr::Rem(left, right),
         _ => Expr::Add(left, right),
-    }
+    })
+}
+
+// An expression with its sign changed.
+fn negative<W: Drop>(alloc: Global, expr: Expr<W>) -> Result<Expr<W>, NoMemory>
+    ensures { IfOk result (λ e. term_by (λ x. x) e ≡ Negative (term_by (λ x. x) expr)) }
+{
+    Ok(Expr::Neg(put_in_box(alloc, expr)?))
+}
+
+// The element of a renamed array at an index.
+fn renamed_element<V, R: Rename<V>>(
+    alloc: Global,
+    array: &V,
+    index: Expr<R::To>,
+    by: &R,
+) -> Result<Expr<R::To>, NoMemory>
+    requires { R.can_rename by.now }
+    ensures { IfOk result (λ e. term_by (λ x. x) e ≡ Read (R.renamed by.now array.now) (term_by (λ x. x) index)) }
+{
+    let index = put_in_box(alloc, index)?;
+    Ok(Expr::Read(by.rename(alloc, array)?, index))
 }
 
 // The guard of the same connective between other guards.
-fn same_connective<V, W>(guard: &Guard<V>, left: Box<Guard<W>>, right: Box<Guard<W>>) -> Guard<W>
-    ensures { guard_by (λ x. x) result ≡ guard_with_parts (guard_by (λ x. x) guard.now) (guard_by (λ x. x) left.value)
-        (guard_by (λ x. x) right.value) }
+fn same_connective<V, W: Drop>(
+    alloc: Global,
+    guard: &Guard<V>,
+    left: Guard<W>,
+    right: Guard<W>,
+) -> Result<Guard<W>, NoMemory>
+    ensures { IfOk result
+        (λ g. guard_by (λ x. x) g ≡ guard_with_parts (guard_by (λ x. x) guard.now) (guard_by (λ x. x) left)
+        (guard_by (λ x. x) right)) }
 {
-    match guard {
+    let (left, right) = both_boxed(alloc, left, right)?;
+    Ok(match guard {
         Guard::Or(..) => Guard::Or(left, right),
         _ => Guard::And(left, right),
-    }
+    })
+}
+
+// The guard that holds where one does not.
+fn denial<W: Drop>(alloc: Global, guard: Guard<W>) -> Result<Guard<W>, NoMemory>
+    ensures { IfOk result (λ g. guard_by (λ x. x) g ≡ Not (guard_by (λ x. x) guard)) }
+{
+    Ok(Guard::Not(put_in_box(alloc, guard)?))
 }
 
 // A variable and an expression, renamed.
@@ -102,23 +145,16 @@ impl<V> Expr<V> {
         match self {
             Expr::Num(n) => Ok(Expr::Num(*n)),
             Expr::Var(x) => Ok(Expr::Var(by.rename(alloc, x)?)),
-            Expr::Read(x, index) => {
-                let index = put_in_box(alloc, index.copy_renamed(alloc, by)?)?;
-                Ok(Expr::Read(by.rename(alloc, x)?, index))
-            }
+            Expr::Read(x, index) => renamed_element(alloc, x, index.copy_renamed(alloc, by)?, by),
             Expr::Add(a, b)
             | Expr::Sub(a, b)
             | Expr::Mul(a, b)
             | Expr::Div(a, b)
             | Expr::Rem(a, b) => {
-                let (a, b) = both_boxed(
-                    alloc,
-                    a.copy_renamed(alloc, by)?,
-                    b.copy_renamed(alloc, by)?,
-                )?;
-                Ok(same_operator(self, a, b))
+                let left = a.copy_renamed(alloc, by)?;
+                same_operator(alloc, self, left, b.copy_renamed(alloc, by)?)
             }
-            Expr::Neg(a) => Ok(Expr::Neg(put_in_box(alloc, a.copy_renamed(alloc, by)?)?)),
+            Expr::Neg(a) => negative(alloc, a.copy_renamed(alloc, by)?),
         }
     }
 }
@@ -149,17 +185,30 @@ impl<V> Guard<V> {
     {
         match self {
             Guard::Lit(lit) => Ok(Guard::Lit(lit.copy_renamed(alloc, by)?)),
-            Guard::Not(a) => Ok(Guard::Not(put_in_box(alloc, a.copy_renamed(alloc, by)?)?)),
+            Guard::Not(a) => denial(alloc, a.copy_renamed(alloc, by)?),
             Guard::And(a, b) | Guard::Or(a, b) => {
-                let (a, b) = both_boxed(
-                    alloc,
-                    a.copy_renamed(alloc, by)?,
-                    b.copy_renamed(alloc, by)?,
-                )?;
-                Ok(same_connective(self, a, b))
+                let left = a.copy_renamed(alloc, by)?;
+                same_connective(alloc, self, left, b.copy_renamed(alloc, by)?)
             }
         }
     }
+}
+
+// The write to a renamed array at an index, of a renamed value.
+fn renamed_write<V, R: Rename<V>>(
+    alloc: Global,
+    array: &V,
+    index: Expr<R::To>,
+    value: &Expr<V>,
+    by: &R,
+) -> Result<Assign<R::To>, NoMemory>
+    requires { R.can_rename by.now }
+    ensures { IfOk result
+        (λ a. assignment_by (λ x. x) a ≡ ArrayWrite (R.renamed by.now array.now) (term_by (λ x. x) index)
+        (term_over (R.renamed by.now) (term_by (λ x. x) value.now))) }
+{
+    let (array, value) = rename_with_value(alloc, array, value, by)?;
+    Ok(Assign::Put(array, index, value))
 }
 
 impl<V> Assign<V> {
@@ -180,8 +229,7 @@ impl<V> Assign<V> {
             }
             Assign::Put(x, index, value) => {
                 let index = index.copy_renamed(alloc, by)?;
-                let (x, value) = rename_with_value(alloc, x, value, by)?;
-                Ok(Assign::Put(x, index, value))
+                renamed_write(alloc, x, index, value, by)
             }
             Assign::Emit(x, value) => {
                 let (x, value) = rename_with_value(alloc, x, value, by)?;
@@ -204,7 +252,7 @@ pub fn renamed_assignments<V, R: Rename<V>>(
 {
     let mut out = Vec::new(alloc);
     for assign in assigns {
-        out.push(assign.copy_renamed(alloc, by)?)?;
+        push_value(&mut out, assign.copy_renamed(alloc, by)?)?;
     }
     Ok(out)
 }
@@ -266,7 +314,7 @@ pub fn copied_names(alloc: Global, names: &[Name]) -> Result<Vec<Name>, NoMemory
 {
     let mut out = Vec::new(alloc);
     for name in names {
-        out.push(name.try_clone(alloc)?)?;
+        push_value(&mut out, name.try_clone(alloc)?)?;
     }
     Ok(out)
 }

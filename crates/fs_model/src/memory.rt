@@ -1,6 +1,6 @@
 //! Memory, which may be refused.
 
-ghost use Rattle.std.specs.Prelude.{◌≡◌, IfOk};
+ghost use Rattle.std.specs.Prelude.{◌≡◌, ◌++◌, ◌∷◌, [], IfOk, OnOk};
 
 use crate::name::NoMemory;
 use std::alloc::{AllocError, AllocFailed, Global};
@@ -38,4 +38,12 @@ pub fn both_boxed<T: Drop>(alloc: Global, a: T, b: T) -> Result<(Box<T>, Box<T>)
     ensures right { IfOk result (λ p. p.1.value ≡ b) }
 {
     Ok((put_in_box(alloc, a)?, put_in_box(alloc, b)?))
+}
+
+/// Adds a value behind others.
+pub fn push_value<T: Drop>(values: &mut Vec<T>, value: T) -> Result<(), NoMemory>
+    ensures { OnOk result (values.new.items ≡ values.old.items ++ value ∷ []) }
+{
+    values.push(value)?;
+    Ok(())
 }

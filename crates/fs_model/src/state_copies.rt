@@ -4,6 +4,7 @@ ghost use Rattle.std.specs.Prelude.{◌≡◌, map, IfOk};
 ghost use Rattle.fs_model.specs.View.{source_transition_of, source_state_of, declaration_of};
 
 use crate::assignment_copies::{copied_assignments, copied_condition};
+use crate::memory::push_value;
 use crate::name::NoMemory;
 use crate::parts::{Decl, RawLine, RawState};
 use std::alloc::Global;
@@ -28,7 +29,7 @@ pub fn copied_lines(alloc: Global, lines: &[RawLine]) -> Result<Vec<RawLine>, No
 {
     let mut out = Vec::new(alloc);
     for line in lines {
-        out.push(copied_line(alloc, line)?)?;
+        push_value(&mut out, copied_line(alloc, line)?)?;
     }
     Ok(out)
 }
@@ -52,7 +53,7 @@ pub fn copied_declarations(alloc: Global, decls: &[Decl]) -> Result<Vec<Decl>, N
 {
     let mut out = Vec::new(alloc);
     for decl in decls {
-        out.push(decl.try_clone(alloc)?)?;
+        push_value(&mut out, decl.try_clone(alloc)?)?;
     }
     Ok(out)
 }

@@ -6,7 +6,9 @@ pub mod Agreement
 pub mod Copying
 pub mod Degrees
 pub mod Gathered
+pub mod Identities
 pub mod LastWrite
+pub mod Loops
 pub mod Parts
 pub mod Simple
 pub mod Items

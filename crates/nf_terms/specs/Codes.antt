@@ -1,7 +1,9 @@
 -- A term as a tree of numbers, which gives it back: what the model of a normal form is stored as.
-use Rattle.std.specs.Prelude.{◌≡◌, ℕ, ℤ, pos, negsuc, Bool, true, false, Option, Some, None, List, refl}
+use Rattle.std.specs.Prelude.{◌≡◌, ℕ, ℤ, Bool, true, false, Option, Some, None, List, refl}
+use Rattle.std.proofs.Common.{sym, ap, ◌∙◌}
 use Rattle.std.specs.Coded.{Coded, code_by, coded×, coded_ℕ, coded_bool, coded_list, coded_option}
 use base.Stored.{Gv, gnil, gnum, gcons}
+use Rattle.fs_model.specs.Codes.{code_int, int_at, int_back}
 use Rattle.nf_terms.specs.NormalTerms.{Atom, Polynomial, ArrayTerm}
 use Rattle.nf_terms.specs.Lists.{ListTerm}
 use Rattle.nf_terms.specs.Keys.{Key, Leaf, Node}
@@ -12,21 +14,13 @@ use Rattle.fs_model.specs.declared.sides.Pos.{Pos}
 use Rattle.nf_terms.specs.declared.tree.SeqBase.{SeqBase}
 use Rattle.nf_terms.specs.declared.tree.SeqBase.TheVariants as list
 
--- an integer: its sign and its size
-abbrev pub code_int : ℤ → Gv
-code_int (pos n) = gcons gnil (gnum n)
-code_int (negsuc n) = gcons (gnum 0) (gnum n)
-
 -- a key: an integer, or two keys
 abbrev pub code_key : Key → Gv
 code_key (Leaf z) = gcons gnil (code_int z)
 code_key (Node a b) = gcons (gnum 0) (gcons (code_key a) (code_key b))
 
 inj_int : (x y : ℤ) → code_int x ≡ code_int y → x ≡ y
-inj_int (pos m) (pos n) e = cc
-inj_int (pos m) (negsuc n) e = cc
-inj_int (negsuc m) (pos n) e = cc
-inj_int (negsuc m) (negsuc n) e = cc
+inj_int x y e = sym (int_back x) ∙ ap int_at e ∙ int_back y
 
 pub inj_key : (x y : Key) → code_key x ≡ code_key y → x ≡ y
 inj_key (Leaf x) (Leaf y) e = let e0 : x ≡ y = inj_int x y (cc) in cc

@@ -3,7 +3,6 @@
 ghost use Rattle.std.specs.Prelude.{◌≡◌};
 ghost use Rattle.nf_terms.specs.View.{atom_in, monomial_in, polynomial_in, array_in};
 ghost use Rattle.nf_terms.specs.Order.{cmp_side, cmp_pos, cmp_base, cmp_atom, cmp_monomial, cmp_polynomial, cmp_array, same_atom};
-ghost use Rattle.nf_terms.specs.Order.{same_polynomial};
 
 use crate::tree::{ArrTree, Atom, Base, MonoTree, PolyTree, Pos, Side};
 use std::cmp::Ordering;
@@ -137,11 +136,4 @@ pub fn is_same_atom(l: &Atom, r: &Atom) -> bool
     ensures { result ≡ same_atom (atom_in l.now) (atom_in r.now) }
 {
     compare_atoms(l, r).is_eq()
-}
-
-/// Whether two polynomials are the same.
-pub fn is_same_poly(l: &PolyTree, r: &PolyTree) -> bool
-    ensures { result ≡ same_polynomial (polynomial_in l.now) (polynomial_in r.now) }
-{
-    compare_polys(l, r).is_eq()
 }

@@ -10,7 +10,7 @@ pub enum Base {
 }
 
 /// What the items of a list stand behind: nothing, or a symbol.
-#[derive(Clone, Copy, PartialEq, Eq, Hash)]
+#[derive(Clone, Copy)]
 pub enum SeqBase {
     Empty,
     Sym(Pos),

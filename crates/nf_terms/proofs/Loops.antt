@@ -1,0 +1,10 @@
+-- What a loop has put into a list, in front of what is left of the list that it goes over.
+use Rattle.std.proofs.Common.{◌≡◌, ℕ, ◌+◌, ◌<◌, List, [], ◌∷◌, ◌++◌, map, drop, length, get_or, ap, sym, ◌∙◌, append_assoc}
+use Rattle.fs_model.proofs.Lists.{map_drop_next}
+
+pub one_more : {A B : Type 0} (f : A → B) (old new : List B) (xs : List A) (i : ℕ) (x : A) → i < length xs → x ≡ get_or xs i x
+    → new ≡ old ++ f x ∷ [] → new ++ map f (drop (i + 1) xs) ≡ old ++ map f (drop i xs)
+one_more f old new xs i x h e n =
+    ap (λ l. l ++ map f (drop (i + 1) xs)) n
+    ∙ append_assoc old (f x ∷ []) (map f (drop (i + 1) xs))
+    ∙ ap (λ l. old ++ l) (sym (map_drop_next f xs i x h e))
