@@ -25,6 +25,7 @@ use nf_terms::tree::Side;
 use std::alloc::Global;
 
 #[cycle(terms)]
+#[inline(always)]
 fn atom<'a>(alloc: Global, bytes: &'a [u8]) -> Result<(WrittenAtom<'a>, &'a [u8]), ReadError>
     ensures goes { (k : ForAtom) → Goes result (term_reading bytes.now (at_atom k))
         (λ x. term_reading x.1.now (atom_done (written_atom_in x.0) k)) }
@@ -147,6 +148,7 @@ fn value<'a>(alloc: Global, bytes: &'a [u8]) -> Result<(WrittenPolynomial<'a>, &
 }
 
 #[cycle(terms)]
+#[inline(never)]
 fn quotient<'a>(alloc: Global, bytes: &'a [u8]) -> Result<(WrittenAtom<'a>, &'a [u8]), ReadError>
     ensures goes { (k : ForAtom) → Goes result (term_reading bytes.now (at_polynomial (dividend k)))
         (λ x. term_reading x.1.now (atom_done (written_atom_in x.0) k)) }
@@ -158,6 +160,7 @@ fn quotient<'a>(alloc: Global, bytes: &'a [u8]) -> Result<(WrittenAtom<'a>, &'a 
 }
 
 #[cycle(terms)]
+#[inline(never)]
 fn remainder<'a>(alloc: Global, bytes: &'a [u8]) -> Result<(WrittenAtom<'a>, &'a [u8]), ReadError>
     ensures goes { (k : ForAtom) → Goes result (term_reading bytes.now (at_polynomial (modulend k)))
         (λ x. term_reading x.1.now (atom_done (written_atom_in x.0) k)) }
