@@ -3,6 +3,7 @@
 ghost use Rattle.std.specs.Prelude.{◌≡◌};
 ghost use Rattle.term_text.specs.declared.fault.ReadError.TheVariants as errors;
 
+use nf_terms::stop::NoMemory;
 use std::alloc::{AllocError, AllocFailed};
 
 /// Why a term could not be read.
@@ -18,6 +19,14 @@ impl From<AllocError> for ReadError {
     ghost from_gives = { λ _ e. e ≡ errors.NoMemory };
 
     fn from(_e: AllocError) -> ReadError {
+        ReadError::NoMemory
+    }
+}
+
+impl From<NoMemory> for ReadError {
+    ghost from_gives = { λ _ e. e ≡ errors.NoMemory };
+
+    fn from(_e: NoMemory) -> ReadError {
         ReadError::NoMemory
     }
 }

@@ -10,6 +10,7 @@ ghost use Rattle.term_text.specs.View.{more_sum};
 
 use crate::fault::ReadError;
 use crate::tree::{WrittenArray, WrittenAtom, WrittenHead, WrittenMonomial, WrittenPolynomial};
+use nf_terms::atoms::both_boxed;
 use std::alloc::Global;
 
 /// The head of an atom.
@@ -28,7 +29,8 @@ pub fn make_read<'a>(
     ensures { TermMadeAs result
         (λ a. written_atom_in a ≡ Read (written_array_in array.entry) (written_polynomial_in index.entry)) }
 {
-    Ok(WrittenAtom::Read(Box::new(alloc, array)?, Box::new(alloc, index)?))
+    let (array, index) = both_boxed(alloc, array, index)?;
+    Ok(WrittenAtom::Read(array, index))
 }
 
 /// A quotient. The one refusal is out of memory.
@@ -40,7 +42,8 @@ pub fn make_quotient<'a>(
     ensures { TermMadeAs result
         (λ a. written_atom_in a ≡ Quotient (written_polynomial_in left.entry) (written_polynomial_in right.entry)) }
 {
-    Ok(WrittenAtom::Quotient(Box::new(alloc, left)?, Box::new(alloc, right)?))
+    let (left, right) = both_boxed(alloc, left, right)?;
+    Ok(WrittenAtom::Quotient(left, right))
 }
 
 /// A remainder. The one refusal is out of memory.
@@ -52,7 +55,8 @@ pub fn make_remainder<'a>(
     ensures { TermMadeAs result
         (λ a. written_atom_in a ≡ Remainder (written_polynomial_in left.entry) (written_polynomial_in right.entry)) }
 {
-    Ok(WrittenAtom::Remainder(Box::new(alloc, left)?, Box::new(alloc, right)?))
+    let (left, right) = both_boxed(alloc, left, right)?;
+    Ok(WrittenAtom::Remainder(left, right))
 }
 
 /// Adds an atom to a monomial. The one refusal is out of memory.

@@ -1,7 +1,7 @@
 //! Reading a whole text.
 
 ghost use Rattle.std.specs.Prelude.{◌≡◌, IfOk};
-ghost use Rattle.term_text.specs.Machine.{TermMadeAs, IsRead, Goes, term_reading, in_array, in_list, whole_polynomial};
+ghost use Rattle.term_text.specs.Machine.{TermMadeAs, IsRead, Goes, term_reading, expect, in_array, in_list, whole_polynomial};
 ghost use Rattle.term_text.specs.Machine.{whole_array, at_polynomial, at_array, at_list, at_symbol, after_array, after_list};
 ghost use Rattle.term_text.specs.TermTexts.{Polynomial, ArrayTerm, ListSyntax, polynomial, array, list};
 ghost use Rattle.term_text.specs.SpellableTerms.{SpellsTermText};
@@ -10,7 +10,7 @@ ghost use Rattle.term_text.specs.View.{written_polynomial_in, written_array_in, 
 use crate::brackets::is_shallow;
 use crate::fault::ReadError;
 use crate::parts::push_item;
-use crate::scan::{expect, word};
+use crate::scan::{expect, expect_three, word};
 use crate::signs::close_brace;
 use crate::terms::{polynomial, writes};
 use crate::tree::{WrittenArray, WrittenBase, WrittenList, WrittenListBase, WrittenPolynomial};
@@ -28,13 +28,13 @@ fn whole_polynomial<'a>(alloc: Global, bytes: &'a [u8]) -> Result<WrittenPolynom
     }
 }
 
-// The symbol that an array begins with.
+// The symbol that an array begins with, after the letter of its side.
 #[tactic(auto, using(crate::proofs::Steps::array_base))]
 fn symbol_base<'a>(side: Side, bytes: &'a [u8]) -> Result<(WrittenBase<'a>, &'a [u8]), ReadError>
-    ensures { Goes result (term_reading bytes.now (at_symbol side in_array))
+    ensures { Goes result (term_reading bytes.now (expect 46 (at_symbol side in_array)))
         (λ x. term_reading x.1.now (after_array (base_in x.0) whole_array)) }
 {
-    let (name, rest) = word(bytes)?;
+    let (name, rest) = word(expect(bytes, b'.')?)?;
     Ok((WrittenBase::Symbol(side, name), rest))
 }
 
@@ -43,14 +43,9 @@ fn array_base<'a>(bytes: &'a [u8]) -> Result<(WrittenBase<'a>, &'a [u8]), ReadEr
     ensures { Goes result (term_reading bytes.now at_array) (λ x. term_reading x.1.now (after_array (base_in x.0) whole_array)) }
 {
     match bytes {
-        [b'L', rest @ ..] => symbol_base(Side::Left, expect(rest, b'.')?),
-        [b'R', rest @ ..] => symbol_base(Side::Right, expect(rest, b'.')?),
-        [b'z', rest @ ..] => {
-            let rest = expect(rest, b'e')?;
-            let rest = expect(rest, b'r')?;
-            let rest = expect(rest, b'o')?;
-            Ok((WrittenBase::Zero, rest))
-        }
+        [b'L', rest @ ..] => symbol_base(Side::Left, rest),
+        [b'R', rest @ ..] => symbol_base(Side::Right, rest),
+        [b'z', rest @ ..] => Ok((WrittenBase::Zero, expect_three(rest, b'e', b'r', b'o')?)),
         _ => Err(ReadError::BadTerm),
     }
 }
@@ -68,16 +63,16 @@ fn whole_array<'a>(alloc: Global, bytes: &'a [u8]) -> Result<WrittenArray<'a>, R
     }
 }
 
-// The symbol that a list begins with.
+// The symbol that a list begins with, after the letter of its side.
 #[tactic(auto, using(crate::proofs::Steps::list_base))]
 fn symbol_list_base<'a>(
     side: Side,
     bytes: &'a [u8],
 ) -> Result<(WrittenListBase<'a>, &'a [u8]), ReadError>
-    ensures { Goes result (term_reading bytes.now (at_symbol side in_list))
+    ensures { Goes result (term_reading bytes.now (expect 46 (at_symbol side in_list)))
         (λ x. term_reading x.1.now (after_list (list_base_in x.0))) }
 {
-    let (name, rest) = word(bytes)?;
+    let (name, rest) = word(expect(bytes, b'.')?)?;
     Ok((WrittenListBase::Symbol(side, name), rest))
 }
 
@@ -86,14 +81,12 @@ fn list_base<'a>(bytes: &'a [u8]) -> Result<(WrittenListBase<'a>, &'a [u8]), Rea
     ensures { Goes result (term_reading bytes.now at_list) (λ x. term_reading x.1.now (after_list (list_base_in x.0))) }
 {
     match bytes {
-        [b'L', rest @ ..] => symbol_list_base(Side::Left, expect(rest, b'.')?),
-        [b'R', rest @ ..] => symbol_list_base(Side::Right, expect(rest, b'.')?),
-        [b'n', rest @ ..] => {
-            let rest = expect(rest, b'o')?;
-            let rest = expect(rest, b'n')?;
-            let rest = expect(rest, b'e')?;
-            Ok((WrittenListBase::Empty, rest))
-        }
+        [b'L', rest @ ..] => symbol_list_base(Side::Left, rest),
+        [b'R', rest @ ..] => symbol_list_base(Side::Right, rest),
+        [b'n', rest @ ..] => Ok((
+            WrittenListBase::Empty,
+            expect_three(rest, b'o', b'n', b'e')?,
+        )),
         _ => Err(ReadError::BadTerm),
     }
 }

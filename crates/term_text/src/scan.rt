@@ -80,6 +80,20 @@ fn begins_with_letter(bytes: &[u8]) -> bool
     }
 }
 
+// Whether a word is reserved. Words of other lengths than the reserved ones, as most names are, are compared with none.
+#[tactic(auto, using(crate::proofs::ReservedWords::short_word, crate::proofs::ReservedWords::long_word))]
+fn is_reserved_word(word: &[u8]) -> bool
+    ensures { result ≡ is_reserved word.now }
+{
+    if word.len() < 4 {
+        return false;
+    }
+    if word.len() > 6 {
+        return false;
+    }
+    is_reserved(word)
+}
+
 /// A name and what follows it.
 #[tactic(auto, using(crate::proofs::Steps::symbol_taken, crate::proofs::Steps::symbol_reserved, crate::proofs::Steps::no_symbol))]
 pub fn word(bytes: &[u8]) -> Result<(&[u8], &[u8]), ReadError>
@@ -91,7 +105,7 @@ pub fn word(bytes: &[u8]) -> Result<(&[u8], &[u8]), ReadError>
         return Err(ReadError::BadTerm);
     }
     let (word, rest) = bytes.split_at(word_len(bytes));
-    if is_reserved(word) {
+    if is_reserved_word(word) {
         return Err(ReadError::BadTerm);
     }
     Ok((word, rest))

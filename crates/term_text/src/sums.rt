@@ -48,6 +48,7 @@ pub fn first_term<'a>(
 }
 
 /// A monomial that is not the first of a sum, from its sign on: whether it is taken away, and what follows it.
+#[inline(always)]
 pub fn next_term<'a>(
     alloc: Global,
     bytes: &'a [u8],

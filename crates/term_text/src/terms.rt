@@ -4,8 +4,8 @@ ghost use Rattle.std.specs.Prelude.{◌<◌, ◌≤◌, map, length, IfOk};
 ghost use Rattle.term_text.specs.Machine.{ForPolynomial, ForArray, ForMonomial, ForAtom, in_atom, term_reading, Goes, EndsWrites};
 ghost use Rattle.term_text.specs.Machine.{EndsMonomial, EndsTermSum, at_polynomial, at_monomial, at_atom, at_symbol, at_sign};
 ghost use Rattle.term_text.specs.Machine.{after_array, after_monomial, after_sum, after_polynomial, atom_done, monomial_done};
-ghost use Rattle.term_text.specs.Machine.{expect, first_monomial_for, read_of, dividend, modulend};
-ghost use Rattle.term_text.specs.TermTexts.{Sum};
+ghost use Rattle.term_text.specs.Machine.{expect, first_monomial_for, read_of, dividend, modulend, place};
+ghost use Rattle.term_text.specs.TermTexts.{Sum, Polynomial, ArrayTerm, Read, Quotient, Remainder, Written};
 ghost use Rattle.term_text.specs.View.{written_atom_in, head_in, written_monomial_in, written_polynomial_in, written_array_in};
 ghost use Rattle.term_text.specs.View.{base_in, written_term_in, sum_of, more_sum};
 
@@ -25,6 +25,7 @@ use nf_terms::tree::Side;
 use std::alloc::Global;
 
 #[cycle(terms)]
+#[inline(always)]
 fn atom<'a>(alloc: Global, bytes: &'a [u8]) -> Result<(WrittenAtom<'a>, &'a [u8]), ReadError>
     ensures goes { (k : ForAtom) → Goes result (term_reading bytes.now (at_atom k))
         (λ x. term_reading x.1.now (atom_done (written_atom_in x.0) k)) }
@@ -46,6 +47,7 @@ fn atom<'a>(alloc: Global, bytes: &'a [u8]) -> Result<(WrittenAtom<'a>, &'a [u8]
 // A symbol after the letter of its side, or the array that it is the base of.
 #[cycle(terms)]
 #[tactic(auto, using(crate::proofs::Steps::atom_ends, crate::proofs::Steps::array_goes))]
+#[inline(always)]
 fn symbol<'a>(
     alloc: Global,
     side: Side,
@@ -65,6 +67,7 @@ fn symbol<'a>(
 
 // What is read of an array, after its base.
 #[cycle(terms)]
+#[inline(never)]
 fn read<'a>(
     alloc: Global,
     base: WrittenBase<'a>,
@@ -75,11 +78,20 @@ fn read<'a>(
     ensures shorter { IfOk result (λ x. length x.1.now < length bytes.now) }
 {
     let (array, rest) = writes(alloc, base, bytes)?;
-    let rest = open_bracket(rest)?;
-    let (index, rest) = polynomial(alloc, rest)?;
-    let rest = close_bracket(rest)?;
-    let made = make_read(alloc, array, index)?;
-    Ok((made, rest))
+    let (index, rest) = index(alloc, rest)?;
+    Ok((make_read(alloc, array, index)?, rest))
+}
+
+// The index of a read, from its bracket on.
+#[cycle(terms)]
+fn index<'a>(alloc: Global, bytes: &'a [u8]) -> Result<(WrittenPolynomial<'a>, &'a [u8]), ReadError>
+    requires { EndsWrites bytes.now }
+    ensures goes { (a : ArrayTerm) (k : ForAtom) → Goes result (term_reading bytes.now (after_array a (read_of k)))
+        (λ x. term_reading x.1.now (atom_done (Read a (written_polynomial_in x.0)) k)) }
+    ensures shorter { IfOk result (λ x. length x.1.now < length bytes.now) }
+{
+    let (index, rest) = polynomial(alloc, open_bracket(bytes)?)?;
+    Ok((index, close_bracket(rest)?))
 }
 
 /// An array after its base, and what follows it.
@@ -99,10 +111,7 @@ pub fn writes<'a>(
     loop {
         match rest {
             [b'{', after @ ..] => {
-                let (index, after) = polynomial(alloc, after)?;
-                let after = colon(after)?;
-                let (value, after) = polynomial(alloc, after)?;
-                let after = close_brace(after)?;
+                let (index, value, after) = write(alloc, after)?;
                 push_write(&mut writes, index, value)?;
                 rest = after;
             }
@@ -111,37 +120,77 @@ pub fn writes<'a>(
     }
 }
 
+// The index and the value of a write, after its brace.
 #[cycle(terms)]
+fn write<'a>(
+    alloc: Global,
+    bytes: &'a [u8],
+) -> Result<(WrittenPolynomial<'a>, WrittenPolynomial<'a>, &'a [u8]), ReadError>
+    ensures goes { (a : ArrayTerm) (k : ForArray) → Goes result (term_reading bytes.now (at_polynomial (place a k)))
+        (λ x. term_reading x.2.now (after_array (Written a (written_polynomial_in x.0) (written_polynomial_in x.1)) k)) }
+    ensures shorter { IfOk result (λ x. length x.2.now < length bytes.now) }
+{
+    let (index, rest) = polynomial(alloc, bytes)?;
+    let (value, rest) = value(alloc, rest)?;
+    Ok((index, value, rest))
+}
+
+// The value of a write, from the colon on.
+#[cycle(terms)]
+fn value<'a>(alloc: Global, bytes: &'a [u8]) -> Result<(WrittenPolynomial<'a>, &'a [u8]), ReadError>
+    ensures goes { (a : ArrayTerm) (i : Polynomial) (k : ForArray)
+        → Goes result (term_reading bytes.now (after_polynomial i (place a k)))
+        (λ x. term_reading x.1.now (after_array (Written a i (written_polynomial_in x.0)) k)) }
+    ensures shorter { IfOk result (λ x. length x.1.now < length bytes.now) }
+{
+    let (value, rest) = polynomial(alloc, colon(bytes)?)?;
+    Ok((value, close_brace(rest)?))
+}
+
+#[cycle(terms)]
+#[inline(never)]
 fn quotient<'a>(alloc: Global, bytes: &'a [u8]) -> Result<(WrittenAtom<'a>, &'a [u8]), ReadError>
     ensures goes { (k : ForAtom) → Goes result (term_reading bytes.now (at_polynomial (dividend k)))
         (λ x. term_reading x.1.now (atom_done (written_atom_in x.0) k)) }
     ensures shorter { IfOk result (λ x. length x.1.now < length bytes.now) }
 {
     let (left, rest) = polynomial(alloc, bytes)?;
-    let rest = comma(rest)?;
-    let (right, rest) = polynomial(alloc, rest)?;
-    let rest = close_paren(rest)?;
-    let made = make_quotient(alloc, left, right)?;
-    Ok((made, rest))
+    let (right, rest) = right_side(alloc, rest)?;
+    Ok((make_quotient(alloc, left, right)?, rest))
 }
 
 #[cycle(terms)]
+#[inline(never)]
 fn remainder<'a>(alloc: Global, bytes: &'a [u8]) -> Result<(WrittenAtom<'a>, &'a [u8]), ReadError>
     ensures goes { (k : ForAtom) → Goes result (term_reading bytes.now (at_polynomial (modulend k)))
         (λ x. term_reading x.1.now (atom_done (written_atom_in x.0) k)) }
     ensures shorter { IfOk result (λ x. length x.1.now < length bytes.now) }
 {
     let (left, rest) = polynomial(alloc, bytes)?;
-    let rest = comma(rest)?;
-    let (right, rest) = polynomial(alloc, rest)?;
-    let rest = close_paren(rest)?;
-    let made = make_remainder(alloc, left, right)?;
-    Ok((made, rest))
+    let (right, rest) = right_side(alloc, rest)?;
+    Ok((make_remainder(alloc, left, right)?, rest))
+}
+
+// The right side of a division, from the comma on.
+#[cycle(terms)]
+fn right_side<'a>(
+    alloc: Global,
+    bytes: &'a [u8],
+) -> Result<(WrittenPolynomial<'a>, &'a [u8]), ReadError>
+    ensures quotient { (l : Polynomial) (k : ForAtom) → Goes result (term_reading bytes.now (after_polynomial l (dividend k)))
+        (λ x. term_reading x.1.now (atom_done (Quotient l (written_polynomial_in x.0)) k)) }
+    ensures remainder { (l : Polynomial) (k : ForAtom) → Goes result (term_reading bytes.now (after_polynomial l (modulend k)))
+        (λ x. term_reading x.1.now (atom_done (Remainder l (written_polynomial_in x.0)) k)) }
+    ensures shorter { IfOk result (λ x. length x.1.now < length bytes.now) }
+{
+    let (right, rest) = polynomial(alloc, comma(bytes)?)?;
+    Ok((right, close_paren(rest)?))
 }
 
 // A number, or the first atom of a monomial.
 #[cycle(terms)]
 #[tactic(auto, using(crate::proofs::Steps::monomial_starts))]
+#[inline(always)]
 fn head<'a>(alloc: Global, bytes: &'a [u8]) -> Result<(WrittenHead<'a>, &'a [u8]), ReadError>
     ensures goes { (k : ForMonomial) → Goes result (term_reading bytes.now (at_monomial k))
         (λ x. term_reading x.1.now (after_monomial (head_in x.0) k)) }
@@ -158,6 +207,7 @@ fn head<'a>(alloc: Global, bytes: &'a [u8]) -> Result<(WrittenHead<'a>, &'a [u8]
 
 // The atoms of a monomial.
 #[cycle(terms)]
+#[inline(always)]
 fn factors<'a>(alloc: Global, bytes: &'a [u8]) -> Result<(WrittenMonomial<'a>, &'a [u8]), ReadError>
     ensures goes { (k : ForMonomial) → Goes result (term_reading bytes.now (at_monomial k))
         (λ x. term_reading x.1.now (after_monomial (written_monomial_in x.0) k)) }
@@ -181,6 +231,7 @@ fn factors<'a>(alloc: Global, bytes: &'a [u8]) -> Result<(WrittenMonomial<'a>, &
 /// A monomial, and what follows it.
 #[cycle(terms)]
 #[tactic(auto, using(crate::proofs::Steps::monomial_ends))]
+#[inline(always)]
 pub fn monomial<'a>(
     alloc: Global,
     bytes: &'a [u8],
@@ -196,6 +247,7 @@ pub fn monomial<'a>(
 /// A monomial that is not the first of a sum, from its sign on.
 #[cycle(terms)]
 #[tactic(auto, using(crate::proofs::Steps::next_monomial))]
+#[inline(always)]
 pub fn further<'a>(
     alloc: Global,
     bytes: &'a [u8],
@@ -256,6 +308,7 @@ fn sum<'a>(
 /// A polynomial at the beginning of bytes, and what follows it.
 #[cycle(terms)]
 #[tactic(auto, using(crate::proofs::Steps::polynomial_starts))]
+#[inline(never)]
 pub fn polynomial<'a>(
     alloc: Global,
     bytes: &'a [u8],

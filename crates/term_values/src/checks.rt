@@ -33,6 +33,7 @@ pub trait Check {
 }
 
 #[cycle(checks)]
+#[inline(always)]
 fn atom_passes<C: Check>(check: &C, atom: &WrittenAtom<'_>) -> bool
     ensures { result ≡ atom_passes (C.test check.now) (written_atom_in atom.now) }
 {
@@ -61,12 +62,14 @@ fn factor_passes<C: Check>(check: &C, head: &WrittenHead<'_>) -> bool
 }
 
 // What a monomial begins with stands where atoms follow it.
+#[inline(always)]
 fn stands<C: Check>(check: &C, head: &WrittenHead<'_>, followed: bool) -> bool
     ensures { result ≡ stands (C.test check.now) (head_in head.now) followed }
 {
     !followed || factor_passes(check, head)
 }
 
+#[inline(always)]
 fn has_more(atoms: &[WrittenAtom<'_>]) -> bool
     ensures { result ≡ has_first_atom (map written_atom_in atoms.now) }
 {
@@ -77,6 +80,7 @@ fn has_more(atoms: &[WrittenAtom<'_>]) -> bool
 }
 
 #[cycle(checks)]
+#[inline(always)]
 fn head_passes<C: Check>(check: &C, head: &WrittenHead<'_>) -> bool
     ensures { result ≡ monomial_passes (C.test check.now) (head_in head.now) }
 {
@@ -109,6 +113,7 @@ pub fn monomial_passes<C: Check>(check: &C, monomial: &WrittenMonomial<'_>) -> b
 /// Whether each number and each name of a polynomial passes.
 #[cycle(checks)]
 #[tactic(auto, using(crate::proofs::Lists::polynomial_tree))]
+#[inline(never)]
 pub fn polynomial_passes<C: Check>(check: &C, polynomial: &WrittenPolynomial<'_>) -> bool
     ensures { result ≡ polynomial_passes (C.test check.now) (written_polynomial_in polynomial.now) }
 {

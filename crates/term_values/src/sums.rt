@@ -42,6 +42,7 @@ fn begins_with_zero(bytes: &[u8]) -> bool
 
 // The tally with one monomial more.
 #[tactic(auto, using(crate::proofs::Tallies::tests_stay))]
+#[inline(always)]
 fn with_monomial<N: Names>(names: &N, tally: Tally, monomial: &WrittenMonomial<'_>) -> Tally
     ensures count { result.count ≤ suc tally.count }
     ensures numbers { result.numbers ≡ (tally.numbers && monomial_passes numbers_fit (written_monomial_in monomial.now)) }
@@ -82,6 +83,7 @@ fn first_tally<'a, N: Names>(
 }
 
 // The tally with the monomial that stands behind a space, from its sign on, and what follows it.
+#[inline(always)]
 fn next_tally<'a, N: Names>(
     alloc: Global,
     names: &N,

@@ -11,7 +11,8 @@ ghost use Rattle.term_values.specs.ListParts.{under_sign, base_value};
 
 use crate::names::{Names, position};
 use crate::numbers::clip_number;
-use nf_terms::copies::{push_atom, push_term};
+use nf_terms::atoms::{make_quotient, make_read, make_remainder};
+use nf_terms::copies::{push_atom, push_term, push_write};
 use nf_terms::stop::NoMemory;
 use nf_terms::tree::{ArrTree, Atom, Base, MonoTree, PolyTree, SeqBase};
 use std::alloc::Global;
@@ -47,19 +48,16 @@ fn atom_tree<N: Names>(alloc: Global, names: &N, atom: &WrittenAtom<'_>) -> Resu
     match atom {
         WrittenAtom::Symbol(side, name) => Ok(Atom::Sym(position(names, *side, name))),
         WrittenAtom::Read(array, index) => {
-            let array = Box::new(alloc, array_tree(alloc, names, array)?)?;
-            let index = Box::new(alloc, polynomial_tree(alloc, names, index)?)?;
-            Ok(Atom::Read(array, index))
+            let array = array_tree(alloc, names, array)?;
+            make_read(alloc, array, polynomial_tree(alloc, names, index)?)
         }
         WrittenAtom::Quotient(left, right) => {
-            let left = Box::new(alloc, polynomial_tree(alloc, names, left)?)?;
-            let right = Box::new(alloc, polynomial_tree(alloc, names, right)?)?;
-            Ok(Atom::Div(left, right))
+            let left = polynomial_tree(alloc, names, left)?;
+            make_quotient(alloc, left, polynomial_tree(alloc, names, right)?)
         }
         WrittenAtom::Remainder(left, right) => {
-            let left = Box::new(alloc, polynomial_tree(alloc, names, left)?)?;
-            let right = Box::new(alloc, polynomial_tree(alloc, names, right)?)?;
-            Ok(Atom::Rem(left, right))
+            let left = polynomial_tree(alloc, names, left)?;
+            make_remainder(alloc, left, polynomial_tree(alloc, names, right)?)
         }
     }
 }
@@ -142,10 +140,8 @@ pub fn array_tree<N: Names>(
 {
     let mut writes = Vec::new(alloc);
     for (index, value) in &array.writes {
-        writes.push((
-            polynomial_tree(alloc, names, index)?,
-            polynomial_tree(alloc, names, value)?,
-        ))?;
+        let index = polynomial_tree(alloc, names, index)?;
+        push_write(&mut writes, index, polynomial_tree(alloc, names, value)?)?;
     }
     Ok(ArrTree {
         base: base_tree(names, &array.base),

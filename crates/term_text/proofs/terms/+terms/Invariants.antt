@@ -15,6 +15,18 @@ decreases-writes l = 8 * length l.bytes.now
 abbrev pub decreases-read : goal.decreases-read
 decreases-read l = 8 * length l.bytes.now + 1
 
+abbrev pub decreases-index : goal.decreases-index
+decreases-index l = 8 * length l.bytes.now
+
+abbrev pub decreases-value : goal.decreases-value
+decreases-value l = 8 * length l.bytes.now
+
+abbrev pub decreases-right_side : goal.decreases-right_side
+decreases-right_side l = 8 * length l.bytes.now
+
+abbrev pub decreases-write : goal.decreases-write
+decreases-write l = 8 * length l.bytes.now + 7
+
 abbrev pub decreases-head : goal.decreases-head
 decreases-head l = 8 * length l.bytes.now + 1
 
