@@ -8,7 +8,7 @@ ghost use Rattle.serde_json.specs.View.{view, members_view};
 ghost use Rattle.cert_json.specs.Trim.{trim, trim_items, trim_members, short_list};
 
 use crate::numbers::number_of;
-use crate::short_list::{add_to_list, empty_list, is_kept, value_of_list};
+use crate::short_list::{add_to_list, empty_list, is_settled, value_of_list, value_of_settled};
 use crate::skip::skip_items;
 use json::{Invalid, Reader, Scratch, Token};
 use serde_json::{Map, Value};
@@ -102,9 +102,9 @@ fn read_items(alloc: Global, reader: &mut Reader<'_>, depth: usize) -> Result<Va
     'items: while !reader.take_end_array() {
         let item = read(alloc, reader, depth)?;
         add_to_list(&mut found, item)?;
-        if !is_kept(&found) {
-            skip_items(reader, depth)?;
-            return Ok(Value::Null);
+        if is_settled(&found) {
+            let texts = skip_items(reader, depth)?;
+            return Ok(value_of_settled(found, texts));
         }
     }
     Ok(value_of_list(found))
