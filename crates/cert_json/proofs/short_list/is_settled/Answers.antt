@@ -1,4 +1,4 @@
-use Rattle.std.proofs.Common.{sym, arith}
+use Rattle.std.proofs.Common.{arith}
 use Rattle.cert_json.proofs.ListLaws.{settled_none, settled_full}
 use Rattle.cert_json.proofs.short_list.is_settled.Goals as goal
 

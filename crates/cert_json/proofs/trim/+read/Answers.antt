@@ -1,4 +1,4 @@
-use Rattle.std.proofs.Common.{◌≡◌, ◌-◌, ◌<◌, ◌≤◌, [], subst, refl, ◌∷◌, length, Some, None, string_bytes, sym, ap, ap₂, ◌∙◌, arith, rules}
+use Rattle.std.proofs.Common.{◌≡◌, ◌-◌, ◌<◌, ◌≤◌, [], subst, refl, ◌∷◌, length, Some, None, sym, ap, ap₂, ◌∙◌, arith, rules}
 use Rattle.json.specs.Token.{Token}
 use Rattle.json.specs.Json.{parse_map, after_end_array, read_key, items, members, value}
 use Rattle.json.specs.Reads.{token_of}
@@ -7,7 +7,7 @@ use Rattle.serde_json.specs.Data.{null, boolean, number, string, array, object, 
 use Rattle.serde_json.specs.Read.{of_json, of_items, converted}
 use Rattle.serde_json.specs.View.{view, number_view, members_view}
 use Rattle.serde_json.specs.declared.value.Value.{String, Number, Bool, Null, the_lemmas}
-use Rattle.serde_json.proofs.Views.{view-Object, members_view-insert_entry}
+use Rattle.serde_json.proofs.Views.{view-Object}
 use Rattle.serde_json.specs.Data.{no_members}
 use Rattle.cert_json.specs.Trim.{trim_items, short_list}
 use Rattle.cert_json.specs.Lists.{join_items, add_item, IsShort, settled}
@@ -249,10 +249,7 @@ read_members-members-preserved t c =
     let d = done.ok.0 in
     let less = read_key-shorter l.reader (Some k) s named in
     let lesser = done.shorter in
-    let copied : string_bytes c.in_ok-key.key ≡ k = search rules in
-    let inserted : members_view c.insert.new.self.entries ≡ put k (view v) (members_view l.found.entries) =
-    ap members_view c.in_ok-insert.ensures.entries ∙ members_view-insert_entry l.found.entries c.in_ok-key.key v
-    ∙ ap (λ name. put name (view v) (members_view l.found.entries)) copied in (
+    let inserted : members_view c.put_member.new.found.entries ≡ put k (view v) (members_view l.found.entries) = c.in_ok-put_member.ensures in (
       n - 1,
       omega (arith, l.invariant.1),
       put k d old,
