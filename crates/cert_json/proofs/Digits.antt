@@ -1,6 +1,9 @@
 -- Digits that stand alone are a number of JSON.
 use Rattle.std.proofs.Common.{◌≡◌, ℕ, ◌^◌, ◌<◌, ◌≤◌, List, [], ◌∷◌, ◌++◌, length, get_or, true, false, Some, refl, sym, ap, ◌∙◌, subst, arith}
 use Rattle.std.proofs.Common.{append-nil, lt-ltb, ne_eqb}
+use Rattle.std.proofs.lemmas.Str.{digit_value_digit}
+use Rattle.std.proofs.lemmas.Int.Digits.{digits_value-lt}
+use Rattle.std.specs.Prelude.{is_some}
 use Rattle.std.specs.Char.{digit_value}
 use Rattle.std.specs.Str.Parse.{AllDigits, IsNumeral, digits_value, without_leading_plus}
 use Rattle.fast_float.specs.Text.{Parts, digits_of, IsWellFormed}
@@ -36,3 +39,13 @@ parsed_digits bs n first h =
     let same : without_leading_plus bs ≡ bs = rw (ne_eqb (get_or bs 0 0) 43 (λ z. omega arith)) in
     let is = subst (λ ds. (IsNumeral 10 ds × (digits_value 10 ds < 2 ^ 64)) × (n ≡ digits_value 10 ds)) same h in
     (subst (λ k. k < 2 ^ 64) (sym is.1) is.0.1, digits_alone bs is.0.0.1 is.0.0.0 is.0.1 ∙ ap (λ k. Some (unsigned k)) (sym is.1))
+
+-- one digit
+pub one_digit : (bs : List ℕ) → length bs ≡ 1 → 48 ≤ get_or bs 0 0 → get_or bs 0 0 ≤ 57 → is_some (number_of bs) ≡ true
+one_digit [] one low high = absurd (omega (arith, one))
+one_digit (d ∷ []) one low high =
+    let small : digit_value d < 10 = omega (arith, low, high, digit_value_digit d (low, high)) in
+    let all : AllDigits 10 (d ∷ []) = (small, tt) in
+    let below : digits_value 10 (d ∷ []) < 10 = digits_value-lt 10 (d ∷ []) all in
+    ap is_some (digits_alone (d ∷ []) all (omega arith) (omega (arith, below)))
+one_digit (d ∷ e ∷ ds) one low high = absurd (omega (arith, one))

@@ -5,3 +5,4 @@ mod ListLaws
 mod WholeFiles
 mod Files
 mod Digits
+mod Members

@@ -1,14 +1,14 @@
 -- Lists of values that grow at their end, and what is kept of them.
 use Rattle.std.proofs.Common.{◌≡◌, ℕ, zero, suc, ◌<◌, ◌≤◌, List, [], ◌∷◌, ◌++◌, length, Bool, true, false, ◌&&◌, ◌||◌, nat_lt, Option, Some, None, Ordering}
-use Rattle.std.proofs.Common.{Less, Equal, Greater, nat_cmp, refl, sym, ap, ◌∙◌, arith}
-use Rattle.std.specs.Prelude.{is_some}
+use Rattle.std.proofs.Common.{Less, Equal, Greater, nat_cmp, refl, sym, ap, ◌∙◌, subst, arith}
+use Rattle.std.specs.Prelude.{is_some, if◌then◌else◌}
 use Rattle.std.specs.Cmp.Lexicographic.{slice_cmp}
 use Rattle.std.specs.Ordering.{match_ordering}
 use Rattle.std.proofs.lemmas.Bool.{and_parts, ltb-true, ltb-false, lt-ltb, le-ltb, false≢true}
 use Rattle.base_laws.proofs.Booleans.{and_true}
 use Rattle.json.specs.Token.{Token}
 use Rattle.json.specs.Json.{parse_map}
-use Rattle.serde_json.specs.Data.{Data, null, Items, no_items, item, Members, no_members, member, put}
+use Rattle.serde_json.specs.Data.{Data, null, array, Items, no_items, item, Members, no_members, member, put}
 use Rattle.serde_json.specs.Events.{items_len}
 use Rattle.serde_json.specs.Find.{as_str}
 use Rattle.serde_json.specs.View.{view, items_view}
@@ -16,8 +16,9 @@ use Rattle.serde_json.specs.declared.value.Value.{Value}
 use Rattle.serde_json.proofs.Views.{items_len-items_view}
 use Rattle.cert_json.specs.Shape.{are_texts, is_node, are_nodes}
 use Rattle.cert_json.specs.Trim.{first_items, short_items, short_list, trim, trim_items, trim_members}
-use Rattle.cert_json.specs.Lists.{join_items, add_item, add_below, most_items}
-use Rattle.cert_json.proofs.TrimLaws.{node_no_text}
+use Rattle.cert_json.specs.Lists.{join_items, add_item, add_below, most_items, IsShort, settled}
+use Rattle.cert_json.specs.declared.short_list.ShortList.{ShortList}
+use Rattle.cert_json.proofs.TrimLaws.{node_no_text, text_no_node}
 
 -- ---- lists that grow
 
@@ -154,8 +155,48 @@ no_nodes : (ds rest : Items) → are_nodes ds ≡ false → are_nodes (join_item
 no_nodes no_items rest e = absurd (false≢true (sym e))
 no_nodes (item d ds) rest e = still_false (is_node d) (are_nodes ds) (are_nodes (join_items ds rest)) (no_nodes ds rest) e
 
-pub null_joined : (ds rest : Items) (texts nodes : Bool) → texts ≡ are_texts ds → nodes ≡ are_nodes ds → (texts || nodes) ≡ false
+null_joined : (ds rest : Items) (texts nodes : Bool) → texts ≡ are_texts ds → nodes ≡ are_nodes ds → (texts || nodes) ≡ false
     → null ≡ short_list (join_items ds rest)
 null_joined ds rest true nodes e f none = absurd (cc none)
 null_joined ds rest false true e f none = absurd (cc none)
 null_joined ds rest false false e f none = rw (no_texts ds rest (sym e), no_nodes ds rest (sym f))
+
+pub settled_none : (ds rest : Items) (l : ShortList) → IsShort ds l → l.all_texts ≡ false → l.all_nodes ≡ false
+    → settled l (are_texts rest) ≡ short_list (join_items ds rest)
+settled_none ds rest l h t n = rw t (null_joined ds rest l.all_texts l.all_nodes h.texts h.nodes (rw (t, n) refl))
+
+-- ---- a list of as many texts as are kept, and whatever follows
+
+join-are_texts : (ds rest : Items) → are_texts ds ≡ true → are_texts (join_items ds rest) ≡ are_texts rest
+join-are_texts no_items rest e = refl
+join-are_texts (item d ds) rest e = let p = and_parts (is_some (as_str d)) (are_texts ds) e in rw (p.0) (join-are_texts ds rest p.1)
+
+first-join_items : (n : ℕ) (ds rest : Items) → n ≤ items_len ds → first_items n (join_items ds rest) ≡ first_items n ds
+first-join_items zero ds rest le = refl
+first-join_items (suc n) no_items rest le = absurd (omega (arith, le))
+first-join_items (suc n) (item d ds) rest le = ap (item d) (first-join_items n ds rest (omega (arith, le)))
+
+texts_no_nodes_behind : (ds rest : Items) → are_texts ds ≡ true → 0 < items_len ds → are_nodes (join_items ds rest) ≡ false
+texts_no_nodes_behind no_items rest e some = absurd (omega (arith, some))
+texts_no_nodes_behind (item d ds) rest e some = let p = and_parts (is_some (as_str d)) (are_texts ds) e in rw (text_no_node d p.0)
+
+first_at_most : (n : ℕ) (ds : Items) → items_len (first_items n ds) ≤ items_len ds
+first_at_most zero ds = omega arith
+first_at_most (suc n) no_items = omega arith
+first_at_most (suc n) (item d ds) = let less = first_at_most n ds in omega (arith, less)
+
+full_at : (ds rest : Items) (b : Bool) → are_texts rest ≡ b → are_texts ds ≡ true → 65 ≤ items_len ds
+    → (if b then array (first_items 65 ds) else null) ≡ short_list (join_items ds rest)
+full_at ds rest true e texts long = let all : are_texts (join_items ds rest) ≡ true = join-are_texts ds rest texts ∙ e in
+    rw all (ap array (sym (first-join_items 65 ds rest long)))
+full_at ds rest false e texts long =
+    let some : are_texts (join_items ds rest) ≡ false = join-are_texts ds rest texts ∙ e in
+    rw (some, texts_no_nodes_behind ds rest texts (omega (arith, long)))
+
+pub settled_full : (ds rest : Items) (l : ShortList) → IsShort ds l → l.all_texts ≡ true → 65 ≤ length l.items.items
+    → settled l (are_texts rest) ≡ short_list (join_items ds rest)
+settled_full ds rest l h t long =
+    let texts : are_texts ds ≡ true = sym h.texts ∙ t in
+    let kept : items_view l.items.items ≡ first_items 65 ds = h.items ∙ rw texts refl in
+    let many : 65 ≤ items_len (first_items 65 ds) = subst (λ es. 65 ≤ items_len es) kept (omega (arith, items_len-items_view l.items.items, long)) in
+    rw t (ap (λ es. if are_texts rest then array es else null) kept ∙ full_at ds rest (are_texts rest) refl texts (omega (arith, many, first_at_most 65 ds)))

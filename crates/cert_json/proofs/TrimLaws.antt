@@ -96,7 +96,7 @@ first_all zero (item d ds) le = absurd (omega arith)
 first_all (suc n) no_items le = refl
 first_all (suc n) (item d ds) le = ap (item d) (first_all n ds (omega arith))
 
-first_len : (n : ℕ) (ds : Items) → n ≤ items_len ds → items_len (first_items n ds) ≡ n
+pub first_len : (n : ℕ) (ds : Items) → n ≤ items_len ds → items_len (first_items n ds) ≡ n
 first_len zero ds le = refl
 first_len (suc n) no_items le = absurd (omega arith)
 first_len (suc n) (item d ds) le = ap (λ k. suc k) (first_len n ds (omega arith))
@@ -134,7 +134,7 @@ node_no_text (string s) e = absurd (cc e)
 node_no_text (array ds) e = refl
 node_no_text (object ms) e = refl
 
-text_no_node : (d : Data) → is_some (as_str d) ≡ true → is_node d ≡ false
+pub text_no_node : (d : Data) → is_some (as_str d) ≡ true → is_node d ≡ false
 text_no_node null e = refl
 text_no_node (boolean b) e = refl
 text_no_node (number n) e = refl
@@ -162,7 +162,7 @@ short_nodes ds true n e f = rw e (texts_no_nodes 64 ds e ∙ f)
 short_nodes ds false true e f = rw (e, f) (first_nodes 4097 ds f)
 short_nodes ds false false e f = rw (e, f)
 
-trim-are_texts : (ds : Items) → are_texts (trim_items ds) ≡ are_texts ds
+pub trim-are_texts : (ds : Items) → are_texts (trim_items ds) ≡ are_texts ds
 trim-are_texts no_items = refl
 trim-are_texts (item d ds) = ap₂ (λ (s : Option (List ℕ)) (b : Bool). is_some s && b) (trim-text d) (trim-are_texts ds)
 

@@ -1,10 +1,13 @@
 -- The turns of the grammar's loops, under the conversion to data.
-use Rattle.std.proofs.Common.{◌≡◌, ℕ, zero, suc, ◌-◌, ◌<◌, ◌≤◌, List, [], ◌∷◌, length, Option, Some, None, option_map, option_and_then, refl, ap, ◌∙◌}
+use Rattle.std.proofs.Common.{◌≡◌, ℕ, zero, suc, ◌-◌, ◌<◌, ◌≤◌, List, [], ◌∷◌, length, Option, Some, None, option_map, option_and_then, true, false, refl, sym, ap, ◌∙◌}
 use Rattle.json.specs.Token.{Token}
 use Rattle.json.specs.Json as json
 use Rattle.json.specs.Json.{Parse, parse_map, after_end_array, read_key, items_step, items, members, if_last}
 use Rattle.json.proofs.Grammar.{items_end, items_more, members_end, members_no_key, members_more}
-use Rattle.serde_json.specs.Data.{Data, array, object, no_items, item, Members, no_members, put}
+use Rattle.std.specs.Prelude.{is_some}
+use Rattle.std.proofs.lemmas.Bool.{false≢true}
+use Rattle.serde_json.specs.Find.{as_str}
+use Rattle.serde_json.specs.Data.{Num, Data, number, array, object, no_items, item, Members, no_members, put}
 use Rattle.serde_json.specs.Read.{of_json, of_items, of_members, converted}
 
 abbrev pick : {A : Type 0} → A → Option A → A
@@ -20,6 +23,17 @@ pub converted_some : {A B : Type 0} (f : A → Option B) (o : Option (A × List 
     → (a : A) × (o ≡ Some (a, r)) × (f a ≡ Some b)
 converted_some f None b r e = absurd (cc)
 converted_some f (Some p) b r e = let both = found p.0 p.1 r (f p.0) b e in (p.0, ap (λ s. Some (p.0, s)) both.0, both.1)
+
+-- a number of JSON that is in range, and one that is not
+pub number_in_range : (o : Option Num) (r : List Token) → is_some o ≡ true
+    → (d : Data) × (option_map {U = Data × List Token} (λ e. (e, r)) (option_map number o) ≡ Some (d, r)) × (false ≡ is_some (as_str d))
+number_in_range None r e = absurd (false≢true e)
+number_in_range (Some n) r e = (number n, refl, refl)
+
+pub number_past_range : (o : Option Num) (r : List Token) → is_some o ≡ false
+    → option_map {U = Data × List Token} (λ e. (e, r)) (option_map number o) ≡ None
+number_past_range None r e = refl
+number_past_range (Some n) r e = absurd (false≢true (sym e))
 
 refused : {B : Type 0} (r : List Token) (x : Option B) → option_map {U = B × List Token} (λ y. (y, r)) x ≡ None → x ≡ None
 refused r None e = refl
@@ -56,6 +70,31 @@ without_member : (k : List ℕ) (j : json.Json) (old : Members) → of_json j �
     → converted (λ ms. of_members ms old) (parse_map (json.member k j) o) ≡ None
 without_member k j old e None = refl
 without_member k j old e (Some p) = rw e
+
+-- a token that closes a list, and one that does not
+pub list_ends : (t : Token) (ts : List Token) → is_some (after_end_array (t ∷ [])) ≡ true → after_end_array (t ∷ ts) ≡ Some ts
+list_ends Token.begin_object ts e = absurd (false≢true e)
+list_ends Token.end_object ts e = absurd (false≢true e)
+list_ends Token.begin_array ts e = absurd (false≢true e)
+list_ends Token.end_array ts e = refl
+list_ends (Token.key s) ts e = absurd (false≢true e)
+list_ends (Token.string s) ts e = absurd (false≢true e)
+list_ends (Token.number s) ts e = absurd (false≢true e)
+list_ends (Token.boolean b) ts e = absurd (false≢true e)
+list_ends Token.null ts e = absurd (false≢true e)
+list_ends Token.bad ts e = absurd (false≢true e)
+
+pub list_goes_on : (t : Token) (ts : List Token) → is_some (after_end_array (t ∷ [])) ≡ false → after_end_array (t ∷ ts) ≡ None
+list_goes_on Token.begin_object ts e = refl
+list_goes_on Token.end_object ts e = refl
+list_goes_on Token.begin_array ts e = refl
+list_goes_on Token.end_array ts e = absurd (false≢true (sym e))
+list_goes_on (Token.key s) ts e = refl
+list_goes_on (Token.string s) ts e = refl
+list_goes_on (Token.number s) ts e = refl
+list_goes_on (Token.boolean b) ts e = refl
+list_goes_on Token.null ts e = refl
+list_goes_on Token.bad ts e = refl
 
 module _ (p : Parse json.Json) where
   pub item_read : (n : ℕ) (ts r : List Token) (d : Data) → 0 < n → after_end_array ts ≡ None → converted of_json (p ts) ≡ Some (d, r)

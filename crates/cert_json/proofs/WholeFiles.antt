@@ -4,7 +4,7 @@ use Rattle.std.proofs.Common.{Equal, Greater, nat_cmp, refl, sym, ap, ap₂, ◌
 use Rattle.std.specs.Prelude.{⊤, option_and_then, is_some, codes}
 use Rattle.std.specs.Cmp.Lexicographic.{slice_cmp}
 use Rattle.std.specs.Ordering.{match_ordering, is_eq}
-use Rattle.std.proofs.lemmas.Bool.{and_parts, eqb-true, ltb-false, false≢true}
+use Rattle.std.proofs.lemmas.Bool.{and_parts, eqb-true, ltb-false, not-true, false≢true}
 use Rattle.std.proofs.lemmas.Map.Lookups.{exact_bytes}
 use Rattle.serde_json.specs.Data.{Data, null, boolean, number, string, array, object, Items, no_items, item, Members, no_members, member}
 use Rattle.serde_json.specs.Events.{items_len, members_len}
@@ -105,15 +105,11 @@ abbrev AreKept : List (List ℕ) → Members → Type 0
 AreKept [] ms = ⊤
 AreKept (k ∷ ks) ms = IsKept (get_member k ms) × AreKept ks ms
 
-negated : (b : Bool) → not b ≡ true → b ≡ false
-negated true e = absurd (false≢true e)
-negated false e = refl
-
 all_stay : (k : List ℕ) (ks : List (List ℕ)) (ms : Members) → apart_from k ks ≡ true → AreKept ks ms → AreKept ks (without k ms)
 all_stay k [] ms a h = tt
 all_stay k (j ∷ js) ms a h =
     let p = and_parts (not (is_eq (slice_cmp nat_cmp j k))) (apart_from k js) a in
-    (subst IsKept (sym (stays k j (negated _ p.0) ms)) h.0, all_stay k js ms p.1 h.1)
+    (subst IsKept (sym (stays k j (not-true _ p.0) ms)) h.0, all_stay k js ms p.1 h.1)
 
 all_kept : (ks : List (List ℕ)) (ms : Members) → all_apart ks ≡ true → AreKept ks ms → members_len ms ≡ length ks → trim_members ms ≡ ms
 all_kept [] no_members a h e = refl

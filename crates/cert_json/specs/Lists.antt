@@ -1,6 +1,6 @@
 -- Lists of values that grow at their end.
-use Rattle.std.specs.Prelude.{◌≡◌, ℕ, Bool, true, false, nat_lt, if◌then◌else◌}
-use Rattle.serde_json.specs.Data.{Data, Items, no_items, item}
+use Rattle.std.specs.Prelude.{◌≡◌, ℕ, Bool, true, false, ◌&&◌, nat_lt, if◌then◌else◌}
+use Rattle.serde_json.specs.Data.{Data, null, array, Items, no_items, item}
 use Rattle.serde_json.specs.Events.{items_len}
 use Rattle.serde_json.specs.View.{items_view}
 use Rattle.cert_json.specs.Shape.{are_texts, are_nodes}
@@ -29,3 +29,7 @@ pub record IsShort (ds : Items) (l : ShortList) : Type 0 where
   pub texts : l.all_texts ≡ are_texts ds
   pub nodes : l.all_nodes ≡ are_nodes ds
   pub items : items_view l.items.items ≡ short_items ds
+
+-- what becomes of a list of which what follows changes nothing, but whether all are texts
+abbrev pub settled : ShortList → Bool → Data
+settled l texts = if l.all_texts && texts then array (items_view l.items.items) else null

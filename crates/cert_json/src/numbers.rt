@@ -1,6 +1,6 @@
 //! The numbers of JSON.
 
-ghost use Rattle.std.specs.Prelude.{◌≡◌, ◌<◌, ◌≤◌, ◌==◌, ◌^◌, true, false, Some, length, IsTrue, IfSome, option_map, slice_index};
+ghost use Rattle.std.specs.Prelude.{◌≡◌, ◌<◌, ◌≤◌, ◌==◌, ◌^◌, true, false, Some, length, IsTrue, IfSome, is_some, option_map, slice_index};
 ghost use Rattle.serde_json.specs.Data.{unsigned as unsigned_number};
 ghost use Rattle.serde_json.specs.Read.{number_of as number_in, number_from, float_of};
 ghost use Rattle.serde_json.specs.View.{number_view};
@@ -84,5 +84,36 @@ pub fn number_of(text: &str) -> Option<Number>
     match number_of_digits(bytes) {
         Some(n) => Number::from_u128(n as u128),
         None => number_of_parts(bytes),
+    }
+}
+
+// Whether bytes are one digit.
+#[inline(always)]
+fn is_digit(bytes: &[u8]) -> bool
+    ensures { IsTrue result → is_some (number_in bytes.now) ≡ true }
+{
+    if bytes.len() != 1 {
+        return false;
+    }
+    if bytes[0] < b'0' {
+        return false;
+    }
+    if bytes[0] > b'9' {
+        return false;
+    }
+    true
+}
+
+/// Whether the number that a token of JSON writes is in range.
+#[inline(always)]
+pub fn is_in_range(text: &str) -> bool
+    ensures { result ≡ is_some (number_in text.now) }
+{
+    if is_digit(text.as_bytes()) {
+        return true;
+    }
+    match number_of(text) {
+        Some(_) => true,
+        None => false,
     }
 }

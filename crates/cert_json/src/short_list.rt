@@ -1,12 +1,12 @@
 //! Lists of which is kept what a certificate may have.
 
-ghost use Rattle.std.specs.Prelude.{◌≡◌, ◌&&◌, ◌||◌, is_some, OnOk};
+ghost use Rattle.std.specs.Prelude.{◌≡◌, ◌&&◌, ◌||◌, is_some, IsTrue, OnOk};
 ghost use Rattle.serde_json.specs.Data.{Items, no_items};
 ghost use Rattle.serde_json.specs.Find.{as_str};
 ghost use Rattle.serde_json.specs.View.{view, items_view};
-ghost use Rattle.cert_json.specs.Shape.{is_node as is_node_in};
+ghost use Rattle.cert_json.specs.Shape.{is_node as is_node_in, are_texts};
 ghost use Rattle.cert_json.specs.Trim.{short_list};
-ghost use Rattle.cert_json.specs.Lists.{IsShort, add_item, add_below, most_items};
+ghost use Rattle.cert_json.specs.Lists.{IsShort, join_items, add_item, add_below, most_items, settled};
 
 use crate::shape::is_node;
 use serde_json::Value;
@@ -44,8 +44,8 @@ fn note_item(list: &mut ShortList, value: &Value)
     list.all_nodes = list.all_nodes && is_node(value);
 }
 
-/// Whether anything is kept of a list.
-pub fn is_kept(list: &ShortList) -> bool
+// Whether anything is kept of a list.
+fn is_kept(list: &ShortList) -> bool
     ensures { result ≡ (list.now.all_texts || list.now.all_nodes) }
 {
     list.all_texts || list.all_nodes
@@ -78,6 +78,30 @@ pub fn add_to_list(list: &mut ShortList, value: Value) -> Result<(), AllocError>
         return Ok(());
     }
     push_below(&mut list.items, value, most_kept(list.all_texts))
+}
+
+/// Whether what follows changes nothing of what is kept, but that it may not all be texts.
+pub fn is_settled(list: &ShortList) -> bool
+    ensures { IsTrue result
+        → (ds rest : Items)
+        → IsShort ds list.now → settled list.now (are_texts rest) ≡ short_list (join_items ds rest) }
+{
+    if list.all_texts {
+        list.items.len() >= 65
+    } else {
+        !list.all_nodes
+    }
+}
+
+/// The list of what was kept of a settled one, or null where it is one of no texts, or not all that follows are texts.
+pub fn value_of_settled(list: ShortList, texts: bool) -> Value
+    ensures { view result ≡ settled list texts }
+{
+    if list.all_texts && texts {
+        Value::Array(list.items)
+    } else {
+        Value::Null
+    }
 }
 
 /// The list of what was kept, or null where it is neither one of texts nor one of nodes.

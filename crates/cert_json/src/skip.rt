@@ -1,60 +1,86 @@
 //! Passing over JSON of which nothing is kept.
 
-ghost use Rattle.std.specs.Prelude.{◌≡◌, ◌<◌, ◌≤◌, ℕ, length, false, Some, None, OnOk, is_ok};
-ghost use Rattle.json.specs.Json.{value, items, members};
+ghost use Rattle.std.specs.Prelude.{◌≡◌, ◌<◌, ◌≤◌, ◌∷◌, ℕ, [], length, false, Some, None, IfOk, OnOk, is_ok, is_some};
+ghost use Rattle.json.specs.Json.{after_end_array, value, items, members};
+ghost use Rattle.json.specs.Reads.{token_of};
 ghost use Rattle.serde_json.specs.Data.{Data, Items, Members, no_members};
+ghost use Rattle.serde_json.specs.Find.{as_str};
 ghost use Rattle.serde_json.specs.Read.{of_json, of_items, of_members, converted};
+ghost use Rattle.cert_json.specs.Shape.{are_texts};
 
-use crate::numbers::number_of;
+use crate::numbers::is_in_range;
 use json::{Invalid, Reader, Token};
 
+// Whether a token closes a list.
+#[inline(always)]
+fn is_end(token: &Token<'_>) -> bool
+    ensures { result ≡ is_some (after_end_array (token_of token.now ∷ [])) }
+{
+    matches!(token, Token::EndArray)
+}
+
+// Passes over the value that a token begins, and tells whether it is a text.
 #[cycle(skip)]
 #[inline(always)]
-fn skip(reader: &mut Reader<'_>, depth: usize) -> Result<(), Invalid>
-    ensures ok { OnOk result ((d : Data) × (converted of_json (value depth reader.old) ≡ Some (d, reader.new))) }
-    ensures shorter { OnOk result (length reader.new < length reader.old) }
-    ensures err { is_ok result ≡ false → converted of_json (value depth reader.old) ≡ None }
+fn skip_from(token: Token<'_>, reader: &mut Reader<'_>, depth: usize) -> Result<bool, Invalid>
+    ensures ok { IfOk result
+        (λ t. (d : Data)
+        × (converted of_json (value depth (token_of token.entry ∷ reader.old)) ≡ Some (d, reader.new))
+        × (t ≡ is_some (as_str d))) }
+    ensures shorter { OnOk result (length reader.new ≤ length reader.old) }
+    ensures err { is_ok result ≡ false → converted of_json (value depth (token_of token.entry ∷ reader.old)) ≡ None }
 {
-    let token = reader.next().ok_or(Invalid)?;
     match token {
-        Token::String(_) => Ok(()),
-        Token::Bool(_) => Ok(()),
-        Token::Null => Ok(()),
-        Token::Number(text) => match number_of(text) {
-            Some(_) => Ok(()),
-            None => Err(Invalid),
-        },
+        Token::String(_) => Ok(true),
+        Token::Bool(_) => Ok(false),
+        Token::Null => Ok(false),
+        Token::Number(text) => {
+            if is_in_range(text) {
+                Ok(false)
+            } else {
+                Err(Invalid)
+            }
+        }
         Token::EndObject | Token::EndArray | Token::Key(_) | Token::Bad => Err(Invalid),
         Token::BeginArray => {
             if depth == 0 {
                 return Err(Invalid);
             }
-            skip_items(reader, depth - 1)
+            skip_items(reader, depth - 1)?;
+            Ok(false)
         }
         Token::BeginObject => {
             if depth == 0 {
                 return Err(Invalid);
             }
-            skip_members(reader, depth - 1)
+            skip_members(reader, depth - 1)?;
+            Ok(false)
         }
     }
 }
 
-/// Passes over the items that are left of a list. It refuses what `serde_json` does not read.
+/// Passes over the items that are left of a list, and tells whether all are texts. It refuses what `serde_json` does not
+/// read.
 #[cycle(skip)]
 #[inline(never)]
-pub fn skip_items(reader: &mut Reader<'_>, depth: usize) -> Result<(), Invalid>
-    ensures ok { OnOk result
-        ((ds : Items)
-        × ((n : ℕ) → length reader.old ≤ n → converted of_items (items (value depth) n reader.old) ≡ Some (ds, reader.new))) }
+pub fn skip_items(reader: &mut Reader<'_>, depth: usize) -> Result<bool, Invalid>
+    ensures ok { IfOk result
+        (λ t. (ds : Items)
+        × ((n : ℕ) → length reader.old ≤ n → converted of_items (items (value depth) n reader.old) ≡ Some (ds, reader.new))
+        × (t ≡ are_texts ds)) }
     ensures shorter { OnOk result (length reader.new < length reader.old) }
     ensures err { is_ok result ≡ false
         → (n : ℕ) → length reader.old ≤ n → converted of_items (items (value depth) n reader.old) ≡ None }
 {
-    'items: while !reader.take_end_array() {
-        skip(reader, depth)?;
+    let mut texts = true;
+    'items: loop {
+        let token = reader.next().ok_or(Invalid)?;
+        if is_end(&token) {
+            return Ok(texts);
+        }
+        let is_text = skip_from(token, reader, depth)?;
+        texts = texts & is_text;
     }
-    Ok(())
 }
 
 #[cycle(skip)]
@@ -69,7 +95,8 @@ fn skip_members(reader: &mut Reader<'_>, depth: usize) -> Result<(), Invalid>
         → converted (λ es. of_members es no_members) (members (value depth) (length reader.old) reader.old) ≡ None }
 {
     'members: while let Some(_) = reader.next_key()? {
-        skip(reader, depth)?;
+        let token = reader.next().ok_or(Invalid)?;
+        skip_from(token, reader, depth)?;
     }
     Ok(())
 }

@@ -2,17 +2,17 @@
 
 ghost use Rattle.std.specs.Prelude.{◌≡◌, ◌<◌, length, Some, None, Err, IfOk, OnOk};
 ghost use Rattle.json.specs.Json.{value, items, members};
-ghost use Rattle.serde_json.specs.Data.{Data, Items, Members, no_members};
+ghost use Rattle.serde_json.specs.Data.{Data, Items, Members, no_members, put};
 ghost use Rattle.serde_json.specs.Read.{of_json, of_items, of_members, converted, read as read_text};
 ghost use Rattle.serde_json.specs.View.{view, members_view};
 ghost use Rattle.cert_json.specs.Trim.{trim, trim_items, trim_members, short_list};
 
 use crate::numbers::number_of;
-use crate::short_list::{add_to_list, empty_list, is_kept, value_of_list};
+use crate::short_list::{add_to_list, empty_list, is_settled, value_of_list, value_of_settled};
 use crate::skip::skip_items;
 use json::{Invalid, Reader, Scratch, Token};
 use serde_json::{Map, Value};
-use std::alloc::{AllocError, AllocFailed, Global};
+use std::alloc::{AllocError, Global};
 
 /// Why no value is read.
 #[derive(Clone, Copy, Drop)]
@@ -45,15 +45,26 @@ impl From<AllocError> for Fault {
     }
 }
 
-impl<T: Drop> From<AllocFailed<T>> for Fault {
-    ghost use Rattle.cert_json.specs.declared.trim.Fault.TheVariants.{NoMemory};
-    ghost use Rattle.std.specs.Prelude.{◌≡◌};
-
-    ghost from_gives = { λ _ e. e ≡ NoMemory };
-
-    fn from(_refused: AllocFailed<T>) -> Fault {
-        Fault::NoMemory
+// Puts a member in, over the value of its name where there is one.
+#[inline(always)]
+fn put_member(
+    alloc: Global,
+    found: &mut Map<String, Value>,
+    name: &str,
+    member: Value,
+) -> Result<(), AllocError>
+    ensures { OnOk result (members_view found.new.entries ≡ put name.now (view member) (members_view found.old.entries)) }
+{
+    match found.get_mut(name) {
+        Some(place) => {
+            *place = member;
+            return Ok(());
+        }
+        None => {}
     }
+    let key = String::from_str(alloc, name)?;
+    drop(found.insert(key, member)?);
+    Ok(())
 }
 
 #[cycle(read)]
@@ -102,9 +113,9 @@ fn read_items(alloc: Global, reader: &mut Reader<'_>, depth: usize) -> Result<Va
     'items: while !reader.take_end_array() {
         let item = read(alloc, reader, depth)?;
         add_to_list(&mut found, item)?;
-        if !is_kept(&found) {
-            skip_items(reader, depth)?;
-            return Ok(Value::Null);
+        if is_settled(&found) {
+            let texts = skip_items(reader, depth)?;
+            return Ok(value_of_settled(found, texts));
         }
     }
     Ok(value_of_list(found))
@@ -127,9 +138,8 @@ fn read_members(
 {
     let mut found = Map::new(alloc);
     'members: while let Some(name) = reader.next_key()? {
-        let key = String::from_str(alloc, name)?;
         let member = read(alloc, reader, depth)?;
-        drop(found.insert(key, member)?);
+        put_member(alloc, &mut found, name, member)?;
     }
     Ok(found)
 }

@@ -2,11 +2,12 @@ use Rattle.std.proofs.Common.{◌≡◌, ℕ, ◌+◌, ◌*◌, ◌≤◌, lengt
 use Rattle.json.specs.Json.{items, members, value, parse_map}
 use Rattle.serde_json.specs.Data.{Items, Members, no_members}
 use Rattle.serde_json.specs.Read.{of_items, of_members, converted}
+use Rattle.cert_json.specs.Shape.{are_texts}
 use Rattle.cert_json.specs.Lists.{join_items}
 use Rattle.cert_json.proofs.skip.+skip.Given as goal
 
-abbrev pub decreases-skip : goal.decreases-skip
-decreases-skip l = 2 * l.depth
+abbrev pub decreases-skip_from : goal.decreases-skip_from
+decreases-skip_from l = 2 * l.depth
 
 abbrev pub decreases-skip_items : goal.decreases-skip_items
 decreases-skip_items l = 2 * l.depth + 1
@@ -20,6 +21,7 @@ invariant-skip_items-items l =
     × ((n : ℕ) → length l.initial.reader ≤ n
     → (m : ℕ) × (length l.reader ≤ m)
     × (converted of_items (items (value l.depth) n l.initial.reader) ≡ parse_map (join_items ds) (converted of_items (items (value l.depth) m l.reader))))
+    × (l.texts ≡ are_texts ds)
     × (length l.reader ≤ length l.initial.reader)
 
 abbrev pub decreases-skip_items-items : goal.decreases-skip_items-items

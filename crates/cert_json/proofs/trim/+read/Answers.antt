@@ -1,4 +1,4 @@
-use Rattle.std.proofs.Common.{◌≡◌, ◌-◌, ◌<◌, ◌≤◌, [], subst, refl, ◌∷◌, length, Some, None, string_bytes, sym, ap, ap₂, ◌∙◌, arith, rules}
+use Rattle.std.proofs.Common.{◌≡◌, ◌-◌, ◌<◌, ◌≤◌, [], subst, refl, ◌∷◌, length, Some, None, sym, ap, ap₂, ◌∙◌, arith, rules}
 use Rattle.json.specs.Token.{Token}
 use Rattle.json.specs.Json.{parse_map, after_end_array, read_key, items, members, value}
 use Rattle.json.specs.Reads.{token_of}
@@ -7,13 +7,15 @@ use Rattle.serde_json.specs.Data.{null, boolean, number, string, array, object, 
 use Rattle.serde_json.specs.Read.{of_json, of_items, converted}
 use Rattle.serde_json.specs.View.{view, number_view, members_view}
 use Rattle.serde_json.specs.declared.value.Value.{String, Number, Bool, Null, the_lemmas}
-use Rattle.serde_json.proofs.Views.{view-Object, members_view-insert_entry}
+use Rattle.serde_json.proofs.Views.{view-Object}
 use Rattle.serde_json.specs.Data.{no_members}
 use Rattle.cert_json.specs.Trim.{trim_items, short_list}
-use Rattle.cert_json.specs.Lists.{join_items, add_item, IsShort}
+use Rattle.cert_json.specs.Lists.{join_items, add_item, IsShort, settled}
+use Rattle.cert_json.specs.Shape.{are_texts}
+use Rattle.cert_json.proofs.TrimLaws.{trim-are_texts}
 use Rattle.cert_json.proofs.Turns.{converted-array, converted-object, item_read, item_refused, items_over, member_read, member_refused, key_refused}
 use Rattle.cert_json.proofs.Turns.{members_over}
-use Rattle.cert_json.proofs.ListLaws.{join-no_items, none_before, one_more_item, trim-add_item, trim-put, trim-join_items, null_joined}
+use Rattle.cert_json.proofs.ListLaws.{join-no_items, none_before, one_more_item, trim-add_item, trim-put, trim-join_items}
 use Rattle.cert_json.proofs.trim.+read.Goals as goal
 
 pub read-returns-in_err-token-clause-err : goal.read-returns-in_err-token-clause-err
@@ -156,8 +158,8 @@ read_items-items-preserved t c =
       omega (arith, l.invariant.5),
     )
 
-pub read_items-returns-in_err-skip_items-clause-err : goal.read_items-returns-in_err-skip_items-clause-err
-read_items-returns-in_err-skip_items-clause-err t c refused =
+pub read_items-returns-in_err-texts-clause-err : goal.read_items-returns-in_err-texts-clause-err
+read_items-returns-in_err-texts-clause-err t c refused =
     let p = value c.args.depth in
     let l = c.items in
     let n = l.invariant.0 in
@@ -171,8 +173,8 @@ read_items-returns-in_err-skip_items-clause-err t c refused =
     let enough : length r ≤ n - 1 = omega (arith, l.invariant.1) in
     l.invariant.3 ∙ ap (parse_map (join_items ds)) (turn ∙ ap (parse_map (item d)) (c.skip_items.ensures.err (grind arith) (n - 1) enough))
 
-pub read_items-returns-then-not-is_kept-clause-ok : goal.read_items-returns-then-not-is_kept-clause-ok
-read_items-returns-then-not-is_kept-clause-ok t c =
+pub read_items-returns-then-is_settled-clause-ok : goal.read_items-returns-then-is_settled-clause-ok
+read_items-returns-then-is_settled-clause-ok t c =
     let p = value c.args.depth in
     let l = c.items in
     let n = l.invariant.0 in
@@ -187,12 +189,12 @@ read_items-returns-then-not-is_kept-clause-ok t c =
     let enough : length r ≤ n - 1 = omega (arith, l.invariant.1) in
     let same : add_item (trim_items ds) (view c.in_ok-item.item) ≡ trim_items more = ap (add_item (trim_items ds)) done.ok.2 ∙ sym (trim-add_item ds d) in
     let short = subst (λ es. IsShort es c.add_to_list.new.list) same (c.in_ok-add_to_list.ensures (trim_items ds) l.invariant.4) in
-    let left = c.in_ok-skip_items.ensures.ok in
-    let seen : view (Null) ≡ null = search (rules, the_lemmas) in (
+    let left = c.in_ok-texts.ensures.ok in
+    let texts : c.in_ok-texts.texts ≡ are_texts (trim_items left.0) = left.2 ∙ sym (trim-are_texts left.0) in (
       join_items more left.0,
       l.invariant.3 ∙ ap (parse_map (join_items ds)) turn ∙ one_more_item ds d (converted of_items (items p (n - 1) r))
           ∙ ap (parse_map (join_items more)) (left.1 (n - 1) enough),
-      seen ∙ null_joined (trim_items more) (trim_items left.0) _ _ short.texts short.nodes (sym c.if-not-is_kept.ensures)
+      c.value_of_settled.ensures ∙ ap (settled c.add_to_list.new.list) texts ∙ c.if-is_settled.ensures refl (trim_items more) (trim_items left.0) short
           ∙ ap short_list (sym (trim-join_items more left.0)),
     )
 
@@ -247,10 +249,7 @@ read_members-members-preserved t c =
     let d = done.ok.0 in
     let less = read_key-shorter l.reader (Some k) s named in
     let lesser = done.shorter in
-    let copied : string_bytes c.in_ok-key.key ≡ k = search rules in
-    let inserted : members_view c.insert.new.self.entries ≡ put k (view v) (members_view l.found.entries) =
-    ap members_view c.in_ok-insert.ensures.entries ∙ members_view-insert_entry l.found.entries c.in_ok-key.key v
-    ∙ ap (λ name. put name (view v) (members_view l.found.entries)) copied in (
+    let inserted : members_view c.put_member.new.found.entries ≡ put k (view v) (members_view l.found.entries) = c.in_ok-put_member.ensures in (
       n - 1,
       omega (arith, l.invariant.1),
       put k d old,
