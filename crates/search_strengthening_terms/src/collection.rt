@@ -127,6 +127,15 @@ impl<'p> Collection<'p> {
         false
     }
 
+    // Adds a form, unless it mentions what is no position.
+    fn push_form(&mut self, alloc: Global, form: Nf) -> Result<(), NoMemory> {
+        match places_in(alloc, self.positions, &form)? {
+            Some(places) => self.terms.push(Term { form, places })?,
+            None => {}
+        }
+        Ok(())
+    }
+
     /// Adds a form, unless it is there, it is past a bound, or it mentions what is no position. The one refusal is out of memory.
     pub fn add_form(&mut self, alloc: Global, form: Nf) -> Result<(), NoMemory> {
         if self.terms.len() >= TERM_LIMIT
@@ -135,10 +144,7 @@ impl<'p> Collection<'p> {
         {
             return Ok(());
         }
-        if let Some(places) = places_in(alloc, self.positions, &form)? {
-            self.terms.push(Term { form, places })?;
-        }
-        Ok(())
+        self.push_form(alloc, form)
     }
 
     /// Adds a literal, unless it is there, it is true or false, or it is past a bound. The one refusal is out of memory.

@@ -4,7 +4,7 @@ use nf_terms::stop::{NfStop, NoMemory};
 use std::alloc::{AllocError, AllocFailed};
 
 /// Why a search is broken off.
-#[derive(Clone, Copy, Debug)]
+#[derive(Clone, Copy)]
 pub enum Stop {
     /// A bound of its work is reached.
     Bound,
@@ -36,5 +36,14 @@ pub fn unless_stopped<T: Drop>(outcome: Result<T, NfStop>) -> Result<Option<T>, 
         Ok(value) => Ok(Some(value)),
         Err(NfStop::NoMemory) => Err(NoMemory),
         Err(NfStop::Wide { .. } | NfStop::Large { .. }) => Ok(None),
+    }
+}
+
+/// What an operation on normal forms gives. `Bound` comes where it is not narrow, or not small.
+pub fn within_limits<T: Drop>(outcome: Result<T, NfStop>) -> Result<T, Stop> {
+    match outcome {
+        Ok(value) => Ok(value),
+        Err(NfStop::NoMemory) => Err(Stop::NoMemory),
+        Err(NfStop::Wide { .. } | NfStop::Large { .. }) => Err(Stop::Bound),
     }
 }

@@ -100,6 +100,34 @@ fn add_both(alloc: Global, all: &mut Collection<'_>, l: NLit) -> Result<(), NoMe
     add_near(alloc, all, negation)
 }
 
+// Adds the literal that two numbers are in a relation.
+fn add_related(
+    alloc: Global,
+    all: &mut Collection<'_>,
+    relation: Rel,
+    left: &Poly,
+    right: &Poly,
+) -> Result<(), NoMemory> {
+    match unless_stopped(literal(alloc, relation, left, right))? {
+        Some(found) => add_both(alloc, all, found),
+        None => Ok(()),
+    }
+}
+
+// Adds the literal of a guard whose left side has this value.
+fn add_compared(
+    alloc: Global,
+    all: &mut Collection<'_>,
+    side: Side,
+    left: &Poly,
+    l: &Lit<VarId>,
+) -> Result<(), NoMemory> {
+    match unless_stopped(evaluate(alloc, side, all.own_symbols(), &l.right))? {
+        Some(right) => add_related(alloc, all, l.rel, left, &right),
+        None => Ok(()),
+    }
+}
+
 // Adds the literal of a guard.
 fn add_literal(
     alloc: Global,
@@ -107,14 +135,8 @@ fn add_literal(
     side: Side,
     l: &Lit<VarId>,
 ) -> Result<(), NoMemory> {
-    let Some(left) = unless_stopped(evaluate(alloc, side, all.own_symbols(), &l.left))? else {
-        return Ok(());
-    };
-    let Some(right) = unless_stopped(evaluate(alloc, side, all.own_symbols(), &l.right))? else {
-        return Ok(());
-    };
-    match unless_stopped(literal(alloc, l.rel, &left, &right))? {
-        Some(found) => add_both(alloc, all, found),
+    match unless_stopped(evaluate(alloc, side, all.own_symbols(), &l.left))? {
+        Some(left) => add_compared(alloc, all, side, &left, l),
         None => Ok(()),
     }
 }

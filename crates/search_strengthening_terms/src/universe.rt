@@ -4,7 +4,7 @@ use crate::collection::Collection;
 use crate::stop::unless_stopped;
 use crate::subterms::{add_expr, add_literals};
 use fs_ast::machine::Machine;
-use fs_model::parts::{Assign, Branch, StateId, VarId};
+use fs_model::parts::{Assign, Branch, Expr, StateId, VarId};
 use fs_pair::positions::Pairing;
 use nf_arrays::writes::write;
 use nf_rel::literals::NLit;
@@ -80,23 +80,32 @@ fn add_writes(
     }
 }
 
-// Adds what a write has: the subterms of its index and its value, and the arrays that it leaves.
+// Adds the arrays that a write to an index with this value leaves.
+fn add_put_at(
+    alloc: Global,
+    all: &mut Collection<'_>,
+    array: Pos,
+    index: &Poly,
+    e: &Expr<VarId>,
+) -> Result<(), NoMemory> {
+    match unless_stopped(evaluate(alloc, array.side, all.own_symbols(), e))? {
+        Some(value) => add_writes(alloc, all, array, index, &value),
+        None => Ok(()),
+    }
+}
+
+// Adds the arrays that a write leaves.
 fn add_put(
     alloc: Global,
     all: &mut Collection<'_>,
-    side: Side,
-    assign: &Assign<VarId>,
+    array: Pos,
+    i: &Expr<VarId>,
+    e: &Expr<VarId>,
 ) -> Result<(), NoMemory> {
-    let Assign::Put(x, i, e) = assign else {
-        return Ok(());
-    };
-    let Some(index) = unless_stopped(evaluate(alloc, side, all.own_symbols(), i))? else {
-        return Ok(());
-    };
-    let Some(value) = unless_stopped(evaluate(alloc, side, all.own_symbols(), e))? else {
-        return Ok(());
-    };
-    add_writes(alloc, all, Pos { side, var: x.0 }, &index, &value)
+    match unless_stopped(evaluate(alloc, array.side, all.own_symbols(), i))? {
+        Some(index) => add_put_at(alloc, all, array, &index, e),
+        None => Ok(()),
+    }
 }
 
 // Adds what an assignment has.
@@ -108,10 +117,10 @@ fn add_assign(
 ) -> Result<(), NoMemory> {
     match assign {
         Assign::Set(_, e) | Assign::Emit(_, e) => add_expr(alloc, all, side, e),
-        Assign::Put(_, i, e) => {
+        Assign::Put(x, i, e) => {
             add_expr(alloc, all, side, i)?;
             add_expr(alloc, all, side, e)?;
-            add_put(alloc, all, side, assign)
+            add_put(alloc, all, Pos { side, var: x.0 }, i, e)
         }
     }
 }
@@ -156,6 +165,19 @@ fn add_machine(
     Ok(())
 }
 
+// Adds the symbols of positions, 0 of each sort, and what two machines have.
+fn add_all(
+    alloc: Global,
+    all: &mut Collection<'_>,
+    a: &Machine,
+    b: &Machine,
+) -> Result<(), NoMemory> {
+    add_positions(alloc, all)?;
+    add_zeros(alloc, all)?;
+    add_machine(alloc, all, Side::Left, a)?;
+    add_machine(alloc, all, Side::Right, b)
+}
+
 /// The universe of two machines: the symbols of their positions; 0, the array that is 0 everywhere and the empty list; each
 /// term of a right side, an index or a guard that has an operator, in its machine's symbols; for each write the arrays of its
 /// name, of either machine, after it; each literal of a guard and its negation, and of `>=` and `<=` also the ones whose bound
@@ -168,9 +190,6 @@ pub fn universe_of(
     p: &Pairing,
 ) -> Result<Universe, NoMemory> {
     let mut all = Collection::new(alloc, p.positions());
-    add_positions(alloc, &mut all)?;
-    add_zeros(alloc, &mut all)?;
-    add_machine(alloc, &mut all, Side::Left, a)?;
-    add_machine(alloc, &mut all, Side::Right, b)?;
+    add_all(alloc, &mut all, a, b)?;
     Ok(all.into_universe())
 }
