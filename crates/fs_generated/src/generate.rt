@@ -9,7 +9,7 @@ ghost use Rattle.fs_generated.specs.Generated.{declaration, declarations, entry_
 ghost use Rattle.fs_generated.specs.Sides.{round_of};
 
 use crate::names::{entry_name, short_name};
-use crate::parts::one;
+use crate::parts::{one, two, with_last};
 use crate::states::{Side, states};
 use fs_ast::build::BuildError;
 use fs_ast::machine::Machine;
@@ -61,11 +61,11 @@ fn parts(alloc: Global, states: Vec<RawState>) -> Result<Parts, NoMemory>
           states = map source_state_of states.items;
         }) }
 {
-    let decls = declarations(alloc)?;
+    let reset = entry_name(alloc, 0)?;
     Ok(Parts {
-        decls,
+        decls: declarations(alloc)?,
         reset_line: 1,
-        reset: entry_name(alloc, 0)?,
+        reset,
         states,
     })
 }
@@ -73,11 +73,9 @@ fn parts(alloc: Global, states: Vec<RawState>) -> Result<Parts, NoMemory>
 fn declarations(alloc: Global) -> Result<Vec<Decl>, NoMemory>
     ensures { IfOk result (λ out. map declaration_of out.items ≡ declarations) }
 {
-    let mut out = Vec::new(alloc);
-    out.push(declaration(Role::Input, inputs(alloc)?))?;
-    out.push(declaration(Role::Output, one(alloc, short_name(alloc, b'y')?)?))?;
-    out.push(declaration(Role::Local, locals(alloc)?))?;
-    Ok(out)
+    let inputs = declaration(Role::Input, inputs(alloc)?);
+    let ports = two(alloc, inputs, declaration(Role::Output, outputs(alloc)?))?;
+    with_last(ports, declaration(Role::Local, locals(alloc)?))
 }
 
 // The declaration of scalars.
@@ -95,16 +93,20 @@ fn declaration(role: Role, names: Vec<Name>) -> Decl
 fn inputs(alloc: Global) -> Result<Vec<Name>, NoMemory>
     ensures { IfOk result (λ out. out.items ≡ codes "a" ∷ codes "b" ∷ []) }
 {
-    let mut out = one(alloc, short_name(alloc, b'a')?)?;
-    out.push(short_name(alloc, b'b')?)?;
-    Ok(out)
+    let first = short_name(alloc, b'a')?;
+    two(alloc, first, short_name(alloc, b'b')?)
+}
+
+fn outputs(alloc: Global) -> Result<Vec<Name>, NoMemory>
+    ensures { IfOk result (λ out. out.items ≡ codes "y" ∷ []) }
+{
+    one(alloc, short_name(alloc, b'y')?)
 }
 
 fn locals(alloc: Global) -> Result<Vec<Name>, NoMemory>
     ensures { IfOk result (λ out. out.items ≡ codes "i" ∷ codes "s" ∷ codes "t" ∷ []) }
 {
-    let mut out = one(alloc, short_name(alloc, b'i')?)?;
-    out.push(short_name(alloc, b's')?)?;
-    out.push(short_name(alloc, b't')?)?;
-    Ok(out)
+    let first = short_name(alloc, b'i')?;
+    let both = two(alloc, first, short_name(alloc, b's')?)?;
+    with_last(both, short_name(alloc, b't')?)
 }

@@ -1,6 +1,6 @@
 //! Expressions, assignments and transitions.
 
-ghost use Rattle.std.specs.Prelude.{◌≡◌, ◌∷◌, [], true, map, IfOk, Some, None};
+ghost use Rattle.std.specs.Prelude.{◌≡◌, ◌∷◌, ◌++◌, [], true, map, IfOk, Some, None};
 ghost use Rattle.fs_model.specs.Words.{is_name};
 ghost use Rattle.fs_model.specs.Terms.{Variable, Sum};
 ghost use Rattle.fs_model.specs.View.{named_term, named_guard, named_assignment, source_transition_of};
@@ -8,7 +8,7 @@ ghost use Rattle.fs_generated.specs.Generated.{letter_assignment, transition, tu
 ghost use Rattle.fs_generated.specs.Generated.{take_summand};
 
 use crate::names::short_name;
-use fs_model::memory::put_in_box;
+use fs_model::memory::both_boxed;
 use fs_model::name::{Name, NoMemory};
 use fs_model::parts::{Assign, Expr, Guard, Lit, RawLine, Rel};
 use std::alloc::Global;
@@ -25,8 +25,7 @@ fn sum(alloc: Global, letter: u8, value: Expr<Name>) -> Result<Expr<Name>, NoMem
     requires { is_name (letter ∷ []) ≡ true }
     ensures { IfOk result (λ e. named_term e ≡ Sum (Variable (letter ∷ [])) (named_term value)) }
 {
-    let value = put_in_box(alloc, value)?;
-    let own = put_in_box(alloc, variable(alloc, letter)?)?;
+    let (own, value) = both_boxed(alloc, variable(alloc, letter)?, value)?;
     Ok(Expr::Add(own, value))
 }
 
@@ -62,8 +61,7 @@ pub fn add_to_sum(alloc: Global, value: Expr<Name>) -> Result<Assign<Name>, NoMe
 pub fn count_down(alloc: Global) -> Result<Assign<Name>, NoMemory>
     ensures { IfOk result (λ a. named_assignment a ≡ count_down) }
 {
-    let one = put_in_box(alloc, Expr::Num(1))?;
-    let own = put_in_box(alloc, variable(alloc, b'i')?)?;
+    let (own, one) = both_boxed(alloc, variable(alloc, b'i')?, Expr::Num(1))?;
     assign(alloc, b'i', Expr::Sub(own, one))
 }
 
@@ -103,10 +101,24 @@ pub fn turn(alloc: Global, target: Name, assigns: Vec<Assign<Name>>) -> Result<R
     })
 }
 
+// The items with one more behind them.
+pub fn with_last<T: Drop>(items: Vec<T>, item: T) -> Result<Vec<T>, NoMemory>
+    ensures { IfOk result (λ out. out.items ≡ items.items ++ item ∷ []) }
+{
+    let mut out = items;
+    out.push(item)?;
+    Ok(out)
+}
+
 pub fn one<T: Drop>(alloc: Global, item: T) -> Result<Vec<T>, NoMemory>
     ensures { IfOk result (λ out. out.items ≡ item ∷ []) }
 {
-    let mut out = Vec::new(alloc);
-    out.push(item)?;
-    Ok(out)
+    with_last(Vec::new(alloc), item)
+}
+
+pub fn two<T: Drop>(alloc: Global, first: T, second: T) -> Result<Vec<T>, NoMemory>
+    ensures { IfOk result (λ out. out.items ≡ first ∷ second ∷ []) }
+{
+    let out = one(alloc, first)?;
+    with_last(out, second)
 }

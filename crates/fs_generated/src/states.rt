@@ -1,14 +1,18 @@
 //! The states of both machines.
 
-ghost use Rattle.std.specs.Prelude.{◌≡◌, ◌<◌, ◌≤◌, ◌∷◌, [], map, IfOk};
+ghost use Rattle.std.specs.Prelude.{◌≡◌, ◌<◌, ◌≤◌, ◌+◌, ◌∷◌, ◌++◌, [], true, map, codes, None, IfOk};
+ghost use Rattle.fs_model.specs.Words.{is_name};
+ghost use Rattle.fs_model.specs.Terms.{Variable};
 ghost use Rattle.fs_model.specs.View.{named_assignment, source_transition_of, source_state_of};
 ghost use Rattle.fs_generated.specs.Generated.{state, entry_name, head_name, body_name, summand, take_summand, add_to_sum};
 ghost use Rattle.fs_generated.specs.Generated.{count_down, entry_state, head, body_state, last_state, generated_states};
+ghost use Rattle.fs_generated.specs.Generated.{letter_assignment, transition, left_round, right_round};
 ghost use Rattle.fs_generated.specs.Sides.{round_of};
 
 use crate::names::{body_name, entry_name, head_name};
 use crate::parts::{
     add_to_sum, assign, count_down, one, summand, take_summand, transition, turn, variable,
+    with_last,
 };
 use fs_model::name::{Name, NoMemory};
 use fs_model::parts::{Assign, RawLine, RawState};
@@ -31,14 +35,55 @@ fn state(name: Name, lines: Vec<RawLine>) -> RawState
     }
 }
 
+// A state with one transition, which is always taken.
+fn plain_state(
+    alloc: Global,
+    name: Name,
+    target: Name,
+    assigns: Vec<Assign<Name>>,
+) -> Result<RawState, NoMemory>
+    ensures { IfOk result
+        (λ s. source_state_of s ≡ state name (transition None target (map named_assignment assigns.items) ∷ [])) }
+{
+    let lines = one(alloc, transition(target, assigns))?;
+    Ok(state(name, lines))
+}
+
+// An assignment of one variable to another.
+fn copy(alloc: Global, to: u8, from: u8) -> Result<Vec<Assign<Name>>, NoMemory>
+    requires to { is_name (to ∷ []) ≡ true }
+    requires from { is_name (from ∷ []) ≡ true }
+    ensures { IfOk result
+        (λ out. map named_assignment out.items ≡ letter_assignment to (Variable (from ∷ [])) ∷ []) }
+{
+    one(alloc, assign(alloc, to, variable(alloc, from)?)?)
+}
+
 // The state with which a round begins.
 fn entry(alloc: Global, k: u32) -> Result<RawState, NoMemory>
     ensures { IfOk result (λ s. source_state_of s ≡ entry_state k) }
 {
-    let assigns = one(alloc, assign(alloc, b'i', variable(alloc, b'a')?)?)?;
+    let name = entry_name(alloc, k)?;
     let target = head_name(alloc, k)?;
-    let lines = one(alloc, transition(target, assigns))?;
-    Ok(state(entry_name(alloc, k)?, lines))
+    plain_state(alloc, name, target, copy(alloc, b'i', b'a')?)
+}
+
+// The way from a round to the next.
+fn next_round(alloc: Global, k: u32) -> Result<RawLine, NoMemory>
+    requires { k < 300 }
+    ensures { IfOk result (λ l. source_transition_of l ≡ transition None (entry_name (k + 1)) []) }
+{
+    Ok(transition(entry_name(alloc, k + 1)?, Vec::new(alloc)))
+}
+
+// Transitions, and behind them the way from a round to the next.
+fn head_lines(alloc: Global, k: u32, lines: Vec<RawLine>) -> Result<Vec<RawLine>, NoMemory>
+    requires { k < 300 }
+    ensures { IfOk result
+        (λ out. map source_transition_of out.items ≡ map source_transition_of lines.items
+        ++ transition None (entry_name (k + 1)) [] ∷ []) }
+{
+    with_last(lines, next_round(alloc, k)?)
 }
 
 // The head of a round's loop, where a turn goes to `target`.
@@ -51,10 +96,15 @@ fn head(
     requires { k < 300 }
     ensures { IfOk result (λ s. source_state_of s ≡ head k target (map named_assignment assigns.items)) }
 {
-    let mut lines = one(alloc, turn(alloc, target, assigns)?)?;
-    let next = entry_name(alloc, k + 1)?;
-    lines.push(transition(next, Vec::new(alloc)))?;
+    let lines = head_lines(alloc, k, one(alloc, turn(alloc, target, assigns)?)?)?;
     Ok(state(head_name(alloc, k)?, lines))
+}
+
+// The assignment with which a turn begins.
+fn turn_start(alloc: Global, k: u32) -> Result<Vec<Assign<Name>>, NoMemory>
+    ensures { IfOk result (λ out. map named_assignment out.items ≡ take_summand k ∷ []) }
+{
+    one(alloc, take_summand(alloc, k)?)
 }
 
 // The left machine's head: a turn begins.
@@ -62,8 +112,33 @@ fn left_head(alloc: Global, k: u32) -> Result<RawState, NoMemory>
     requires { k < 300 }
     ensures { IfOk result (λ s. source_state_of s ≡ head k (body_name k) (take_summand k ∷ [])) }
 {
-    let assigns = one(alloc, take_summand(alloc, k)?)?;
-    head(alloc, k, body_name(alloc, k)?, assigns)
+    let target = body_name(alloc, k)?;
+    head(alloc, k, target, turn_start(alloc, k)?)
+}
+
+// `s = s + b + k`
+fn add_summand(alloc: Global, k: u32) -> Result<Assign<Name>, NoMemory>
+    ensures { IfOk result (λ a. named_assignment a ≡ add_to_sum (summand k)) }
+{
+    add_to_sum(alloc, summand(alloc, k)?)
+}
+
+// Assignments, and behind them `i = i - 1`.
+fn with_count_down(alloc: Global, assigns: Vec<Assign<Name>>) -> Result<Vec<Assign<Name>>, NoMemory>
+    ensures { IfOk result
+        (λ out. map named_assignment out.items ≡ map named_assignment assigns.items ++ count_down ∷ []) }
+{
+    with_last(assigns, count_down(alloc)?)
+}
+
+// The assignments of a whole turn.
+fn whole_turn(alloc: Global, k: u32) -> Result<Vec<Assign<Name>>, NoMemory>
+    ensures { IfOk result
+        (λ out. map named_assignment out.items ≡ take_summand k ∷ add_to_sum (summand k) ∷ count_down ∷ []) }
+{
+    let start = turn_start(alloc, k)?;
+    let sums = with_last(start, add_summand(alloc, k)?)?;
+    with_count_down(alloc, sums)
 }
 
 // The right machine's head: a whole turn.
@@ -72,31 +147,54 @@ fn right_head(alloc: Global, k: u32) -> Result<RawState, NoMemory>
     ensures { IfOk result
         (λ s. source_state_of s ≡ head k (head_name k) (take_summand k ∷ add_to_sum (summand k) ∷ count_down ∷ [])) }
 {
-    let mut assigns = one(alloc, take_summand(alloc, k)?)?;
-    assigns.push(add_to_sum(alloc, summand(alloc, k)?)?)?;
-    assigns.push(count_down(alloc)?)?;
-    head(alloc, k, head_name(alloc, k)?, assigns)
+    let target = head_name(alloc, k)?;
+    head(alloc, k, target, whole_turn(alloc, k)?)
+}
+
+// The assignments that end a turn.
+fn rest_of_turn(alloc: Global) -> Result<Vec<Assign<Name>>, NoMemory>
+    ensures { IfOk result
+        (λ out. map named_assignment out.items ≡ add_to_sum (Variable (codes "t")) ∷ count_down ∷ []) }
+{
+    let sum = one(alloc, add_to_sum(alloc, variable(alloc, b't')?)?)?;
+    with_count_down(alloc, sum)
 }
 
 // The body of the left machine's loop: the rest of a turn.
 fn body(alloc: Global, k: u32) -> Result<RawState, NoMemory>
     ensures { IfOk result (λ s. source_state_of s ≡ body_state k) }
 {
-    let mut assigns = one(alloc, add_to_sum(alloc, variable(alloc, b't')?)?)?;
-    assigns.push(count_down(alloc)?)?;
+    let name = body_name(alloc, k)?;
     let target = head_name(alloc, k)?;
-    let lines = one(alloc, transition(target, assigns))?;
-    Ok(state(body_name(alloc, k)?, lines))
+    plain_state(alloc, name, target, rest_of_turn(alloc)?)
 }
 
 // The state that returns.
 fn last(alloc: Global, n: u32) -> Result<RawState, NoMemory>
     ensures { IfOk result (λ s. source_state_of s ≡ last_state n) }
 {
-    let assigns = one(alloc, assign(alloc, b'y', variable(alloc, b's')?)?)?;
+    let name = entry_name(alloc, n)?;
     let target = entry_name(alloc, 0)?;
-    let lines = one(alloc, transition(target, assigns))?;
-    Ok(state(entry_name(alloc, n)?, lines))
+    plain_state(alloc, name, target, copy(alloc, b'y', b's')?)
+}
+
+// The left machine's states of a round.
+fn left_round(alloc: Global, k: u32) -> Result<Vec<RawState>, NoMemory>
+    requires { k < 300 }
+    ensures { IfOk result (λ out. map source_state_of out.items ≡ left_round k) }
+{
+    let entry = one(alloc, entry(alloc, k)?)?;
+    let states = with_last(entry, left_head(alloc, k)?)?;
+    with_last(states, body(alloc, k)?)
+}
+
+// The right machine's states of a round.
+fn right_round(alloc: Global, k: u32) -> Result<Vec<RawState>, NoMemory>
+    requires { k < 300 }
+    ensures { IfOk result (λ out. map source_state_of out.items ≡ right_round k) }
+{
+    let entry = one(alloc, entry(alloc, k)?)?;
+    with_last(entry, right_head(alloc, k)?)
 }
 
 // The states of a round.
@@ -104,17 +202,9 @@ fn round(alloc: Global, side: Side, k: u32) -> Result<Vec<RawState>, NoMemory>
     requires { k < 300 }
     ensures { IfOk result (λ out. map source_state_of out.items ≡ round_of side k) }
 {
-    let mut out = one(alloc, entry(alloc, k)?)?;
     match side {
-        Side::Left => {
-            out.push(left_head(alloc, k)?)?;
-            out.push(body(alloc, k)?)?;
-            Ok(out)
-        }
-        Side::Right => {
-            out.push(right_head(alloc, k)?)?;
-            Ok(out)
-        }
+        Side::Left => left_round(alloc, k),
+        Side::Right => right_round(alloc, k),
     }
 }
 
@@ -128,6 +218,5 @@ pub fn states(alloc: Global, side: Side, n: u32) -> Result<Vec<RawState>, NoMemo
         let mut round = round(alloc, side, k)?;
         out.append(&mut round)?;
     }
-    out.push(last(alloc, n)?)?;
-    Ok(out)
+    with_last(out, last(alloc, n)?)
 }

@@ -129,17 +129,41 @@ fn declare_one(alloc: Global, decl: &Decl, name: &Name, out: &mut Variables) -> 
     ensures declared { OnOk result
         (map declared_of out.new.declared.items ≡ map declared_of out.old.declared.items ++ (decl.now.line, name.now) ∷ []) }
 {
-    let var = VarInfo {
-        name: name.try_clone(alloc)?,
+    add_variable(alloc, decl, name, &mut out.vars)?;
+    add_name(alloc, decl.line, name, &mut out.declared)
+}
+
+// Adds the variable of a name.
+fn add_variable(
+    alloc: Global,
+    decl: &Decl,
+    name: &Name,
+    vars: &mut Vec<VarInfo>,
+) -> Result<(), NoMemory>
+    ensures { OnOk result
+        (vars.new.items ≡ vars.old.items ++ record { name = name.now; role = decl.now.role; sort = decl.now.sort } ∷ []) }
+{
+    let name = name.try_clone(alloc)?;
+    vars.push(VarInfo {
+        name,
         role: decl.role,
         sort: decl.sort,
-    };
-    let entry = Declared {
-        line: decl.line,
-        name: name.try_clone(alloc)?,
-    };
-    out.vars.push(var)?;
-    out.declared.push(entry)?;
+    })?;
+    Ok(())
+}
+
+// Adds a name with the line of its declaration.
+fn add_name(
+    alloc: Global,
+    line: u32,
+    name: &Name,
+    declared: &mut Vec<Declared>,
+) -> Result<(), NoMemory>
+    ensures { OnOk result
+        (map declared_of declared.new.items ≡ map declared_of declared.old.items ++ (line, name.now) ∷ []) }
+{
+    let name = name.try_clone(alloc)?;
+    declared.push(Declared { line, name })?;
     Ok(())
 }
 
@@ -149,11 +173,7 @@ pub fn declare_states(alloc: Global, states: &[RawState]) -> Result<Vec<Declared
 {
     let mut out = Vec::new(alloc);
     for state in states {
-        let entry = Declared {
-            line: state.line,
-            name: state.name.try_clone(alloc)?,
-        };
-        out.push(entry)?;
+        add_name(alloc, state.line, &state.name, &mut out)?;
     }
     Ok(out)
 }

@@ -199,10 +199,9 @@ pub fn read_binding(alloc: Global, bytes: &[u8], m: &Machine) -> Result<Binding,
     ensures of_machine { IfOk result (λ b. IsBindingOf m.now.variables b) }
     ensures refused { IfErr result (λ e. IsRefusedAsBinding m.now.variables bytes.now e) }
 {
-    let value = match read_json(alloc, bytes) {
-        Ok(value) => value,
-        Err(JsonError::NotJson) => return Err(BindError::NotJson),
-        Err(JsonError::NoMemory) => return Err(BindError::NoMemory),
-    };
-    read_object(alloc, m, &value)
+    match read_json(alloc, bytes) {
+        Ok(value) => read_object(alloc, m, &value),
+        Err(JsonError::NotJson) => Err(BindError::NotJson),
+        Err(JsonError::NoMemory) => Err(BindError::NoMemory),
+    }
 }

@@ -91,12 +91,12 @@ fn renamed_line(alloc: Global, registers: &Registers, line: &RawLine) -> Result<
     ensures { IfOk result
         (λ l. source_transition_of l ≡ transition_renamed (name_for registers.now) (source_transition_of line.now)) }
 {
-    let guard = renamed_condition(alloc, registers, &line.guard)?;
+    let target = line.target.try_clone(alloc)?;
     let assigns = assignments_of(alloc, registers, &line.assigns)?;
     Ok(RawLine {
         line: line.line,
-        guard,
-        target: line.target.try_clone(alloc)?,
+        guard: renamed_condition(alloc, registers, &line.guard)?,
+        target,
         assigns,
     })
 }
