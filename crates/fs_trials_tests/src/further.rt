@@ -1,6 +1,8 @@
 //! Further candidates.
 
 use crate::first::first_found;
+use fs_ast::machine::Machine;
+use fs_runs::inputs::Inputs;
 use fs_runs::values::Value;
 use fs_sample_machines::reading::machine;
 use fs_trials::candidates::Candidates;
@@ -22,33 +24,37 @@ const REGIONS: &str = "fsmd 1; input n; local i, r, d, e, f; output y; reset q0;
 state q0: goto q1: i = 0, r = 1, d = 1, e = 1, f = 1;
 state q1: when i < n goto q1: i = i + 1, r = r + d, d = d + e, e = e + f, f = f + 1; goto q0: y = r;";
 
-// What further candidate j gives index i of input k of a machine. A number has index 0 alone.
-fn given(alloc: Global, text: &str, j: u64, k: u32, i: i128) -> Result<Option<i128>, Fail> {
-    let m = machine(alloc, text)?;
-    let Ok(candidates) = Candidates::of(alloc, &m, &m) else {
-        return Err("no memory".into());
-    };
-    if j >= 256 {
-        return Ok(None);
-    }
-    let number = candidates.count() - 256 + j;
-    let Ok(inputs) = candidates.inputs(alloc, number, &m) else {
-        return Err("no memory".into());
-    };
+// What inputs give index i of input k. A number has index 0 alone.
+fn value_at(inputs: &Inputs, k: u32, i: i128) -> Option<i128> {
     if inputs.sort(k).is_none() {
-        return Ok(None);
+        return None;
     }
     match inputs.get(k) {
-        Value::Num(n) => Ok(Some(*n)),
-        Value::Arr(entries) => Ok(Some(entries.get(i))),
-        Value::List(_) => Ok(None),
+        Value::Num(n) => Some(*n),
+        Value::Arr(entries) => Some(entries.get(i)),
+        Value::List(_) => None,
+    }
+}
+
+// What further candidate j gives index i of input k of a machine.
+fn given(alloc: Global, m: &Machine, j: u64, k: u32, i: i128) -> Option<i128> {
+    if j >= 256 {
+        return None;
+    }
+    let Ok(candidates) = Candidates::of(alloc, m, m) else {
+        return None;
+    };
+    let number = candidates.count() - 256 + j;
+    match candidates.inputs(alloc, number, m) {
+        Ok(inputs) => value_at(&inputs, k, i),
+        Err(_) => None,
     }
 }
 
 // The first, one in the middle and the last, each at two scalars and at places of an array.
 #[test]
 fn numbers_of_further_candidates(rt: HostRuntime) -> Result<(), Fail> {
-    let alloc = rt.alloc();
+    let machine = machine(rt.alloc(), CONSTANTS)?;
     for (j, k, i, number) in [
         (0, 0, 0, 99),
         (0, 1, 0, 8),
@@ -68,24 +74,28 @@ fn numbers_of_further_candidates(rt: HostRuntime) -> Result<(), Fail> {
         (255, 2, 31, 100),
         (255, 2, 32, 0),
     ] {
-        assert_eq!(rt;
-            given(alloc, CONSTANTS, j, k, i)?,
-            Some(number),
+        assert!(rt;
+            given(rt.alloc(), &machine, j, k, i) == Some(number),
             "candidate {j}, input {k}, index {i}"
         );
     }
     Ok(())
 }
 
+// Whether the first candidate that shows a difference of two texts' machines is this one, and gives the first input this number.
+fn is_first(alloc: Global, left: &str, right: &str, j: u64, number: i128) -> Result<bool, Fail> {
+    let left = machine(alloc, left)?;
+    let right = machine(alloc, right)?;
+    match first_found(alloc, &left, &right)? {
+        Some(found) => Ok(found.j == j && value_at(&found.inputs, 0, 0) == Some(number)),
+        None => Ok(false),
+    }
+}
+
 // A loop must turn five times before the two differ. The pool is 0, 1, -1 and 2, so its 16 candidates show nothing: the second
 // of the further ones gives 6.
 #[test]
 fn only_a_further_candidate_differs(rt: HostRuntime) -> Result<(), Fail> {
-    let alloc = rt.alloc();
-    let (left, right) = (machine(alloc, POWERS)?, machine(alloc, REGIONS)?);
-    let found = first_found(alloc, &left, &right)?.ok_or("none differs")?;
-    assert_eq!(rt; found.j, 17);
-    assert!(rt; found.inputs.sort(0).is_some());
-    assert!(rt; matches!(found.inputs.get(0), Value::Num(6)));
+    assert!(rt; is_first(rt.alloc(), POWERS, REGIONS, 17, 6)?);
     Ok(())
 }

@@ -17,10 +17,9 @@ fn states(alloc: Global, n: u32) -> Result<(u32, u32), Fail> {
 // A loop has three states in the behaviour and two in the schedule, and one state comes last.
 #[test]
 fn states_of_loops(rt: HostRuntime) -> Result<(), Fail> {
-    let alloc = rt.alloc();
-    assert_eq!(rt; states(alloc, 1)?, (4, 3));
-    assert_eq!(rt; states(alloc, 3)?, (10, 7));
-    assert_eq!(rt; states(alloc, 300)?, (901, 601));
+    for (n, counts) in [(1, (4, 3)), (3, (10, 7)), (300, (901, 601))] {
+        assert!(rt; states(rt.alloc(), n)? == counts, "{n}");
+    }
     Ok(())
 }
 
