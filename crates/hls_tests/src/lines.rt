@@ -34,9 +34,11 @@ fn has_lines(alloc: Global, m: &Machine, text: &str) -> bool {
     };
     let mut wanted = text.split("; ");
     for start in starts.as_slice() {
-        match trace_line(alloc, m, arrivals.as_slice(), *start) {
-            Ok(line) if is_line(&line, wanted.next().unwrap_or("")) => {}
-            _ => return false,
+        let Ok(line) = trace_line(alloc, m, arrivals.as_slice(), *start) else {
+            return false;
+        };
+        if !is_line(&line, wanted.next().unwrap_or("")) {
+            return false;
         }
     }
     wanted.next().unwrap_or("").is_empty()
