@@ -1,9 +1,8 @@
 //! Words of the command line with what they ask, and words that are refused.
 
-use fsmd_words::asking::Ask;
+use fsmd_words::asking::{Ask, AskError};
 use fsmd_words::words::ask;
 use std::alloc::{AllocError, Global};
-use std::test::Fail;
 
 // Words, and what they ask.
 const TAKEN: &str =
@@ -111,68 +110,65 @@ fn split(alloc: Global, text: &str) -> Result<Vec<String>, AllocError> {
 }
 
 // What words that blanks part ask, or why they ask nothing.
-fn answer(alloc: Global, text: &str) -> Result<String, Fail> {
+fn answer(alloc: Global, text: &str) -> Result<String, AllocError> {
     let words = split(alloc, text)?;
     match ask(alloc, words.as_slice()) {
-        Ok(ask) => Ok(format!(in alloc; "{ask:?}")?),
-        Err(error) => Ok(format!(in alloc; "{error:?}")?),
-    }
-}
-
-// What a chain of so many files asks, or why it asks nothing.
-fn of_chain(alloc: Global, files: usize) -> Result<String, Fail> {
-    let mut words = Vec::new(alloc);
-    words.push(String::from_str(alloc, "chain")?)?;
-    for file in 0..files {
-        words.push(format!(in alloc; "{file}")?)?;
-    }
-    match ask(alloc, words.as_slice()) {
-        Ok(Ask::Chain { files }) => Ok(format!(in alloc;
-            "{} files, {:?} last",
-            files.len(),
-            files.last()
-        )?),
-        Ok(_) => Err("no chain".into()),
-        Err(error) => Ok(format!(in alloc; "{error:?}")?),
+        Ok(ask) => format!(in alloc; "{ask:?}"),
+        Err(error) => format!(in alloc; "{error:?}"),
     }
 }
 
 #[test]
-fn words_that_are_taken(rt: HostRuntime) -> Result<(), Fail> {
-    let alloc = rt.alloc();
+fn words_that_are_taken(rt: HostRuntime) -> Result<(), AllocError> {
     for row in TAKEN.lines() {
-        let Some((words, wanted)) = row.split_once('¦') else {
-            return Err("a row without its answer".into());
-        };
-        let given = answer(alloc, words)?;
+        let (words, wanted) = row.split_once('¦').unwrap_or((row, ""));
+        let given = answer(rt.alloc(), words)?;
         assert!(rt; given.as_str() == wanted, "{words}: {given}");
     }
     Ok(())
 }
 
 #[test]
-fn words_that_are_refused(rt: HostRuntime) -> Result<(), Fail> {
-    let alloc = rt.alloc();
+fn words_that_are_refused(rt: HostRuntime) -> Result<(), AllocError> {
     for words in REFUSED.lines() {
-        let given = answer(alloc, words)?;
+        let given = answer(rt.alloc(), words)?;
         assert!(rt; given.as_str() == "Usage", "{words}: {given}");
     }
     Ok(())
 }
 
+// The words of a chain of so many files, which are named by their numbers.
+fn words_of_chain(alloc: Global, files: usize) -> Result<Vec<String>, AllocError> {
+    let mut words = split(alloc, "chain")?;
+    for file in 0..files {
+        words.push(format!(in alloc; "{file}")?)?;
+    }
+    Ok(words)
+}
+
+fn is_last(names: &[String], name: &str) -> bool {
+    match names.last() {
+        Some(last) => last.as_str() == name,
+        None => false,
+    }
+}
+
+// Whether a chain of so many files is taken, the last of this name, or refused where that is empty.
+fn is_chain(alloc: Global, files: usize, last: &str) -> Result<bool, AllocError> {
+    let words = words_of_chain(alloc, files)?;
+    match ask(alloc, words.as_slice()) {
+        Ok(Ask::Chain { files: names }) => {
+            Ok(names.len() == files && is_last(names.as_slice(), last))
+        }
+        Ok(_) => Ok(false),
+        Err(error) => Ok(last.is_empty() && matches!(error, AskError::Usage)),
+    }
+}
+
 #[test]
-fn longest_chain(rt: HostRuntime) -> Result<(), Fail> {
-    let alloc = rt.alloc();
-    let longest = of_chain(alloc, 129)?;
-    assert!(rt;
-        longest.as_str() == "129 files, Some(\"128\") last",
-        "{longest}"
-    );
-    let even = of_chain(alloc, 128)?;
-    assert!(rt; even.as_str() == "Usage", "{even}");
-    let longer = of_chain(alloc, 130)?;
-    assert!(rt; longer.as_str() == "Usage", "{longer}");
-    let longer_and_odd = of_chain(alloc, 131)?;
-    assert!(rt; longer_and_odd.as_str() == "Usage", "{longer_and_odd}");
+fn longest_chain(rt: HostRuntime) -> Result<(), AllocError> {
+    for (files, last) in [(129, "128"), (128, ""), (130, ""), (131, "")] {
+        assert!(rt; is_chain(rt.alloc(), files, last)?, "{files}");
+    }
     Ok(())
 }
