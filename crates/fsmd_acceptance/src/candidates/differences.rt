@@ -1,6 +1,6 @@
 //! The first candidate that shows a difference of two machines.
 
-use crate::first::first_number;
+use crate::candidates::first::first_number;
 use fs_sample_machines::reading::machine;
 use std::alloc::Global;
 use std::test::Fail;

@@ -1,6 +1,6 @@
 //! Further candidates.
 
-use crate::first::first_found;
+use crate::candidates::first::first_found;
 use fs_ast::machine::Machine;
 use fs_runs::inputs::Inputs;
 use fs_runs::values::Value;

@@ -1,6 +1,6 @@
 //! Generated machines.
 
-use crate::first::first_number;
+use crate::candidates::first::first_number;
 use fs_generated::generate::generate;
 use std::alloc::Global;
 use std::test::Fail;
