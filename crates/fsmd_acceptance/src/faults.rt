@@ -1,88 +1,13 @@
 //! Faults of texts: each kind, with its line and its column.
 
-use crate::asked::{each_pair, each_row};
-use fsmd_test_tables::answers::{Held, answers};
+use crate::tables::each_table;
 use std::alloc::AllocError;
-use std::test::Fail;
 
-// A text of two cells, whose fault is at the first byte of the second.
-const BEHIND: &str = r"check a.fsmd b.fsmd¦{1}▸{2}¦{machine}¦¦bad input: a.fsmd:▸: {A}\n";
-
-// The same behind the front of a state.
-const IN_STATE: &str =
-    r"check a.fsmd b.fsmd¦fsmd 1; input a, b; input array m; output y, z; output array n; reset s;\nstate s: {1}▸{2}¦{machine}¦¦bad input: a.fsmd:▸: {A}\n";
-
-const WHOLE: &str = r"check a.fsmd b.fsmd¦{1}¦{machine}¦¦bad input: a.fsmd:{2}\n";
-
-const BAD_BYTES: &str = "goto s: y = a ¦& b;
-goto s: y = a ¦| b;
-when a > 0 ¦& b > 0 goto s; goto s;
-when a > 0 ¦| b > 0 goto s; goto s;
-when a > 0 ¦& & b > 0 goto s; goto s;
-when a > 0 ¦|&| b > 0 goto s; goto s;
-when a > 0 &&¦& b > 0 goto s; goto s;
-when a > 0 ||¦| b > 0 goto s; goto s;
-goto s: y = a ¦^ b;
-goto s: y = a¦?;
-goto s: y = a¦.b;
-goto s: y = ¦$a;
-goto s: y = ¦~a;
-goto s: y = ¦'a';
-goto s: y = ¦\"a\";
-goto s: y = a ¦\\ b;
-goto s: y = a ¦@ b;
-goto s: y = a ¦` b;
-goto s: y = ¦é;
-goto s: y = a¦é;
-goto s: y = 1¦€;
-goto s;¦\0
-goto s;¦\u{b}
-goto s;¦\u{c}
-goto s;¦\u{7f}
-goto s;¦\u{a0}
-¦\u{1b}goto s;
-";
-
-#[test]
-fn a_byte_that_begins_no_token(rt: HostRuntime) -> Result<(), AllocError> {
-    each_pair(&rt, rt.alloc(), IN_STATE, "BadByte", BAD_BYTES)
-}
-
-// Only the left file holds bytes.
-fn left_alone(left: &[u8]) -> Held<'_> {
-    Held {
-        left,
-        right: b"",
-        inputs: b"",
-        cert: b"",
-    }
-}
-
-#[test]
-fn bytes_that_are_no_text(rt: HostRuntime) -> Result<(), Fail> {
-    let cases: [(&[u8], &str); 8] = [
-        (b"\xff", "bad input: a.fsmd:1:1: BadByte\n"),
-        (b"\xef\xbb\xbffsmd 1;", "bad input: a.fsmd:1:1: BadByte\n"),
-        (b"\xfe\xfff\0s\0", "bad input: a.fsmd:1:1: BadByte\n"),
-        (b"fsmd\x80 1;", "bad input: a.fsmd:1:5: BadByte\n"),
-        (b"fsmd 1\xc3", "bad input: a.fsmd:1:7: BadByte\n"),
-        (b"fsmd 1;\ninput a\xa0;", "bad input: a.fsmd:2:8: BadByte\n"),
-        (
-            b"fsmd 1; # \xff\xfe\n\x80",
-            "bad input: a.fsmd:2:1: BadByte\n",
-        ),
-        (b"# \xff\xfe\0\x80", "bad input: a.fsmd:1:7: Ended\n"),
-    ];
-    for (left, reply) in cases {
-        assert!(rt;
-            answers(rt.alloc(), "check a.fsmd b.fsmd", &left_alone(left), reply)?,
-            "{reply}"
-        );
-    }
-    Ok(())
-}
-
-const PAST_LIMITS: &str = "¦abcdefghijklmnopqrstuvwxyz0123456¦BadWord
+const TABLES: &str = r"# a word or a number past its limit
+# A text of two cells, whose fault is at the first byte of the second.
+check a.fsmd b.fsmd¦{1}▸{2}¦{machine}¦¦bad input: a.fsmd:▸: {3}\n
+:
+¦abcdefghijklmnopqrstuvwxyz0123456¦BadWord
 fsmd 1; ¦abcdefghijklmnopqrstuvwxyz0123456¦BadWord
 fsmd 1; input ¦abcdefghijklmnopqrstuvwxyz0123456¦BadWord
 fsmd 1; input a, ¦abcdefghijklmnopqrstuvwxyz0123456¦BadWord
@@ -99,14 +24,14 @@ fsmd 1; reset s; state s: when a > ¦170141183460469231731687303715884105728¦Nu
 fsmd 1; reset s; state s: goto s: y = -¦170141183460469231731687303715884105728¦NumberTooBig
 fsmd 1; reset s; state s: goto s: y = m[¦170141183460469231731687303715884105728¦NumberTooBig
 fsmd 1; reset s; state s: goto s: m[¦170141183460469231731687303715884105728¦NumberTooBig
-";
 
-#[test]
-fn a_word_or_a_number_past_its_limit(rt: HostRuntime) -> Result<(), AllocError> {
-    each_pair(&rt, rt.alloc(), BEHIND, "{3}", PAST_LIMITS)
-}
-
-const KINDS: &str = "goto ¦& s;¦BadByte
+# the kind that is answered
+# At one place the first of these is answered: BadByte, BadWord, NumberTooBig, Unexpected, Operators, Ended. A fault at
+# an earlier place is answered before any at a later one.
+# The same behind the front of a state.
+check a.fsmd b.fsmd¦fsmd 1; input a, b; input array m; output y, z; output array n; reset s;\nstate s: {1}▸{2}¦{machine}¦¦bad input: a.fsmd:▸: {3}\n
+:
+goto ¦& s;¦BadByte
 goto ¦é s;¦BadByte
 when <<127 times:->>a > b ¦&¦BadByte
 goto s ¦abcdefghijklmnopqrstuvwxyz0123456¦BadWord
@@ -130,16 +55,11 @@ goto s: y = -<<127 times:->>a ¦¦Ended
 goto s: y = ¦> & b¦Unexpected
 goto s: y = ¦goto 170141183460469231731687303715884105728¦Unexpected
 when <<127 times:->>a > b ¦+ a &¦Operators
-";
 
-// At one place the first of these is answered: BadByte, BadWord, NumberTooBig, Unexpected, Operators, Ended. A fault at
-// an earlier place is answered before any at a later one.
-#[test]
-fn the_kind_that_is_answered(rt: HostRuntime) -> Result<(), AllocError> {
-    each_pair(&rt, rt.alloc(), IN_STATE, "{3}", KINDS)
-}
-
-const PLACES: &str = r"¦1:1: Ended
+# lines and columns
+check a.fsmd b.fsmd¦{1}¦{machine}¦¦bad input: a.fsmd:{2}\n
+:
+¦1:1: Ended
 fsmd 1;\nreset s0;\nstate s0: goto s0: y = ;¦3:24: Unexpected
 fsmd 1;\nreset s0;\nstate s0: goto s0¦3:18: Ended
  ¦1:2: Ended
@@ -166,14 +86,14 @@ fsmd 1 # ; &¦1:13: Ended
 fsmd 1;# a\r\n b¦2:2: Unexpected
 fsmd 1;# a\r b\n c¦2:2: Unexpected
 fsmd 1 ##\n\n  input¦3:3: Unexpected
-";
 
-#[test]
-fn lines_and_columns(rt: HostRuntime) -> Result<(), AllocError> {
-    each_row(&rt, rt.alloc(), WHOLE, PLACES)
-}
-
-const FRONTS: &str = "fsmd
+# ended too early
+check a.fsmd b.fsmd¦{1}{A}¦{machine}¦¦bad input: a.fsmd:▸: {B}\n
++ ▸¦Ended
++  # no more\n\t▸¦Ended
++  # no more\n\t▸fsmd¦Unexpected
+:
+fsmd
 fsmd 1
 fsmd 1;
 fsmd 1; input
@@ -208,21 +128,11 @@ fsmd 1; reset s; state s: goto s: y = a +
 fsmd 1; reset s; state s: goto s: y = (a
 fsmd 1; reset s; state s: goto s: y = a,
 fsmd 1; reset s; state s: goto s; goto
-";
 
-const CUT: &str = r"check a.fsmd b.fsmd¦{1}{A}¦{machine}¦¦bad input: a.fsmd:▸: {B}\n";
-
-const ENDS: &str = r"▸¦Ended
- # no more\n\t▸¦Ended
- # no more\n\t▸fsmd¦Unexpected
-";
-
-#[test]
-fn ended_too_early(rt: HostRuntime) -> Result<(), AllocError> {
-    each_pair(&rt, rt.alloc(), CUT, ENDS, FRONTS)
-}
-
-const OUTSIDE_STATES: &str = "¦FSMD 1;
+# unexpected outside states
+check a.fsmd b.fsmd¦{1}▸{2}¦{machine}¦¦bad input: a.fsmd:▸: Unexpected\n
+:
+¦FSMD 1;
 ¦fsmd1;
 ¦1;
 ¦; fsmd 1;
@@ -264,28 +174,24 @@ fsmd 1; reset s; state s¦;
 fsmd 1; reset s; state s ¦goto s;
 fsmd 1; reset s; state s¦, t: goto s;
 fsmd 1; reset s; state ¦1: goto s;
-";
 
-#[test]
-fn unexpected_outside_states(rt: HostRuntime) -> Result<(), AllocError> {
-    each_pair(&rt, rt.alloc(), BEHIND, "Unexpected", OUTSIDE_STATES)
-}
-
-const RESERVED: &str = "fsmd
-input
-output
-local
-reset
-state
-when
-goto
-start
-done
-emit
-port
-";
-
-const BEFORE_NAMES: &str = "fsmd 1; input 
+# a reserved word for a name
+# A word that is reserved is no name, wherever a name stands.
+check a.fsmd b.fsmd¦{1}▸{A};¦{machine}¦¦bad input: a.fsmd:▸: Unexpected\n
++ fsmd
++ input
++ output
++ local
++ reset
++ state
++ when
++ goto
++ start
++ done
++ emit
++ port
+:
+fsmd 1; input 
 fsmd 1; output array 
 fsmd 1; local a, 
 fsmd 1; reset 
@@ -296,23 +202,16 @@ fsmd 1; reset s; state s: goto s: y =
 fsmd 1; reset s; state s: goto s: y = m[
 fsmd 1; reset s; state s: when 
 fsmd 1; reset s; state s: when a > 
-";
 
-const RESERVED_NAME: &str =
-    r"check a.fsmd b.fsmd¦{1}▸{A};¦{machine}¦¦bad input: a.fsmd:▸: Unexpected\n";
-
-const ARRAY_NAMES: &str = "fsmd 1; input a, ¦array;
+check a.fsmd b.fsmd¦{1}▸{2}¦{machine}¦¦bad input: a.fsmd:▸: Unexpected\n
+:
+fsmd 1; input a, ¦array;
 fsmd 1; reset ¦array;
-";
 
-// A word that is reserved is no name, wherever a name stands.
-#[test]
-fn a_reserved_word_for_a_name(rt: HostRuntime) -> Result<(), AllocError> {
-    each_pair(&rt, rt.alloc(), RESERVED_NAME, RESERVED, BEFORE_NAMES)?;
-    each_pair(&rt, rt.alloc(), BEHIND, "Unexpected", ARRAY_NAMES)
-}
-
-const IN_LINES: &str = "¦;
+# unexpected in a line
+check a.fsmd b.fsmd¦fsmd 1; input a, b; input array m; output y, z; output array n; reset s;\nstate s: {1}▸{2}¦{machine}¦¦bad input: a.fsmd:▸: Unexpected\n
+:
+¦;
 ¦: goto s;
 ¦s;
 ¦y = a;
@@ -357,14 +256,11 @@ goto s; ¦s: goto s;
 goto s; ¦input c;
 goto s; state ¦: goto s;
 goto s; ¦}
-";
 
-#[test]
-fn unexpected_in_a_line(rt: HostRuntime) -> Result<(), AllocError> {
-    each_pair(&rt, rt.alloc(), IN_STATE, "Unexpected", IN_LINES)
-}
-
-const IN_SUMS: &str = "goto s: y = ¦;
+# unexpected in a sum
+check a.fsmd b.fsmd¦fsmd 1; input a, b; input array m; output y, z; output array n; reset s;\nstate s: {1}▸{2}¦{machine}¦¦bad input: a.fsmd:▸: Unexpected\n
+:
+goto s: y = ¦;
 goto s: y = ¦, z = 1;
 goto s: y = ¦+ a;
 goto s: y = ¦* a;
@@ -410,14 +306,11 @@ goto s: y = -¦+a;
 goto s: y = a ¦when b > 0;
 goto s: y = a ¦goto s;
 goto s: y = a¦: z = b;
-";
 
-#[test]
-fn unexpected_in_a_sum(rt: HostRuntime) -> Result<(), AllocError> {
-    each_pair(&rt, rt.alloc(), IN_STATE, "Unexpected", IN_SUMS)
-}
-
-const IN_GUARDS: &str = "when ¦goto s;
+# unexpected in a guard
+check a.fsmd b.fsmd¦fsmd 1; input a, b; input array m; output y, z; output array n; reset s;\nstate s: {1}▸{2}¦{machine}¦¦bad input: a.fsmd:▸: Unexpected\n
+:
+when ¦goto s;
 when ¦when a > 0 goto s;
 when ¦> a goto s;
 when ¦== a goto s;
@@ -467,10 +360,9 @@ when -¦{a > 0} goto s;
 when a > ¦!b goto s;
 when a > ¦{b} goto s;
 when a > 0 ¦when b > 0 goto s;
-when a > 0 ¦state t: goto t;
-";
+when a > 0 ¦state t: goto t;";
 
 #[test]
-fn unexpected_in_a_guard(rt: HostRuntime) -> Result<(), AllocError> {
-    each_pair(&rt, rt.alloc(), IN_STATE, "Unexpected", IN_GUARDS)
+fn faults_of_texts(rt: HostRuntime) -> Result<(), AllocError> {
+    each_table(&rt, rt.alloc(), TABLES)
 }

@@ -1,17 +1,11 @@
 //! Each front of a text: cut inside a token, behind it, or where a file may end.
 
-use crate::asked::each_row;
+use crate::tables::each_table;
 use std::alloc::{AllocError, Global};
-use std::process::Abort;
-use std::test::Fail;
 
-// A front and the reply. The other file is the schedule of the whole text.
-const FRONT: &str = "check a.fsmd b.fsmd¦{1}¦fsmd 1; input a, b; output g; local x, y; reset q0;
-state q0: goto q1: x = a, y = b;
-state q1: when x == y goto q0: g = x; goto q2;
-state q2: when x > y goto q1: x = x - y; goto q1: y = y - x;
-¦¦{2}
-";
+// The other file is the schedule of the whole text.
+const FRONT: &str =
+    r"check a.fsmd b.fsmd¦{1}¦fsmd 1; input a, b; output g; local x, y; reset q0;\nstate q0: goto q1: x = a, y = b;\nstate q1: when x == y goto q0: g = x; goto q2;\nstate q2: when x > y goto q1: x = x - y; goto q1: y = y - x;\n¦¦{2}\n";
 
 // Greatest common divisors by subtraction, token by token, each with the blank before it. A part begins where a file may
 // end, but the first. Before it stands the answer to the file that ends there, or in the blanks that follow.
@@ -35,29 +29,37 @@ equivalent: 4 nodes¦
 
 const RESERVED: &str = " fsmd input output local reset state when goto ";
 
-// Asserts the answers to the fronts that end inside this word behind the text. A reserved word cut short is a name, which
-// can't follow where the whole word can in this text, and the first sign of `==` is no relation. A name cut short is a
-// name as well.
-fn cut_inside(rt: &impl Abort, alloc: Global, text: &str, word: &str) -> Result<(), AllocError> {
+// Where the fault is in a front that ends inside this word, and its kind, behind the text and the word's letters. A reserved
+// word cut short is a name, which can't follow where the whole word can in this text, and the first sign of `==` is no
+// relation. A name cut short is a name as well.
+fn fault_inside(word: &str) -> (&'static str, &'static str, &'static str) {
+    if RESERVED.contains(word) || word == "==" {
+        ("▸", "", "Unexpected")
+    } else {
+        ("", "▸", "Ended")
+    }
+}
+
+// Adds the rows of the fronts that end inside this word behind the text.
+fn push_inside(alloc: Global, rows: &mut String, text: &str, word: &str) -> Result<(), AllocError> {
+    let (before, behind, kind) = fault_inside(word);
     let mut begun = String::new(alloc);
     for letter in word.chars() {
         if !begun.is_empty() {
-            let row = if RESERVED.contains(word) || word == "==" {
-                format!(in alloc; "{text}▸{begun}¦bad input: a.fsmd:▸: Unexpected")?
-            } else {
-                format!(in alloc; "{text}{begun}▸¦bad input: a.fsmd:▸: Ended")?
-            };
-            each_row(rt, alloc, FRONT, row.as_str())?;
+            let row = format!(in alloc;
+                "{text}{before}{begun}{behind}¦bad input: a.fsmd:▸: {kind}\n"
+            )?;
+            rows.push_str(row.as_str())?;
         }
         begun.push(letter)?;
     }
     Ok(())
 }
 
-// Asserts the answer to this front, which ends where a token ends or in the blanks behind it.
-fn cut_behind(rt: &impl Abort, alloc: Global, text: &str, why: &str) -> Result<(), AllocError> {
-    let row = format!(in alloc; "{text}▸¦{why}")?;
-    each_row(rt, alloc, FRONT, row.as_str())
+// Adds the row of a front that ends where a token ends or in the blanks behind it.
+fn push_behind(alloc: Global, rows: &mut String, text: &str, why: &str) -> Result<(), AllocError> {
+    let row = format!(in alloc; "{text}▸¦{why}\n")?;
+    rows.push_str(row.as_str())
 }
 
 fn split_blank(token: &str) -> (&str, &str) {
@@ -70,6 +72,22 @@ fn split_blank(token: &str) -> (&str, &str) {
     }
 }
 
+// Adds a token to the text, and the rows of the fronts that end in it.
+fn push_token(
+    alloc: Global,
+    rows: &mut String,
+    text: &mut String,
+    token: &str,
+    why: &str,
+) -> Result<(), AllocError> {
+    let (blank, word) = split_blank(token);
+    push_behind(alloc, rows, text.as_str(), why)?;
+    text.push_str(blank)?;
+    push_behind(alloc, rows, text.as_str(), why)?;
+    push_inside(alloc, rows, text.as_str(), word)?;
+    text.push_str(word)
+}
+
 // The answer to a front that ends before a token of a part: only before its first one may a file end.
 fn answer_before(is_first: bool, before: &str) -> &str {
     if is_first {
@@ -79,36 +97,33 @@ fn answer_before(is_first: bool, before: &str) -> &str {
     }
 }
 
-// Adds the tokens of a part, and asserts the answers to the fronts that end in it. Those that end before its first word
-// have the answer `before`.
-fn cut_part(
-    rt: &impl Abort,
+// Adds the tokens of a part, and the rows of the fronts that end in it.
+fn push_part(
     alloc: Global,
+    rows: &mut String,
     text: &mut String,
-    tokens: &str,
-    before: &str,
+    part: &str,
 ) -> Result<(), AllocError> {
+    let (before, tokens) = part.split_once('¦').unwrap_or(("", part));
     let mut is_first = true;
     for token in tokens.split('·') {
-        let why = answer_before(is_first, before);
-        let (blank, word) = split_blank(token);
-        cut_behind(rt, alloc, text.as_str(), why)?;
-        text.push_str(blank)?;
-        cut_behind(rt, alloc, text.as_str(), why)?;
-        cut_inside(rt, alloc, text.as_str(), word)?;
-        text.push_str(word)?;
+        push_token(alloc, rows, text, token, answer_before(is_first, before))?;
         is_first = false;
     }
     Ok(())
 }
 
-#[test]
-fn each_front_of_a_text(rt: HostRuntime) -> Result<(), Fail> {
-    let alloc = rt.alloc();
+fn table_of_fronts(alloc: Global) -> Result<String, AllocError> {
+    let mut rows = format!(in alloc; "{FRONT}\n:\n")?;
     let mut text = String::new(alloc);
     for part in PARTS.lines() {
-        let (before, tokens) = part.split_once('¦').unwrap_or(("", part));
-        cut_part(&rt, alloc, &mut text, tokens, before)?;
+        push_part(alloc, &mut rows, &mut text, part)?;
     }
-    Ok(())
+    Ok(rows)
+}
+
+#[test]
+fn each_front_of_a_text(rt: HostRuntime) -> Result<(), AllocError> {
+    let table = table_of_fronts(rt.alloc())?;
+    each_table(&rt, rt.alloc(), table.as_str())
 }

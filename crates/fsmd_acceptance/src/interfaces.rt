@@ -1,9 +1,13 @@
 //! Which of two files is looked at first, and machines whose inputs and outputs are not the same.
 
-use crate::asked::each_row;
+use crate::tables::each_table;
 use std::alloc::AllocError;
 
-const LEFT_AND_RIGHT: &str = r"¦¦bad input: a.fsmd:1:1: Ended\n
+const TABLES: &str = r"# the left file first
+# The left file is read and checked whole before the right one, and both before the interfaces.
+check a.fsmd b.fsmd¦{1}¦{2}¦¦{3}
+:
+¦¦bad input: a.fsmd:1:1: Ended\n
 fsmd 1; reset s;¦¦bad input: a.fsmd:1: UnknownState\n
 fsmd 1; reset s;¦&¦bad input: a.fsmd:1: UnknownState\n
 fsmd 1; output y; reset s; state s: goto s;¦¦bad input: b.fsmd:1:1: Ended\n
@@ -12,23 +16,13 @@ fsmd 1; output y; reset s; state s: goto s;¦fsmd 1;\nreset s;¦bad input: b.fsm
 fsmd 1; input a; reset s; state s: goto s;¦\n?¦bad input: b.fsmd:2:1: BadByte\n
 fsmd 1; local array m; reset s; state s: goto s;¦fsmd 1¦bad input: b.fsmd:1:7: Ended\n
 fsmd 1; local array m; reset s; state s: goto s;¦fsmd 1; output y; reset s; state s: goto s;¦bad input: interface: y\n
-";
 
-// The left file is read and checked whole before the right one, and both before the interfaces.
-#[test]
-fn the_left_file_first(rt: HostRuntime) -> Result<(), AllocError> {
-    each_row(
-        &rt,
-        rt.alloc(),
-        "check a.fsmd b.fsmd¦{1}¦{2}¦¦{3}",
-        LEFT_AND_RIGHT,
-    )
-}
-
-const INTERFACE: &str =
-    r"check a.fsmd b.fsmd¦fsmd 1; {1} reset s; state s: goto s;¦fsmd 1; {2} reset s; state s: goto s;¦¦bad input: interface: {3}\n";
-
-const INTERFACES: &str = "input a; output y;¦input b; output y;¦a
+# interfaces
+# The first input or output of the left machine that the right one has not, or has with another role or sort; else the
+# first one of the right machine.
+check a.fsmd b.fsmd¦fsmd 1; {1} reset s; state s: goto s;¦fsmd 1; {2} reset s; state s: goto s;¦¦bad input: interface: {3}\n
+:
+input a; output y;¦input b; output y;¦a
 input a, b;¦input b;¦a
 input a, b;¦input a;¦b
 input a;¦input b, a;¦b
@@ -46,12 +40,9 @@ input a;¦input A;¦a
 ¦local t; output z, y;¦z
 input a;¦output z; input a; input y;¦z
 local z; input a;¦input y; input a; local z;¦y
-input s;¦input t;¦s
-";
+input s;¦input t;¦s";
 
-// The first input or output of the left machine that the right one has not, or has with another role or sort; else the
-// first one of the right machine.
 #[test]
-fn interfaces(rt: HostRuntime) -> Result<(), AllocError> {
-    each_row(&rt, rt.alloc(), INTERFACE, INTERFACES)
+fn interfaces_and_files(rt: HostRuntime) -> Result<(), AllocError> {
+    each_table(&rt, rt.alloc(), TABLES)
 }

@@ -1,18 +1,14 @@
-//! Worked examples of programs, bindings, straight lines, schedules, inputs that are made small, and chains. The crate gives
+//! Worked examples of what the program does not put of programs, straight lines, unit counts and chains. The crate gives
 //! nothing.
 #![tactic(auto)]
 
 #[cfg(test)]
-mod bindings;
+mod chains;
 #[cfg(test)]
-mod compilation;
+mod counts;
 #[cfg(test)]
 mod lines;
 #[cfg(test)]
-mod programs;
+mod nested;
 #[cfg(test)]
-mod rows;
-#[cfg(test)]
-mod schedules;
-#[cfg(test)]
-mod smaller_inputs;
+mod plans;

@@ -1,4 +1,123 @@
-//! Worked examples of lines, and of transitions that use more of a unit than is given.
+//! The lines of machines.
 
-mod limits;
-mod traces;
+use fs_ast::machine::Machine;
+use fs_model::parts::StateId;
+use fs_sample_machines::reading::machine;
+use fs_sample_machines::samples::SOLVER;
+use hls_line_tracing::arrivals::count_arrivals;
+use hls_line_tracing::lines::{Line, firsts, is_straight, item, trace_line};
+use std::alloc::Global;
+
+fn number(text: &str) -> u32 {
+    text.parse::<u32>().unwrap_or(u32::MAX)
+}
+
+// Whether a line has the states of a text, and leads where that says, as `4 5 to 0`.
+fn is_line(line: &Line, text: &str) -> bool {
+    let (states, exit) = text.split_once(" to ").unwrap_or((text, ""));
+    let mut words = states.split(' ');
+    for state in line.states.as_slice() {
+        if number(words.next().unwrap_or("")) != state.0 {
+            return false;
+        }
+    }
+    words.next().is_none() && number(exit) == line.exit.0
+}
+
+// Whether the lines of a machine, in order, are those of a text.
+fn has_lines(alloc: Global, m: &Machine, text: &str) -> bool {
+    let Ok(arrivals) = count_arrivals(alloc, m) else {
+        return false;
+    };
+    let Ok(starts) = firsts(alloc, m, arrivals.as_slice()) else {
+        return false;
+    };
+    let mut wanted = text.split("; ");
+    for start in starts.as_slice() {
+        let Ok(line) = trace_line(alloc, m, arrivals.as_slice(), *start) else {
+            return false;
+        };
+        if !is_line(&line, wanted.next().unwrap_or("")) {
+            return false;
+        }
+    }
+    wanted.next().unwrap_or("").is_empty()
+}
+
+// Whether a state makes so many assignments, as `1: 2`.
+fn is_item(state: u32, assigns: usize, text: &str) -> bool {
+    let (place, count) = text.split_once(": ").unwrap_or((text, ""));
+    number(place) == state && number(count) as usize == assigns
+}
+
+// Whether the states of a machine that stand in lines are those of a text, each with how many assignments it makes.
+fn has_straight_states(m: &Machine, text: &str) -> bool {
+    let mut wanted = text.split("; ");
+    for q in 0..m.state_count() {
+        let state = StateId(q);
+        if is_straight(m, state) && !is_item(q, item(m, state).len(), wanted.next().unwrap_or("")) {
+            return false;
+        }
+    }
+    wanted.next().is_none()
+}
+
+// Two branches meet in a state that no line leads into, since two states lead to it.
+const MEETING: &str = "fsmd 1; input a; output x; reset s0;
+state s0: goto s1;
+state s1: when a < 0 goto s2; goto s3;
+state s2: goto s4: x = 1;
+state s3: goto s4: x = 2;
+state s4: goto s5: x = x + 1;
+state s5: goto s0: x = x + 1;";
+
+// A line goes against the order of the states.
+const BACKWARDS: &str = "fsmd 1; output x; reset s0;
+state s0: goto s3;
+state s1: goto s0: x = x + 3;
+state s2: goto s1: x = x + 2;
+state s3: goto s2: x = x + 1;";
+
+// Both branches of a state lead to one state, and a third state leads to none.
+const FORKED: &str = "fsmd 1; input a; output x; reset s0;
+state s0: when a < 0 goto s1; goto s1: x = 1;
+state s1: goto s2: x = 2;
+state s2: goto s0;
+state s3: goto s2;";
+
+const ALONE: &str = "fsmd 1; output x; reset s0; state s0: goto s0: x = 1;";
+
+// Whether the machine of a text has these lines.
+fn leads(alloc: Global, text: &str, lines: &str) -> bool {
+    match machine(alloc, text) {
+        Ok(machine) => has_lines(alloc, &machine, lines),
+        Err(_) => false,
+    }
+}
+
+#[test]
+fn lines_of_machines(rt: HostRuntime) {
+    for (text, lines) in [
+        (SOLVER, "2 3 4 5 6 7 8 9 10 to 1"),
+        (MEETING, "2 to 4; 3 to 4; 4 5 to 0"),
+        (BACKWARDS, "3 2 1 to 0"),
+        (FORKED, "1 to 2; 2 to 0; 3 to 2"),
+        (ALONE, ""),
+    ] {
+        assert!(rt; leads(rt.alloc(), text, lines), "{text}");
+    }
+}
+
+// Whether these states of the machine of a text stand in lines, each with so many assignments.
+fn stands(alloc: Global, text: &str, states: &str) -> bool {
+    match machine(alloc, text) {
+        Ok(machine) => has_straight_states(&machine, states),
+        Err(_) => false,
+    }
+}
+
+#[test]
+fn states_in_lines(rt: HostRuntime) {
+    assert!(rt; stands(rt.alloc(), MEETING, "2: 1; 3: 1; 4: 1; 5: 1"));
+    assert!(rt; stands(rt.alloc(), FORKED, "1: 1; 2: 0; 3: 0"));
+}

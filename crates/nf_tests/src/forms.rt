@@ -4,7 +4,6 @@
 //! empty one, and `<<` stands behind a list and an item.
 
 use crate::trees::{Tree, operand, position, tree_of};
-use crate::trouble::Trouble;
 use nf_arrays::division::{div, rem};
 use nf_arrays::pushes::push;
 use nf_arrays::reads::read;
@@ -27,43 +26,43 @@ pub fn normal(tree: Tree) -> Option<Nf> {
 }
 
 /// The normal form that a text is the tree of; of a list, the form of the text.
-pub fn written_form(alloc: Global, text: &str) -> Result<Nf, Trouble> {
+pub fn written_form(alloc: Global, text: &str) -> Result<Nf, NfStop> {
     if text.trim().starts_with("#") {
         return form(alloc, text);
     }
-    normal(tree_of(alloc, text)?).ok_or(Trouble::Unread)
+    normal(tree_of(alloc, text)?).ok_or(NfStop::NoMemory)
 }
 
 // The list, sum or array of one word.
-fn simple(alloc: Global, word: &str) -> Result<Nf, Trouble> {
+fn simple(alloc: Global, word: &str) -> Result<Nf, NfStop> {
     match word.strip_prefix("#") {
-        None => normal(operand(alloc, word)?).ok_or(Trouble::Unread),
+        None => normal(operand(alloc, word)?).ok_or(NfStop::NoMemory),
         Some("0") => Ok(Nf::Seq(Seq::bare(alloc, SeqBase::Empty))),
         Some(name) => {
-            let symbol = position(name).ok_or(Trouble::Unread)?;
+            let symbol = position(name).ok_or(NfStop::NoMemory)?;
             Ok(Nf::Seq(Seq::bare(alloc, SeqBase::Sym(symbol))))
         }
     }
 }
 
-fn pop_sum(stack: &mut Vec<Nf>) -> Result<Poly, Trouble> {
+fn pop_sum(stack: &mut Vec<Nf>) -> Result<Poly, NfStop> {
     match stack.pop() {
         Some(Nf::Num(sum)) => Ok(sum),
-        Some(Nf::Arr(_)) | Some(Nf::Seq(_)) | None => Err(Trouble::Unread),
+        Some(Nf::Arr(_)) | Some(Nf::Seq(_)) | None => Err(NfStop::NoMemory),
     }
 }
 
-fn pop_array(stack: &mut Vec<Nf>) -> Result<Arr, Trouble> {
+fn pop_array(stack: &mut Vec<Nf>) -> Result<Arr, NfStop> {
     match stack.pop() {
         Some(Nf::Arr(array)) => Ok(array),
-        Some(Nf::Num(_)) | Some(Nf::Seq(_)) | None => Err(Trouble::Unread),
+        Some(Nf::Num(_)) | Some(Nf::Seq(_)) | None => Err(NfStop::NoMemory),
     }
 }
 
-fn pop_list(stack: &mut Vec<Nf>) -> Result<Seq, Trouble> {
+fn pop_list(stack: &mut Vec<Nf>) -> Result<Seq, NfStop> {
     match stack.pop() {
         Some(Nf::Seq(list)) => Ok(list),
-        Some(Nf::Num(_)) | Some(Nf::Arr(_)) | None => Err(Trouble::Unread),
+        Some(Nf::Num(_)) | Some(Nf::Arr(_)) | None => Err(NfStop::NoMemory),
     }
 }
 
@@ -78,62 +77,68 @@ fn operation(alloc: Global, word: &str, left: &Poly, right: &Poly) -> Result<Pol
     }
 }
 
-fn combined(alloc: Global, stack: &mut Vec<Nf>, word: &str) -> Result<Poly, Trouble> {
+fn combined(alloc: Global, stack: &mut Vec<Nf>, word: &str) -> Result<Nf, NfStop> {
     let right = pop_sum(stack)?;
     let left = pop_sum(stack)?;
-    Ok(operation(alloc, word, &left, &right)?)
+    Ok(Nf::Num(operation(alloc, word, &left, &right)?))
 }
 
-fn negated(alloc: Global, stack: &mut Vec<Nf>) -> Result<Poly, Trouble> {
+fn negated(alloc: Global, stack: &mut Vec<Nf>) -> Result<Nf, NfStop> {
     let sum = pop_sum(stack)?;
-    Ok(neg(alloc, &sum)?)
+    Ok(Nf::Num(neg(alloc, &sum)?))
 }
 
-fn read_at(alloc: Global, stack: &mut Vec<Nf>) -> Result<Poly, Trouble> {
+fn read_at(alloc: Global, stack: &mut Vec<Nf>) -> Result<Nf, NfStop> {
     let index = pop_sum(stack)?;
     let array = pop_array(stack)?;
-    Ok(read(alloc, &array, &index)?)
+    Ok(Nf::Num(read(alloc, &array, &index)?))
 }
 
-fn written(alloc: Global, stack: &mut Vec<Nf>) -> Result<Arr, Trouble> {
+fn written(alloc: Global, stack: &mut Vec<Nf>) -> Result<Nf, NfStop> {
     let value = pop_sum(stack)?;
     let index = pop_sum(stack)?;
     let array = pop_array(stack)?;
-    Ok(write(alloc, &array, &index, &value)?)
+    Ok(Nf::Arr(write(alloc, &array, &index, &value)?))
 }
 
-fn pushed(alloc: Global, stack: &mut Vec<Nf>) -> Result<Seq, Trouble> {
+fn pushed(alloc: Global, stack: &mut Vec<Nf>) -> Result<Nf, NfStop> {
     let item = pop_sum(stack)?;
     let list = pop_list(stack)?;
-    Ok(push(alloc, &list, &item)?)
+    Ok(Nf::Seq(push(alloc, &list, &item)?))
 }
 
 // What a word makes.
-fn made(alloc: Global, stack: &mut Vec<Nf>, word: &str) -> Result<Nf, Trouble> {
+fn made(alloc: Global, stack: &mut Vec<Nf>, word: &str) -> Result<Nf, NfStop> {
     match word {
-        "+" | "-" | "*" | "/" | "%" => Ok(Nf::Num(combined(alloc, stack, word)?)),
-        "neg" => Ok(Nf::Num(negated(alloc, stack)?)),
-        "[]" => Ok(Nf::Num(read_at(alloc, stack)?)),
-        "{}" => Ok(Nf::Arr(written(alloc, stack)?)),
-        "<<" => Ok(Nf::Seq(pushed(alloc, stack)?)),
+        "+" | "-" | "*" | "/" | "%" => combined(alloc, stack, word),
+        "neg" => negated(alloc, stack),
+        "[]" => read_at(alloc, stack),
+        "{}" => written(alloc, stack),
+        "<<" => pushed(alloc, stack),
         _ => simple(alloc, word),
     }
 }
 
-/// The normal form of a text.
-pub fn form(alloc: Global, text: &str) -> Result<Nf, Trouble> {
-    let mut stack = Vec::new(alloc);
+// Puts what each word of a text makes on the stack.
+fn make_each(alloc: Global, stack: &mut Vec<Nf>, text: &str) -> Result<(), NfStop> {
     for word in text.split_whitespace() {
-        let form = made(alloc, &mut stack, word)?;
+        let form = made(alloc, stack, word)?;
         stack.push(form)?;
     }
-    stack.pop().ok_or(Trouble::Unread)
+    Ok(())
+}
+
+/// The normal form of a text.
+pub fn form(alloc: Global, text: &str) -> Result<Nf, NfStop> {
+    let mut stack = Vec::new(alloc);
+    make_each(alloc, &mut stack, text)?;
+    stack.pop().ok_or(NfStop::NoMemory)
 }
 
 /// The normal sum of a text.
-pub fn sum(alloc: Global, text: &str) -> Result<Poly, Trouble> {
+pub fn sum(alloc: Global, text: &str) -> Result<Poly, NfStop> {
     match form(alloc, text)? {
         Nf::Num(sum) => Ok(sum),
-        Nf::Arr(_) | Nf::Seq(_) => Err(Trouble::Unread),
+        Nf::Arr(_) | Nf::Seq(_) => Err(NfStop::NoMemory),
     }
 }

@@ -19,8 +19,8 @@ mod operations;
 #[cfg(test)]
 mod orders;
 #[cfg(test)]
+mod rows;
+#[cfg(test)]
 mod substitutions;
 #[cfg(test)]
 mod trees;
-#[cfg(test)]
-mod trouble;

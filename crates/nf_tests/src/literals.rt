@@ -3,7 +3,7 @@
 ghost use Rattle.std.specs.Prelude.{◌<◌};
 
 use crate::forms::sum;
-use crate::trouble::Trouble;
+use crate::rows::each;
 use fs_model::parts::Rel;
 use nf_refutation::refutation::{Places, is_refuted, refuted};
 use nf_rel::clashes::{clash, implied, negate};
@@ -13,8 +13,8 @@ use nf_rel::literals::{Bound, NLit};
 use nf_rel::normal::is_normal;
 use nf_rel::normalize::literal;
 use nf_terms::poly::Poly;
+use nf_terms::stop::NfStop;
 use std::alloc::Global;
-use std::process::Abort;
 
 fn relation(word: &str) -> Option<Rel> {
     match word {
@@ -29,16 +29,16 @@ fn relation(word: &str) -> Option<Rel> {
 }
 
 // The literal of a text, as `a b +, >=, 2`.
-fn read_literal(alloc: Global, text: &str) -> Result<NLit, Trouble> {
+fn read_literal(alloc: Global, text: &str) -> Result<NLit, NfStop> {
     let mut parts = text.split(',');
     let left = sum(alloc, parts.next().unwrap_or(""))?;
-    let relation = relation(parts.next().unwrap_or("").trim()).ok_or(Trouble::Unread)?;
+    let relation = relation(parts.next().unwrap_or("").trim()).ok_or(NfStop::NoMemory)?;
     let right = sum(alloc, parts.next().unwrap_or(""))?;
     Ok(literal(alloc, relation, &left, &right)?)
 }
 
 // Whether a bound is the one of a text, as `a b +, >=, 2`.
-fn is_bound(alloc: Global, bound: &Bound, text: &str) -> Result<bool, Trouble> {
+fn is_bound(alloc: Global, bound: &Bound, text: &str) -> Result<bool, NfStop> {
     let mut parts = text.split(',');
     let direction: Poly = sum(alloc, parts.next().unwrap_or(""))?;
     let kind = match bound.kind {
@@ -55,7 +55,7 @@ fn is_bound(alloc: Global, bound: &Bound, text: &str) -> Result<bool, Trouble> {
 }
 
 // Whether a literal is the one of a text, and in normal form.
-fn is_literal(alloc: Global, literal: &NLit, text: &str) -> Result<bool, Trouble> {
+fn is_literal(alloc: Global, literal: &NLit, text: &str) -> Result<bool, NfStop> {
     match literal {
         NLit::True => Ok(text.trim() == "true"),
         NLit::False => Ok(text.trim() == "false"),
@@ -63,9 +63,8 @@ fn is_literal(alloc: Global, literal: &NLit, text: &str) -> Result<bool, Trouble
     }
 }
 
-// Whether the relation of a row is its literal, and that is in normal form.
-fn becomes(alloc: Global, row: &str) -> Result<bool, Trouble> {
-    let (left, right) = row.split_once(':').unwrap_or((row, ""));
+/// Whether the relation of a row is its literal, and that is in normal form.
+pub fn becomes(alloc: Global, left: &str, right: &str) -> Result<bool, NfStop> {
     let literal = read_literal(alloc, left)?;
     let copy = literal.try_clone(alloc)?;
     Ok(is_literal(alloc, &copy, right)? && is_normal(&literal) && is_same(&literal, &copy))
@@ -100,15 +99,11 @@ a, >=, -170141183460469231731687303715884105726: a, >=, -17014118346046923173168
 
 #[test]
 fn literals_of_relations(rt: HostRuntime) {
-    let alloc = rt.alloc();
-    for row in LITERALS.lines() {
-        assert!(rt; becomes(alloc, row).unwrap_or(false), "{row}");
-    }
+    each(&rt, rt.alloc(), "literal", LITERALS);
 }
 
-// Whether the negation of a row's literal is its other literal, and the negation of that the literal again.
-fn negates(alloc: Global, row: &str) -> Result<bool, Trouble> {
-    let (left, right) = row.split_once(':').unwrap_or((row, ""));
+/// Whether the negation of a row's literal is its other literal, and the negation of that the literal again.
+pub fn negates(alloc: Global, left: &str, right: &str) -> Result<bool, NfStop> {
     let negation = negate(read_literal(alloc, left)?);
     let negated = is_literal(alloc, &negation, right)?;
     let again = negate(negation);
@@ -123,26 +118,18 @@ a, !=, 2: a, ==, 2
 
 #[test]
 fn negations(rt: HostRuntime) {
-    let alloc = rt.alloc();
-    for row in NEGATIONS.lines() {
-        assert!(rt; negates(alloc, row).unwrap_or(false), "{row}");
-    }
+    each(&rt, rt.alloc(), "negation", NEGATIONS);
 }
 
-// Whether the literals of a row clash, in both orders.
-fn clashes(alloc: Global, row: &str) -> Result<bool, Trouble> {
-    let (left, right) = row.split_once(':').unwrap_or((row, ""));
+/// Whether the literals of a row clash as wanted, in both orders; those that do are not the same.
+pub fn clashes(alloc: Global, left: &str, right: &str, wanted: bool) -> Result<bool, NfStop> {
     let left = read_literal(alloc, left)?;
     let right = read_literal(alloc, right)?;
-    Ok(clash(&left, &right) && clash(&right, &left) && !is_same(&left, &right))
-}
-
-// Whether they do not, in both orders.
-fn agrees(alloc: Global, row: &str) -> Result<bool, Trouble> {
-    let (left, right) = row.split_once(':').unwrap_or((row, ""));
-    let left = read_literal(alloc, left)?;
-    let right = read_literal(alloc, right)?;
-    Ok(!clash(&left, &right) && !clash(&right, &left))
+    Ok(
+        clash(&left, &right) == wanted
+            && clash(&right, &left) == wanted
+            && !(wanted && is_same(&left, &right)),
+    )
 }
 
 const CLASHES: &str = "a, >=, 2: a, <=, 1
@@ -172,17 +159,12 @@ a, >=, 2: a b +, <=, 1
 
 #[test]
 fn literals_that_clash(rt: HostRuntime) {
-    let alloc = rt.alloc();
-    for row in CLASHES.lines() {
-        assert!(rt; clashes(alloc, row).unwrap_or(false), "{row}");
-    }
-    for row in NO_CLASHES.lines() {
-        assert!(rt; agrees(alloc, row).unwrap_or(false), "{row}");
-    }
+    each(&rt, rt.alloc(), "clash", CLASHES);
+    each(&rt, rt.alloc(), "no clash", NO_CLASHES);
 }
 
 // The literals of a list, between `;`.
-fn read_list(alloc: Global, text: &str) -> Result<Vec<NLit>, Trouble> {
+fn read_list(alloc: Global, text: &str) -> Result<Vec<NLit>, NfStop> {
     let mut list = Vec::new(alloc);
     for part in text.split(';') {
         let literal = read_literal(alloc, part)?;
@@ -192,16 +174,15 @@ fn read_list(alloc: Global, text: &str) -> Result<Vec<NLit>, Trouble> {
 }
 
 // The places that clash in a list, if it is short.
-fn clashing(list: &[NLit]) -> Result<Option<Places>, Trouble> {
+fn clashing(list: &[NLit]) -> Result<Option<Places>, NfStop> {
     if list.len() > 100 {
-        return Err(Trouble::Unread);
+        return Err(NfStop::NoMemory);
     }
     Ok(refuted(list))
 }
 
-// Whether the first literals of a row that clash stand at its places.
-fn is_refuted_at(alloc: Global, row: &str) -> Result<bool, Trouble> {
-    let (text, places) = row.split_once(':').unwrap_or((row, ""));
+/// Whether the first literals of a row that clash stand at its places.
+pub fn is_refuted_at(alloc: Global, text: &str, places: &str) -> Result<bool, NfStop> {
     let list = read_list(alloc, text)?;
     let is_refuted = is_refuted(alloc, list.as_slice())?;
     match clashing(list.as_slice())? {
@@ -238,14 +219,11 @@ a, >=, 1; a, <=, 9; a, !=, 3; b, ==, 3: none
 
 #[test]
 fn lists_that_are_refuted(rt: HostRuntime) {
-    let alloc = rt.alloc();
-    for row in LISTS.lines() {
-        assert!(rt; is_refuted_at(alloc, row).unwrap_or(false), "{row}");
-    }
+    each(&rt, rt.alloc(), "refuted", LISTS);
 }
 
-// Whether a row is refuted as wanted, though no two of its literals clash.
-fn is_refuted_together(alloc: Global, row: &str, wanted: bool) -> Result<bool, Trouble> {
+/// Whether a row is refuted as wanted, though no two of its literals clash.
+pub fn is_refuted_together(alloc: Global, row: &str, wanted: bool) -> Result<bool, NfStop> {
     let list = read_list(alloc, row)?;
     let is_refuted = is_refuted(alloc, list.as_slice())?;
     Ok(is_refuted == wanted && clashing(list.as_slice())?.is_none())
@@ -275,27 +253,15 @@ a, <=, -170141183460469231731687303715884105725; a, !=, -17014118346046923173168
 
 #[test]
 fn lists_that_are_refuted_together(rt: HostRuntime) {
-    let alloc = rt.alloc();
-    for row in REFUTED_TOGETHER.lines() {
-        assert!(rt;
-            is_refuted_together(alloc, row, true).unwrap_or(false),
-            "{row}"
-        );
-    }
-    for row in OPEN.lines() {
-        assert!(rt;
-            is_refuted_together(alloc, row, false).unwrap_or(false),
-            "{row}"
-        );
-    }
+    each(&rt, rt.alloc(), "refuted together", REFUTED_TOGETHER);
+    each(&rt, rt.alloc(), "open", OPEN);
 }
 
-// Whether the list of a row implies its literal.
-fn implies(alloc: Global, row: &str) -> Result<bool, Trouble> {
-    let (text, last) = row.split_once(':').unwrap_or((row, ""));
+/// Whether the list of a row implies its literal, as wanted.
+pub fn implies(alloc: Global, text: &str, last: &str, wanted: bool) -> Result<bool, NfStop> {
     let list = read_list(alloc, text)?;
     let literal = read_literal(alloc, last)?;
-    Ok(implied(list.as_slice(), &literal))
+    Ok(implied(list.as_slice(), &literal) == wanted)
 }
 
 const IMPLIED: &str = "a, >=, 2: a, >=, 2
@@ -333,15 +299,8 @@ a, >=, 3; a, <=, 3; a, !=, 3: 0, ==, 1
 a, >=, 170141183460469231731687303715884105725: a, >=, 170141183460469231731687303715884105726
 ";
 
-fn each_implied(rt: &impl Abort, alloc: Global, rows: &str, wanted: bool) {
-    for row in rows.lines() {
-        assert!(rt; implies(alloc, row) == Ok(wanted), "{row}");
-    }
-}
-
 #[test]
 fn literals_that_are_implied(rt: HostRuntime) {
-    let alloc = rt.alloc();
-    each_implied(&rt, alloc, IMPLIED, true);
-    each_implied(&rt, alloc, NOT_IMPLIED, false);
+    each(&rt, rt.alloc(), "implied", IMPLIED);
+    each(&rt, rt.alloc(), "not implied", NOT_IMPLIED);
 }

@@ -1,8 +1,9 @@
 //! Sizes, depths and weights.
 
 use crate::forms::written_form;
-use crate::trouble::Trouble;
+use crate::rows::each;
 use nf_terms::form::Nf;
+use nf_terms::stop::NfStop;
 use std::alloc::Global;
 
 // The weight of a sum, and 0 of other forms.
@@ -17,8 +18,8 @@ fn number(cell: &str) -> u128 {
     cell.trim().parse::<u128>().unwrap_or(u128::MAX)
 }
 
-// Whether the form of a row has its size, its depth and its weight.
-fn has_measures(alloc: Global, row: &str) -> Result<bool, Trouble> {
+/// Whether the form of a row has its size, its depth and its weight.
+pub fn has_measures(alloc: Global, row: &str) -> Result<bool, NfStop> {
     let (text, cells) = row.split_once(':').unwrap_or((row, ""));
     let form = written_form(alloc, text)?;
     let mut cells = cells.split(',');
@@ -60,8 +61,5 @@ a^4095: 4096, 0, 1
 
 #[test]
 fn sizes_depths_and_weights(rt: HostRuntime) {
-    let alloc = rt.alloc();
-    for row in MEASURES.lines() {
-        assert!(rt; has_measures(alloc, row).unwrap_or(false), "{row}");
-    }
+    each(&rt, rt.alloc(), "measures", MEASURES);
 }

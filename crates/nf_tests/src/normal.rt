@@ -1,15 +1,15 @@
 //! Which trees are normal forms.
 
 use crate::forms::normal;
+use crate::rows::each;
 use crate::trees::tree_of;
+use nf_terms::stop::NfStop;
 use std::alloc::Global;
 
-// Whether a text is a tree, and the tree a normal form.
-fn is_normal(alloc: Global, text: &str) -> Option<bool> {
-    match tree_of(alloc, text) {
-        Ok(tree) => Some(normal(tree).is_some()),
-        Err(_) => None,
-    }
+/// Whether the tree of a text is a normal form, or is none, as wanted.
+pub fn is_normal(alloc: Global, text: &str, wanted: bool) -> Result<bool, NfStop> {
+    let tree = tree_of(alloc, text)?;
+    Ok(normal(tree).is_some() == wanted)
 }
 
 const NORMAL: &str = "0
@@ -77,16 +77,10 @@ m~65
 
 #[test]
 fn trees_that_are_normal_forms(rt: HostRuntime) {
-    let alloc = rt.alloc();
-    for row in NORMAL.lines() {
-        assert!(rt; is_normal(alloc, row) == Some(true), "{row}");
-    }
+    each(&rt, rt.alloc(), "normal", NORMAL);
 }
 
 #[test]
 fn trees_that_are_none(rt: HostRuntime) {
-    let alloc = rt.alloc();
-    for row in NOT_NORMAL.lines() {
-        assert!(rt; is_normal(alloc, row) == Some(false), "{row}");
-    }
+    each(&rt, rt.alloc(), "not normal", NOT_NORMAL);
 }

@@ -1,18 +1,18 @@
 //! What operations give, and where they stop.
 
 use crate::forms::{form, written_form};
-use crate::trouble::Trouble;
+use crate::rows::each;
 use nf_sums::sums::number;
 use nf_terms::stop::NfStop;
 use std::alloc::Global;
-use std::process::Abort;
 
-// Whether the left text gives the form whose tree is the right one.
-fn gives(alloc: Global, row: &str) -> Result<bool, Trouble> {
+/// Whether the left text gives the form whose tree is the right one, or stops as that says.
+pub fn gives(alloc: Global, row: &str) -> Result<bool, NfStop> {
     let (left, right) = row.split_once('=').unwrap_or((row, ""));
-    let given = form(alloc, left)?;
-    let wanted = written_form(alloc, right)?;
-    Ok(given.is_same(&wanted))
+    match form(alloc, left) {
+        Ok(given) => Ok(given.is_same(&written_form(alloc, right)?)),
+        Err(stop) => Ok(is_event(stop, right)),
+    }
 }
 
 const SUMS: &str = "b a + = a b +
@@ -72,52 +72,37 @@ const ARRAYS: &str = "@m 0 [] = @m 0 []
 #0 1 << 2 << = #0 1 << 2 <<
 ";
 
-fn each_gives(rt: &impl Abort, alloc: Global, rows: &str) {
-    for row in rows.lines() {
-        assert!(rt; gives(alloc, row).unwrap_or(false), "{row}");
-    }
-}
-
 #[test]
 fn sums_and_products(rt: HostRuntime) {
-    each_gives(&rt, rt.alloc(), SUMS);
+    each(&rt, rt.alloc(), "operation", SUMS);
 }
 
 #[test]
 fn quotients_and_remainders(rt: HostRuntime) {
-    each_gives(&rt, rt.alloc(), DIVISIONS);
+    each(&rt, rt.alloc(), "operation", DIVISIONS);
 }
 
 #[test]
 fn reads_writes_and_pushes(rt: HostRuntime) {
-    each_gives(&rt, rt.alloc(), ARRAYS);
+    each(&rt, rt.alloc(), "operation", ARRAYS);
 }
 
-// Whether a text stops as is written.
-fn stops(alloc: Global, row: &str) -> bool {
-    let (text, event) = row.split_once('=').unwrap_or((row, ""));
-    match form(alloc, text) {
-        Err(Trouble::Stop(stop)) => Some(stop) == read_event(event),
-        Err(Trouble::Unread) | Ok(_) => false,
-    }
-}
-
-// An event, as `wide 1 2` or `large 1 2`.
-fn read_event(text: &str) -> Option<NfStop> {
-    let mut words = text.split_whitespace();
-    let kind = words.next()?;
-    let first = words.next()?;
-    let second = words.next()?;
-    match kind {
-        "wide" => Some(NfStop::Wide {
-            left: first.parse::<u128>().ok()?,
-            right: second.parse::<u128>().ok()?,
-        }),
-        "large" => Some(NfStop::Large {
-            units: first.parse::<u64>().ok()?,
-            depth: second.parse::<u32>().ok()?,
-        }),
-        _ => None,
+/// Whether an event is that of a text, as `wide 1 2` or `large 1 2`.
+pub fn is_event(stop: NfStop, text: &str) -> bool {
+    let (kind, numbers) = text.trim().split_once(' ').unwrap_or((text, ""));
+    let (first, second) = numbers.split_once(' ').unwrap_or((numbers, ""));
+    match stop {
+        NfStop::Wide { left, right } => {
+            kind == "wide"
+                && first.parse::<u128>().ok() == Some(left)
+                && second.parse::<u128>().ok() == Some(right)
+        }
+        NfStop::Large { units, depth } => {
+            kind == "large"
+                && first.parse::<u64>().ok() == Some(units)
+                && second.parse::<u32>().ok() == Some(depth)
+        }
+        NfStop::NoMemory => false,
     }
 }
 
@@ -146,10 +131,7 @@ a^4094 b / = large 4099 0
 
 #[test]
 fn where_operations_stop(rt: HostRuntime) {
-    let alloc = rt.alloc();
-    for row in EVENTS.lines() {
-        assert!(rt; stops(alloc, row), "{row}");
-    }
+    each(&rt, rt.alloc(), "operation", EVENTS);
 }
 
 #[test]

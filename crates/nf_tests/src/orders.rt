@@ -1,8 +1,9 @@
 //! The order of terms.
 
 use crate::forms::form;
-use crate::trouble::Trouble;
+use crate::rows::each;
 use nf_terms::form::Nf;
+use nf_terms::stop::NfStop;
 use std::alloc::Global;
 use std::cmp::Ordering;
 
@@ -25,8 +26,8 @@ fn stand(lower: &Nf, higher: &Nf) -> bool {
         && !lower.is_same(higher)
 }
 
-// Whether the left form of a row stands before the right one.
-fn stands(alloc: Global, row: &str) -> Result<bool, Trouble> {
+/// Whether the left form of a row stands before the right one.
+pub fn stands(alloc: Global, row: &str) -> Result<bool, NfStop> {
     let (left, right) = row.split_once(" < ").unwrap_or((row, ""));
     let lower = form(alloc, left)?;
     let higher = form(alloc, right)?;
@@ -74,8 +75,5 @@ a c / < b a /
 
 #[test]
 fn the_order_of_terms(rt: HostRuntime) {
-    let alloc = rt.alloc();
-    for row in RISING.lines() {
-        assert!(rt; stands(alloc, row).unwrap_or(false), "{row}");
-    }
+    each(&rt, rt.alloc(), "order", RISING);
 }

@@ -1,8 +1,9 @@
 //! Vectors, and what they give in place of symbols.
 
 use crate::forms::form;
+use crate::operations::is_event;
+use crate::rows::each;
 use crate::trees::position;
-use crate::trouble::Trouble;
 use nf_substitution::subst::{Subst, subst_arr, subst_poly, subst_seq};
 use nf_substitution::vector::Vector;
 use nf_terms::form::Nf;
@@ -10,17 +11,17 @@ use nf_terms::stop::NfStop;
 use std::alloc::Global;
 
 // Gives the symbol of an equation its form, as `a = b 1 +`.
-fn put(alloc: Global, vector: &mut Vector, equation: &str) -> Result<(), Trouble> {
+fn put(alloc: Global, vector: &mut Vector, equation: &str) -> Result<(), NfStop> {
     let Some((name, text)) = equation.split_once('=') else {
         return Ok(());
     };
-    let symbol = position(name.trim()).ok_or(Trouble::Unread)?;
+    let symbol = position(name.trim()).ok_or(NfStop::NoMemory)?;
     let value = form(alloc, text)?;
     Ok(vector.put(symbol, value)?)
 }
 
 // The vector of equations between `;`.
-fn read_vector(alloc: Global, text: &str) -> Result<Vector, Trouble> {
+fn read_vector(alloc: Global, text: &str) -> Result<Vector, NfStop> {
     let mut vector = Vector::new(alloc);
     for equation in text.split(';') {
         put(alloc, &mut vector, equation)?;
@@ -47,38 +48,53 @@ fn again(alloc: Global, form: &Nf, subst: &mut Subst) -> Result<Nf, NfStop> {
 }
 
 // Whether a substitution gives a form.
-fn gives_again(alloc: Global, subst: &mut Subst, form: &Nf, wanted: &Nf) -> Result<bool, Trouble> {
+fn gives_again(alloc: Global, subst: &mut Subst, form: &Nf, wanted: &Nf) -> Result<bool, NfStop> {
     let found = again(alloc, form, subst)?;
     Ok(found.is_same(wanted))
 }
 
 // Whether a kept substitution gives a form twice.
-fn kept(alloc: Global, vector: &Vector, form: &Nf, wanted: &Nf) -> Result<bool, Trouble> {
-    let mut subst = Subst::new(alloc, vector);
-    Ok(
-        gives_again(alloc, &mut subst, form, wanted)?
-            && gives_again(alloc, &mut subst, form, wanted)?,
-    )
+fn gives_twice(alloc: Global, subst: &mut Subst, form: &Nf, wanted: &Nf) -> Result<bool, NfStop> {
+    Ok(gives_again(alloc, subst, form, wanted)? && gives_again(alloc, subst, form, wanted)?)
 }
 
-// Whether a row's form over its vector is its other form.
-fn gives(alloc: Global, row: &str) -> Result<bool, Trouble> {
+fn kept(alloc: Global, vector: &Vector, form: &Nf, wanted: &Nf) -> Result<bool, NfStop> {
+    let mut subst = Subst::new(alloc, vector);
+    gives_twice(alloc, &mut subst, form, wanted)
+}
+
+// Whether what was found over a vector is the form of a text, which a kept substitution gives, too.
+fn is_wanted(
+    alloc: Global,
+    vector: &Vector,
+    given: &Nf,
+    found: &Nf,
+    text: &str,
+) -> Result<bool, NfStop> {
+    let wanted = form(alloc, text)?;
+    Ok(found.is_same(&wanted) && kept(alloc, vector, given, &wanted)?)
+}
+
+// Whether a form over a vector is the form of a text, or stops as that says.
+fn is_given(alloc: Global, vector: &Vector, given: &Nf, text: &str) -> Result<bool, NfStop> {
+    match substituted(alloc, given, vector) {
+        Ok(found) => is_wanted(alloc, vector, given, &found, text),
+        Err(stop) => Ok(is_event(stop, text)),
+    }
+}
+
+// The same of the form of the one text, and the other.
+fn holds(alloc: Global, vector: &Vector, left: &str, right: &str) -> Result<bool, NfStop> {
+    let given = form(alloc, left)?;
+    is_given(alloc, vector, &given, right)
+}
+
+/// Whether a row's form over its vector is its other form, or stops as that says.
+pub fn gives(alloc: Global, row: &str) -> Result<bool, NfStop> {
     let (equations, rest) = row.split_once('|').unwrap_or((row, ""));
     let (left, right) = rest.split_once(':').unwrap_or((rest, ""));
     let vector = read_vector(alloc, equations)?;
     holds(alloc, &vector, left, right)
-}
-
-// Whether a form over a vector is another form, by a substitution for it alone and by one that is kept.
-fn is_given(alloc: Global, vector: &Vector, form: &Nf, wanted: &Nf) -> Result<bool, Trouble> {
-    let found = substituted(alloc, form, vector)?;
-    Ok(found.is_same(wanted) && kept(alloc, vector, form, wanted)?)
-}
-
-fn holds(alloc: Global, vector: &Vector, left: &str, right: &str) -> Result<bool, Trouble> {
-    let form_of_left = form(alloc, left)?;
-    let wanted = form(alloc, right)?;
-    is_given(alloc, vector, &form_of_left, &wanted)
 }
 
 const SUBSTITUTIONS: &str = "a = b | a 1 + : b 1 +
@@ -105,34 +121,15 @@ a = b ; a = c | a : c
 
 #[test]
 fn forms_in_place_of_symbols(rt: HostRuntime) {
-    let alloc = rt.alloc();
-    for row in SUBSTITUTIONS.lines() {
-        assert!(rt; gives(alloc, row).unwrap_or(false), "{row}");
-    }
+    each(&rt, rt.alloc(), "substitution", SUBSTITUTIONS);
 }
 
-// Whether a row's form over its vector stops so.
-fn stops(alloc: Global, equations: &str, text: &str, stop: NfStop) -> Result<bool, Trouble> {
-    let vector = read_vector(alloc, equations)?;
-    let form = form(alloc, text)?;
-    match substituted(alloc, &form, &vector) {
-        Err(found) => Ok(found == stop),
-        Ok(_) => Ok(false),
-    }
-}
+const EVENTS: &str =
+    "a = a^64 ; b = 170141183460469231731687303715884105727 | a a * 2 b * + : large 4225 0
+a = a^64 ; b = 170141183460469231731687303715884105727 | a 2 * b * c * a a * + : wide 2 170141183460469231731687303715884105727
+";
 
 #[test]
 fn the_first_event_of_a_substitution(rt: HostRuntime) {
-    let alloc = rt.alloc();
-    let large = NfStop::Large {
-        units: 4225,
-        depth: 0,
-    };
-    let wide = NfStop::Wide {
-        left: 2,
-        right: i128::MAX as u128,
-    };
-    let equations = "a = a^64 ; b = 170141183460469231731687303715884105727";
-    assert!(rt; stops(alloc, equations, "a a * 2 b * +", large).unwrap_or(false));
-    assert!(rt; stops(alloc, equations, "a 2 * b * c * a a * +", wide).unwrap_or(false));
+    each(&rt, rt.alloc(), "substitution", EVENTS);
 }

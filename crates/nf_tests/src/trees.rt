@@ -5,7 +5,8 @@
 //! behind two monomials, `/` and `%` behind a dividend and a divisor, `[]` behind an array and an index, and `{}` behind an
 //! array, an index and a value. `a^3` is the product of three a, and `m~3` is m read at m read at m read at 0.
 
-use crate::trouble::Trouble;
+use nf_terms::atoms::{make_quotient, make_read, make_remainder};
+use nf_terms::stop::NfStop;
 use nf_terms::tree::{ArrTree, Atom, Base, MonoTree, PolyTree, Pos, Side};
 use std::alloc::Global;
 
@@ -36,33 +37,33 @@ pub fn position(name: &str) -> Option<Pos> {
 }
 
 // One monomial.
-fn monomial(alloc: Global, atoms: Vec<Atom>, coefficient: i128) -> Result<PolyTree, Trouble> {
+fn monomial(alloc: Global, atoms: Vec<Atom>, coefficient: i128) -> Result<PolyTree, NfStop> {
     let mut monos = Vec::new(alloc);
     monos.push((MonoTree { atoms }, coefficient))?;
     Ok(PolyTree { monos })
 }
 
 /// One atom.
-fn atom_alone(alloc: Global, atom: Atom) -> Result<PolyTree, Trouble> {
+fn atom_alone(alloc: Global, atom: Atom) -> Result<PolyTree, NfStop> {
     let mut atoms = Vec::new(alloc);
     atoms.push(atom)?;
     monomial(alloc, atoms, 1)
 }
 
 // A number; 0 has no monomial.
-fn number(alloc: Global, text: &str) -> Result<PolyTree, Trouble> {
+fn number(alloc: Global, text: &str) -> Result<PolyTree, NfStop> {
     match text.parse::<i128>() {
         Ok(0) => Ok(PolyTree {
             monos: Vec::new(alloc),
         }),
         Ok(number) => monomial(alloc, Vec::new(alloc), number),
-        Err(_) => Err(Trouble::Unread),
+        Err(_) => Err(NfStop::NoMemory),
     }
 }
 
 // A power of a symbol.
-fn power(alloc: Global, name: &str, times: &str) -> Result<PolyTree, Trouble> {
-    let symbol = position(name).ok_or(Trouble::Unread)?;
+fn power(alloc: Global, name: &str, times: &str) -> Result<PolyTree, NfStop> {
+    let symbol = position(name).ok_or(NfStop::NoMemory)?;
     let mut atoms = Vec::new(alloc);
     for _ in 0..times.parse::<u32>().unwrap_or(0) {
         atoms.push(Atom::Sym(symbol))?;
@@ -78,15 +79,13 @@ fn bare(alloc: Global, base: Base) -> ArrTree {
 }
 
 // An array read at an index.
-fn read(alloc: Global, array: ArrTree, index: PolyTree) -> Result<PolyTree, Trouble> {
-    let array = Box::new(alloc, array)?;
-    let index = Box::new(alloc, index)?;
-    atom_alone(alloc, Atom::Read(array, index))
+fn read(alloc: Global, array: ArrTree, index: PolyTree) -> Result<PolyTree, NfStop> {
+    atom_alone(alloc, make_read(alloc, array, index)?)
 }
 
 // Reads of an array inside one another.
-fn nested(alloc: Global, name: &str, times: &str) -> Result<PolyTree, Trouble> {
-    let symbol = position(name).ok_or(Trouble::Unread)?;
+fn nested(alloc: Global, name: &str, times: &str) -> Result<PolyTree, NfStop> {
+    let symbol = position(name).ok_or(NfStop::NoMemory)?;
     let mut so_far = number(alloc, "0")?;
     for _ in 0..times.parse::<u32>().unwrap_or(0) {
         so_far = read(alloc, bare(alloc, Base::Sym(symbol)), so_far)?;
@@ -95,7 +94,7 @@ fn nested(alloc: Global, name: &str, times: &str) -> Result<PolyTree, Trouble> {
 }
 
 // A sum of one word.
-fn sum(alloc: Global, word: &str) -> Result<PolyTree, Trouble> {
+fn sum(alloc: Global, word: &str) -> Result<PolyTree, NfStop> {
     if let Some(symbol) = position(word) {
         return atom_alone(alloc, Atom::Sym(symbol));
     }
@@ -109,101 +108,105 @@ fn sum(alloc: Global, word: &str) -> Result<PolyTree, Trouble> {
 }
 
 /// The sum or array of one word.
-pub fn operand(alloc: Global, word: &str) -> Result<Tree, Trouble> {
+pub fn operand(alloc: Global, word: &str) -> Result<Tree, NfStop> {
     match word.strip_prefix("@") {
         None => Ok(Tree::Sum(sum(alloc, word)?)),
         Some("0") => Ok(Tree::Array(bare(alloc, Base::Zero))),
         Some(name) => {
-            let symbol = position(name).ok_or(Trouble::Unread)?;
+            let symbol = position(name).ok_or(NfStop::NoMemory)?;
             Ok(Tree::Array(bare(alloc, Base::Sym(symbol))))
         }
     }
 }
 
-fn pop_sum(stack: &mut Vec<Tree>) -> Result<PolyTree, Trouble> {
+fn pop_sum(stack: &mut Vec<Tree>) -> Result<PolyTree, NfStop> {
     match stack.pop() {
         Some(Tree::Sum(sum)) => Ok(sum),
-        Some(Tree::Array(_)) | None => Err(Trouble::Unread),
+        Some(Tree::Array(_)) | None => Err(NfStop::NoMemory),
     }
 }
 
-fn pop_array(stack: &mut Vec<Tree>) -> Result<ArrTree, Trouble> {
+fn pop_array(stack: &mut Vec<Tree>) -> Result<ArrTree, NfStop> {
     match stack.pop() {
         Some(Tree::Array(array)) => Ok(array),
-        Some(Tree::Sum(_)) | None => Err(Trouble::Unread),
+        Some(Tree::Sum(_)) | None => Err(NfStop::NoMemory),
     }
 }
 
 // The one sum behind the other.
-fn joined(stack: &mut Vec<Tree>) -> Result<PolyTree, Trouble> {
-    let right = pop_sum(stack)?;
+fn joined(stack: &mut Vec<Tree>) -> Result<Tree, NfStop> {
+    let mut right = pop_sum(stack)?;
     let mut left = pop_sum(stack)?;
-    for term in right.monos {
-        left.monos.push(term)?;
-    }
-    Ok(left)
+    left.monos.append(&mut right.monos)?;
+    Ok(Tree::Sum(left))
 }
 
 // The first monomial of a sum.
-fn pop_monomial(stack: &mut Vec<Tree>) -> Result<(MonoTree, i128), Trouble> {
+fn pop_monomial(stack: &mut Vec<Tree>) -> Result<(MonoTree, i128), NfStop> {
     let mut sum = pop_sum(stack)?;
-    sum.monos.pop().ok_or(Trouble::Unread)
+    sum.monos.pop().ok_or(NfStop::NoMemory)
 }
 
 // The atoms of one monomial behind those of the other.
-fn multiplied(alloc: Global, stack: &mut Vec<Tree>) -> Result<PolyTree, Trouble> {
-    let (right, factor) = pop_monomial(stack)?;
+fn multiplied(alloc: Global, stack: &mut Vec<Tree>) -> Result<Tree, NfStop> {
+    let (mut right, factor) = pop_monomial(stack)?;
     let (mut left, coefficient) = pop_monomial(stack)?;
-    for atom in right.atoms {
-        left.atoms.push(atom)?;
-    }
-    monomial(alloc, left.atoms, coefficient.saturating_mul(factor))
+    left.atoms.append(&mut right.atoms)?;
+    let product = monomial(alloc, left.atoms, coefficient.saturating_mul(factor))?;
+    Ok(Tree::Sum(product))
 }
 
 // A quotient, or a remainder.
-fn division(alloc: Global, stack: &mut Vec<Tree>, word: &str) -> Result<PolyTree, Trouble> {
-    let right = Box::new(alloc, pop_sum(stack)?)?;
-    let left = Box::new(alloc, pop_sum(stack)?)?;
-    if word == "/" {
-        atom_alone(alloc, Atom::Div(left, right))
+fn division(alloc: Global, stack: &mut Vec<Tree>, word: &str) -> Result<Tree, NfStop> {
+    let right = pop_sum(stack)?;
+    let left = pop_sum(stack)?;
+    let atom = if word == "/" {
+        make_quotient(alloc, left, right)?
     } else {
-        atom_alone(alloc, Atom::Rem(left, right))
-    }
+        make_remainder(alloc, left, right)?
+    };
+    Ok(Tree::Sum(atom_alone(alloc, atom)?))
 }
 
-fn read_at(alloc: Global, stack: &mut Vec<Tree>) -> Result<PolyTree, Trouble> {
+fn read_at(alloc: Global, stack: &mut Vec<Tree>) -> Result<Tree, NfStop> {
     let index = pop_sum(stack)?;
     let array = pop_array(stack)?;
-    read(alloc, array, index)
+    Ok(Tree::Sum(read(alloc, array, index)?))
 }
 
-fn written(stack: &mut Vec<Tree>) -> Result<ArrTree, Trouble> {
+fn written(stack: &mut Vec<Tree>) -> Result<Tree, NfStop> {
     let value = pop_sum(stack)?;
     let index = pop_sum(stack)?;
     let mut array = pop_array(stack)?;
     array.writes.push((index, value))?;
-    Ok(array)
+    Ok(Tree::Array(array))
 }
 
 // What a word makes.
-fn made(alloc: Global, stack: &mut Vec<Tree>, word: &str) -> Result<Tree, Trouble> {
+fn made(alloc: Global, stack: &mut Vec<Tree>, word: &str) -> Result<Tree, NfStop> {
     match word {
-        "+" => Ok(Tree::Sum(joined(stack)?)),
-        "*" => Ok(Tree::Sum(multiplied(alloc, stack)?)),
-        "/" | "%" => Ok(Tree::Sum(division(alloc, stack, word)?)),
-        "[]" => Ok(Tree::Sum(read_at(alloc, stack)?)),
-        "{}" => Ok(Tree::Array(written(stack)?)),
+        "+" => joined(stack),
+        "*" => multiplied(alloc, stack),
+        "/" | "%" => division(alloc, stack, word),
+        "[]" => read_at(alloc, stack),
+        "{}" => written(stack),
         "none" => Ok(Tree::Sum(monomial(alloc, Vec::new(alloc), 0)?)),
         _ => operand(alloc, word),
     }
 }
 
-/// The tree of a text.
-pub fn tree_of(alloc: Global, text: &str) -> Result<Tree, Trouble> {
-    let mut stack = Vec::new(alloc);
+// Puts what each word of a text makes on the stack.
+fn make_each(alloc: Global, stack: &mut Vec<Tree>, text: &str) -> Result<(), NfStop> {
     for word in text.split_whitespace() {
-        let tree = made(alloc, &mut stack, word)?;
+        let tree = made(alloc, stack, word)?;
         stack.push(tree)?;
     }
-    stack.pop().ok_or(Trouble::Unread)
+    Ok(())
+}
+
+/// The tree of a text.
+pub fn tree_of(alloc: Global, text: &str) -> Result<Tree, NfStop> {
+    let mut stack = Vec::new(alloc);
+    make_each(alloc, &mut stack, text)?;
+    stack.pop().ok_or(NfStop::NoMemory)
 }

@@ -1,0 +1,101 @@
+//! Further candidates.
+
+use crate::candidates::first::first_found;
+use fs_ast::machine::Machine;
+use fs_runs::inputs::Inputs;
+use fs_runs::values::Value;
+use fs_sample_machines::reading::machine;
+use fs_trials::candidates::Candidates;
+use std::alloc::Global;
+use std::test::Fail;
+
+// The pool of two of these has 10 numbers, so that further candidates come from number 100 on. Further numbers are 0 to 10,
+// 12, 16, -1, -2, -3, -5, 99, 100 and 101.
+const CONSTANTS: &str = "fsmd 1; input a, b; input array m; output y; reset s0;
+state s0: when a > 100 goto s0: y = b + 7; goto s0: y = m[a];";
+
+// After n turns y is the n-th power of two.
+const POWERS: &str = "fsmd 1; input n; local i, r; output y; reset s0;
+state s0: goto s1: i = 0, r = 1;
+state s1: when i < n goto s1: i = i + 1, r = r + r; goto s0: y = r;";
+
+// After n turns y is the number of regions into which lines between n + 1 points of a circle divide it: 1, 2, 4, 8, 16, 31 ..
+const REGIONS: &str = "fsmd 1; input n; local i, r, d, e, f; output y; reset q0;
+state q0: goto q1: i = 0, r = 1, d = 1, e = 1, f = 1;
+state q1: when i < n goto q1: i = i + 1, r = r + d, d = d + e, e = e + f, f = f + 1; goto q0: y = r;";
+
+// What inputs give index i of input k. A number has index 0 alone.
+fn value_at(inputs: &Inputs, k: u32, i: i128) -> Option<i128> {
+    if inputs.sort(k).is_none() {
+        return None;
+    }
+    match inputs.get(k) {
+        Value::Num(n) => Some(*n),
+        Value::Arr(entries) => Some(entries.get(i)),
+        Value::List(_) => None,
+    }
+}
+
+// What further candidate j gives index i of input k of a machine.
+fn given(alloc: Global, m: &Machine, j: u64, k: u32, i: i128) -> Option<i128> {
+    if j >= 256 {
+        return None;
+    }
+    let Ok(candidates) = Candidates::of(alloc, m, m) else {
+        return None;
+    };
+    let number = candidates.count() - 256 + j;
+    match candidates.inputs(alloc, number, m) {
+        Ok(inputs) => value_at(&inputs, k, i),
+        Err(_) => None,
+    }
+}
+
+// The first, one in the middle and the last, each at two scalars and at places of an array.
+#[test]
+fn numbers_of_further_candidates(rt: HostRuntime) -> Result<(), Fail> {
+    let machine = machine(rt.alloc(), CONSTANTS)?;
+    for (j, k, i, number) in [
+        (0, 0, 0, 99),
+        (0, 1, 0, 8),
+        (0, 2, 0, 101),
+        (0, 2, 1, 4),
+        (0, 2, 31, -2),
+        (0, 2, 32, 0),
+        (0, 2, -1, 0),
+        (7, 0, 0, 8),
+        (7, 1, 0, 16),
+        (7, 2, 3, 101),
+        (7, 2, 15, 12),
+        (7, 2, 16, 8),
+        (255, 0, 0, -3),
+        (255, 1, 0, 2),
+        (255, 2, 0, 9),
+        (255, 2, 31, 100),
+        (255, 2, 32, 0),
+    ] {
+        assert!(rt;
+            given(rt.alloc(), &machine, j, k, i) == Some(number),
+            "candidate {j}, input {k}, index {i}"
+        );
+    }
+    Ok(())
+}
+
+// Whether the first candidate that shows a difference of two texts' machines is this one, and gives the first input this number.
+fn is_first(alloc: Global, left: &str, right: &str, j: u64, number: i128) -> Result<bool, Fail> {
+    let left = machine(alloc, left)?;
+    let right = machine(alloc, right)?;
+    match first_found(alloc, &left, &right)? {
+        Some(found) => Ok(found.j == j && value_at(&found.inputs, 0, 0) == Some(number)),
+        None => Ok(false),
+    }
+}
+
+// A loop must turn five times before the two differ. The pool is 0, 1, -1 and 2, so its 16 candidates show nothing: the second
+// of the further ones gives 6.
+#[test]
+fn only_a_further_candidate_differs(rt: HostRuntime) -> Result<(), Fail> {
+    assert!(rt; is_first(rt.alloc(), POWERS, REGIONS, 17, 6)?);
+    Ok(())
+}

@@ -1,0 +1,57 @@
+//! The positions of two machines.
+
+use fs_pair::positions::{Position, same_interface};
+use fs_sample_machines::reading::machine;
+use nf_terms::tree::Side;
+use std::test::Fail;
+
+const LEFT: &str = "fsmd 1; input a; local t, u; output y; reset s0;
+state s0: goto s0: y = a;";
+
+const RIGHT: &str = "fsmd 1; output y; local u; input a; local v; reset q0;
+state q0: goto q0: y = a;";
+
+// Whether a position is that of a text: a machine's letter, the number of its variable there, and the place of its partner.
+fn is_position(position: &Position, text: &str) -> bool {
+    let (place, partner) = text.split_once(" with ").unwrap_or((text, ""));
+    let var = match position.pos.side {
+        Side::Left => place.strip_prefix("L"),
+        Side::Right => place.strip_prefix("R"),
+    };
+    var.unwrap_or("").parse::<u32>().ok() == Some(position.pos.var)
+        && partner.parse::<u32>().ok() == position.partner
+}
+
+// Whether positions are those of the lines of a text.
+fn are_positions(positions: &[Position], text: &str) -> bool {
+    let mut lines = text.lines();
+    for position in positions {
+        if !is_position(position, lines.next().unwrap_or("")) {
+            return false;
+        }
+    }
+    lines.next().is_none()
+}
+
+// A position without a partner names none.
+const POSITIONS: &str = "L0 with 1
+R2 with 0
+L1
+L2 with 4
+R1 with 3
+L3 with 6
+R0 with 5
+R3
+";
+
+// The left machine's variables in order, each followed by the right one's of its name, and then the right one's others.
+#[test]
+fn positions_of_two_machines(rt: HostRuntime) -> Result<(), Fail> {
+    let left = machine(rt.alloc(), LEFT)?;
+    let right = machine(rt.alloc(), RIGHT)?;
+    let Ok(pairing) = same_interface(rt.alloc(), &left, &right) else {
+        return Err("other interfaces".into());
+    };
+    assert!(rt; are_positions(pairing.positions(), POSITIONS));
+    Ok(())
+}

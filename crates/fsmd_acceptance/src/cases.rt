@@ -1,0 +1,185 @@
+//! Cases: what is asked of the program over files in memory, and whether it answers so.
+
+use crate::statuses::status_of;
+use fs_base::memory::MemFiles;
+use fs_base::outside::Files;
+use fs_base::sinks::MemSink;
+use fsmd_tool::drive::drive;
+use std::alloc::{AllocError, Global};
+
+const WORDS: usize = 0;
+
+const LEFT: usize = 1;
+
+const RIGHT: usize = 2;
+
+const INPUTS: usize = 3;
+
+const REPLY: usize = 4;
+
+const CERT: usize = 5;
+
+const STORED: usize = 6;
+
+const FAILS: usize = 7;
+
+const TAKES: usize = 8;
+
+// A part of a form whose cells are in their places, empty behind the last.
+fn part(case: &str, place: usize) -> &str {
+    case.split('¦').nth(place).unwrap_or("")
+}
+
+/// Whether the program answers as a form says whose cells are in their places.
+pub fn is_answered(alloc: Global, case: &str) -> Result<bool, AllocError> {
+    let left = part(case, LEFT);
+    let (front, rest) = left.split_once('▸').unwrap_or((left, ""));
+    let left = format!(in alloc; "{front}{rest}")?;
+    let reply = with_place(alloc, part(case, REPLY), front)?;
+    let cert = with_change(alloc, part(case, CERT))?;
+    is_told(
+        alloc,
+        case,
+        left.as_bytes(),
+        cert.as_bytes(),
+        reply.as_str(),
+    )
+}
+
+// The reply with the place behind this text for `▸`.
+fn with_place(alloc: Global, reply: &str, front: &str) -> Result<String, AllocError> {
+    let (line, column) = place_behind(front);
+    let place = format!(in alloc; "{line}:{column}")?;
+    reply.replace(alloc, '▸', place.as_str())
+}
+
+// The line and the column of the byte behind this text.
+fn place_behind(text: &str) -> (usize, usize) {
+    let mut line: usize = 1;
+    let mut column: usize = 1;
+    for byte in text.as_bytes() {
+        if *byte == b'\n' {
+            line = line.saturating_add(1);
+            column = 1;
+        } else {
+            column = column.saturating_add(1);
+        }
+    }
+    (line, column)
+}
+
+// The text before `«` with what stands behind `»` in place of the piece between them, where that first stands.
+fn with_change(alloc: Global, text: &str) -> Result<String, AllocError> {
+    let Some((whole, change)) = text.split_once('«') else {
+        return String::from_str(alloc, text);
+    };
+    let (piece, other) = change.split_once('»').unwrap_or((change, ""));
+    let (front, rest) = whole.split_once(piece).unwrap_or(("no such piece", ""));
+    format!(in alloc; "{front}{other}{rest}")
+}
+
+/// The same with these bytes for the left machine and the certificate, and this reply.
+pub fn is_told(
+    alloc: Global,
+    case: &str,
+    left: &[u8],
+    cert: &[u8],
+    reply: &str,
+) -> Result<bool, AllocError> {
+    let mut files = files_of(alloc, case, left, cert)?;
+    let is_put = puts_last(alloc, case, &mut files, reply)?;
+    let stored = files.get("c.json").unwrap_or(b"");
+    if !is_put || !is_stored(stored, part(case, STORED), cert) {
+        return Ok(false);
+    }
+    Ok(part(case, FAILS).is_empty() || files.load(alloc, "a.fsmd", 1_048_576).is_err())
+}
+
+fn files_of(alloc: Global, case: &str, left: &[u8], cert: &[u8]) -> Result<MemFiles, AllocError> {
+    let mut files = MemFiles::new(alloc, numbers(alloc, part(case, FAILS))?);
+    let are_held = add_each(&mut files, "a.fsmd p.prog", left)
+        && add_each(&mut files, "b.fsmd", part(case, RIGHT).as_bytes())
+        && add_each(
+            &mut files,
+            "i.json u.json m.json d.json o.fsmd",
+            part(case, INPUTS).as_bytes(),
+        )
+        && add_each(&mut files, "c.json", cert)
+        && add_each(&mut files, "x.fsmd x.json", b"");
+    if are_held { Ok(files) } else { Err(AllocError) }
+}
+
+// Adds files of these names with these bytes.
+fn add_each(files: &mut MemFiles, names: &str, bytes: &[u8]) -> bool {
+    for name in names.split(' ') {
+        if files.add(name, bytes).is_err() {
+            return false;
+        }
+    }
+    true
+}
+
+fn numbers(alloc: Global, text: &str) -> Result<Vec<u64>, AllocError> {
+    let mut all = Vec::new(alloc);
+    for word in text.split_whitespace() {
+        all.push(word.parse::<u64>().unwrap_or(0))?;
+    }
+    Ok(all)
+}
+
+// Whether the last of the commands puts this reply; each works over the files as the one before left them.
+fn puts_last(
+    alloc: Global,
+    case: &str,
+    files: &mut MemFiles,
+    reply: &str,
+) -> Result<bool, AllocError> {
+    let mut is_put = false;
+    for words in part(case, WORDS).split(" && ") {
+        is_put = puts(alloc, words, part(case, TAKES), files, reply)?;
+    }
+    Ok(is_put)
+}
+
+// Whether these words put this reply, with the status that goes with it, to a sink that takes so many bytes a call.
+fn puts(
+    alloc: Global,
+    words: &str,
+    takes: &str,
+    files: &mut MemFiles,
+    reply: &str,
+) -> Result<bool, AllocError> {
+    let words = words_of(alloc, words)?;
+    let mut out = MemSink::new(alloc, numbers(alloc, takes)?);
+    if out.reserve(40_000).is_err() {
+        return Err(AllocError);
+    }
+    let status = drive(alloc, words.as_slice(), files, &mut out);
+    Ok(status == status_of(reply, takes) && is_text(out.bytes(), reply))
+}
+
+// The words of a command, which a blank parts.
+fn words_of(alloc: Global, text: &str) -> Result<Vec<String>, AllocError> {
+    let mut words = Vec::new(alloc);
+    for word in text.split(' ') {
+        words.push(String::from_str(alloc, word)?)?;
+    }
+    Ok(words)
+}
+
+// Whether these are the bytes of a text, or where that ends with `…` begin as it does.
+fn is_text(bytes: &[u8], text: &str) -> bool {
+    match text.strip_suffix('…') {
+        Some(front) => bytes.starts_with(front.as_bytes()),
+        None => bytes == text.as_bytes(),
+    }
+}
+
+// Whether the bytes are those that are wanted to be stored, where it wants others than before.
+fn is_stored(bytes: &[u8], wanted: &str, before: &[u8]) -> bool {
+    if wanted.is_empty() {
+        bytes == before
+    } else {
+        is_text(bytes, wanted)
+    }
+}

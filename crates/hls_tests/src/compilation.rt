@@ -1,5 +1,0 @@
-//! Worked examples of programs that are compiled.
-
-mod compiled;
-mod nested;
-mod programs;

@@ -1,0 +1,129 @@
+//! The rows of a line under unit counts.
+
+use fs_ast::machine::Machine;
+use fs_model::parts::StateId;
+use fs_sample_machines::reading::machine;
+use fs_sample_machines::samples::{EMITS, PRODUCTS, SOLVER};
+use hls_line_filling::effects::Effects;
+use hls_line_filling::plan::{Plan, make_plan};
+use hls_line_filling::uses::{Uses, uses_of};
+use hls_unit_counts::{Units, read_units};
+use std::alloc::{AllocError, Global};
+
+// The effects of the states of a machine from one on, each as an item.
+fn effects_from(alloc: Global, m: &Machine, from: u32) -> Result<Vec<Effects>, AllocError> {
+    let mut effects = Vec::new(alloc);
+    for state in from..m.state_count() {
+        if let Some(branch) = m.branches(StateId(state)).first() {
+            effects.push(Effects::of(branch.assigns.as_slice()))?;
+        }
+    }
+    Ok(effects)
+}
+
+// The units that the same states use.
+fn uses_from(alloc: Global, m: &Machine, from: u32) -> Result<Vec<Uses>, AllocError> {
+    let mut uses = Vec::new(alloc);
+    for state in from..m.state_count() {
+        if let Some(branch) = m.branches(StateId(state)).first() {
+            uses.push(uses_of(branch.assigns.as_slice()))?;
+        }
+    }
+    Ok(uses)
+}
+
+// Whether a row is that of a word, and none that of `-`.
+fn is_row(row: &Option<u32>, word: &str) -> bool {
+    match row {
+        Some(row) => word.parse::<u32>().ok() == Some(*row),
+        None => word == "-",
+    }
+}
+
+// Whether the rows of a plan are those of a text, or any where that is `…`.
+fn has_rows(plan: &Plan, text: &str) -> bool {
+    if text == "…" {
+        return true;
+    }
+    let mut words = text.split(' ');
+    for row in plan.rows.as_slice() {
+        if !is_row(row, words.next().unwrap_or("")) {
+            return false;
+        }
+    }
+    words.next().is_none()
+}
+
+// Whether a plan is that of a text: the row of each item, how many rows there are, and the chain.
+fn is_plan(plan: &Plan, text: &str) -> bool {
+    let (rows, rest) = text.split_once(" in ").unwrap_or((text, ""));
+    let (count, chain) = rest.split_once(", chain ").unwrap_or((rest, ""));
+    has_rows(plan, rows)
+        && count.parse::<u32>().ok() == Some(plan.count)
+        && chain.parse::<u32>().ok() == Some(plan.chain)
+}
+
+// Whether items have the plan of a text under unit counts.
+fn fills(alloc: Global, effects: &[Effects], uses: &[Uses], units: &Units, text: &str) -> bool {
+    if effects.len() > 4096 || uses.len() != effects.len() {
+        return false;
+    }
+    match make_plan(alloc, effects, uses, units) {
+        Ok(plan) => is_plan(&plan, text),
+        Err(_) => false,
+    }
+}
+
+// Whether the states of a machine from one on, each as an item, have this plan.
+fn plans(
+    alloc: Global,
+    m: &Machine,
+    from: u32,
+    units: &Units,
+    text: &str,
+) -> Result<bool, AllocError> {
+    let effects = effects_from(alloc, m, from)?;
+    let uses = uses_from(alloc, m, from)?;
+    Ok(fills(alloc, effects.as_slice(), uses.as_slice(), units, text))
+}
+
+// The same of the machine of a text and a file of unit counts.
+fn holds(alloc: Global, text: &str, from: u32, counts: &str, plan: &str) -> bool {
+    let Ok(units) = read_units(alloc, counts.as_bytes()) else {
+        return false;
+    };
+    match machine(alloc, text) {
+        Ok(machine) => plans(alloc, &machine, from, &units, plan).unwrap_or(false),
+        Err(_) => false,
+    }
+}
+
+// Each item reads what the one before it writes.
+const CHAIN: &str = "fsmd 1; input a; output y; reset s0;
+state s0: goto s1;
+state s1: goto s2: y = a + 1;
+state s2: goto s3: y = y + 2;
+state s3: goto s0: y = y + 3;";
+
+// Rows are filled by heights, and an item that reads a variable stands in no later row than one that writes it. One multiplier
+// needs a row for each of three products, and two emits keep their order in rows of their own.
+#[test]
+fn rows_of_items(rt: HostRuntime) {
+    for (text, from, counts, plan) in [
+        (
+            SOLVER,
+            2,
+            "{\"add\": 1, \"mul\": 2}",
+            "0 0 1 1 2 2 3 1 0 in 4, chain 4",
+        ),
+        (SOLVER, 2, "{\"add\": 1, \"mul\": 1}", "… in 6, chain 4"),
+        (CHAIN, 1, "{}", "0 1 2 in 3, chain 3"),
+        (PRODUCTS, 1, "{\"mul\": 1}", "0 1 2 in 3, chain 1"),
+        (EMITS, 1, "{}", "0 1 0 in 2, chain 2"),
+    ] {
+        assert!(rt;
+            holds(rt.alloc(), text, from, counts, plan),
+            "{counts}: not {plan}"
+        );
+    }
+}

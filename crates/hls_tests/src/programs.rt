@@ -1,5 +1,0 @@
-//! Worked examples of programs that are read.
-
-mod answers;
-mod limits;
-mod readings;

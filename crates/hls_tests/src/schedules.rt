@@ -1,4 +1,0 @@
-//! Worked examples of scheduled machines.
-
-mod machines;
-mod schedules;
