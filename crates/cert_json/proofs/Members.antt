@@ -32,7 +32,8 @@ written_first name v e es w Less is above found rest =
     absurd (false≢true (ap is_some (sym none ∙ found)))
 written_first name v e es w Equal is above found rest = rw is
 written_first name v e es w Greater is above found rest =
-    let same : lookup (is_at (λ j. slice_cmp nat_cmp name (string_bytes j))) es ≡ lookup (is_at (λ j. slice_cmp nat_cmp name (string_bytes j))) (e ∷ es) = rw is in
+    let same : lookup (is_at (λ j. slice_cmp nat_cmp name (string_bytes j))) es
+    ≡ lookup (is_at (λ j. slice_cmp nat_cmp name (string_bytes j))) (e ∷ es) = rw is in
     rw is (ap (member (string_bytes e.0) (view e.1)) (rest (same ∙ found)))
 
 -- the value at a name that is there

@@ -1,6 +1,7 @@
 //! The numbers of JSON.
 
-ghost use Rattle.std.specs.Prelude.{◌≡◌, ◌<◌, ◌≤◌, ◌==◌, ◌^◌, true, false, Some, length, IsTrue, IfSome, is_some, option_map, slice_index};
+ghost use Rattle.std.specs.Prelude.{◌≡◌, ◌<◌, ◌≤◌, ◌==◌, ◌^◌, true, false, Some, length, IsTrue, IfSome, is_some};
+ghost use Rattle.std.specs.Prelude.{option_map, slice_index};
 ghost use Rattle.serde_json.specs.Data.{unsigned as unsigned_number};
 ghost use Rattle.serde_json.specs.Read.{number_of as number_in, number_from, float_of};
 ghost use Rattle.serde_json.specs.View.{number_view};
