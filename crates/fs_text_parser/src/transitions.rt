@@ -59,53 +59,6 @@ fn close_bracket(tokens: &[Token]) -> Result<&[Token], ReadError>
     }
 }
 
-// An element of an array as a destination, after the bracket that opens its index.
-fn element(
-    alloc: Global,
-    name: Name,
-    tokens: &[Token],
-) -> Result<(Destination, &[Token]), ReadError>
-    ensures goes { (o : OpenTransition) → ParsesOn result (reading tokens.now (at_sum (write_index o name)))
-        (λ x. reading x.1.now (at_equals o (destination_of x.0))) }
-    ensures shorter { IfOk result (λ x. length x.1.now < length tokens.now) }
-{
-    let (index, rest) = sum(alloc, tokens)?;
-    let rest = close_bracket(rest)?;
-    Ok((Destination::Element(name, index), rest))
-}
-
-// A destination, after its name.
-#[tactic(auto, using(crate::proofs::Steps::scalar_ends))]
-fn indexed(
-    alloc: Global,
-    name: Name,
-    tokens: &[Token],
-) -> Result<(Destination, &[Token]), ReadError>
-    ensures goes { (o : OpenTransition) → ParsesOn result (reading tokens.now (after_assignment_name o name))
-        (λ x. reading x.1.now (at_equals o (destination_of x.0))) }
-    ensures shorter { IfOk result (λ x. length x.1.now ≤ length tokens.now) }
-{
-    match front(tokens) {
-        Some(TokenKind::OpenBracket) => {
-            let rest = accept(tokens)?;
-            element(alloc, name, rest)
-        }
-        _ => Ok((Destination::Scalar(name), tokens)),
-    }
-}
-
-// What stands before `=`.
-#[tactic(auto, using(crate::proofs::Steps::name_assignment))]
-fn assigned_place(alloc: Global, tokens: &[Token]) -> Result<(Destination, &[Token]), ReadError>
-    requires { IsNoEmit (kind_at tokens.now) }
-    ensures goes { (o : OpenTransition) → ParsesOn result (reading tokens.now (at_assignment o))
-        (λ x. reading x.1.now (at_equals o (destination_of x.0))) }
-    ensures shorter { IfOk result (λ x. length x.1.now < length tokens.now) }
-{
-    let (name, rest) = name(alloc, tokens)?;
-    indexed(alloc, name, rest)
-}
-
 // The sign between the two sides of an assignment.
 fn equals(tokens: &[Token]) -> Result<&[Token], ReadError>
     ensures goes { (o : OpenTransition) (d : grammar.Destination)
@@ -116,6 +69,68 @@ fn equals(tokens: &[Token]) -> Result<&[Token], ReadError>
         Some(TokenKind::Equals) => accept(tokens),
         _ => Err(refuse(tokens)),
     }
+}
+
+// What stands between the index of a destination and the value.
+fn index_end(tokens: &[Token]) -> Result<&[Token], ReadError>
+    requires { EndsSum tokens.now }
+    ensures goes { (i : Term (List ℕ)) (o : OpenTransition) (x : List ℕ)
+        → ParsesOn result (reading tokens.now (after_sum i (write_index o x)))
+        (λ r. reading r.now (at_sum (value o (grammar.element x i)))) }
+    ensures shorter { IfOk result (λ r. length r.now < length tokens.now) }
+{
+    let rest = close_bracket(tokens)?;
+    equals(rest)
+}
+
+// An element of an array as a destination, after the bracket that opens its index, up to the value.
+fn element(
+    alloc: Global,
+    name: Name,
+    tokens: &[Token],
+) -> Result<(Destination, &[Token]), ReadError>
+    ensures goes { (o : OpenTransition) → ParsesOn result (reading tokens.now (at_sum (write_index o name)))
+        (λ x. reading x.1.now (at_sum (value o (destination_of x.0)))) }
+    ensures shorter { IfOk result (λ x. length x.1.now < length tokens.now) }
+{
+    let (index, rest) = sum(alloc, tokens)?;
+    let rest = index_end(rest)?;
+    Ok((Destination::Element(name, index), rest))
+}
+
+// A destination, after its name, up to the value.
+#[tactic(auto, using(crate::proofs::Steps::scalar_ends))]
+fn indexed(
+    alloc: Global,
+    name: Name,
+    tokens: &[Token],
+) -> Result<(Destination, &[Token]), ReadError>
+    ensures goes { (o : OpenTransition) → ParsesOn result (reading tokens.now (after_assignment_name o name))
+        (λ x. reading x.1.now (at_sum (value o (destination_of x.0)))) }
+    ensures shorter { IfOk result (λ x. length x.1.now < length tokens.now) }
+{
+    match front(tokens) {
+        Some(TokenKind::OpenBracket) => {
+            let rest = accept(tokens)?;
+            element(alloc, name, rest)
+        }
+        _ => {
+            let rest = equals(tokens)?;
+            Ok((Destination::Scalar(name), rest))
+        }
+    }
+}
+
+// What stands before the value of an assignment.
+#[tactic(auto, using(crate::proofs::Steps::name_assignment))]
+fn assigned_place(alloc: Global, tokens: &[Token]) -> Result<(Destination, &[Token]), ReadError>
+    requires { IsNoEmit (kind_at tokens.now) }
+    ensures goes { (o : OpenTransition) → ParsesOn result (reading tokens.now (at_assignment o))
+        (λ x. reading x.1.now (at_sum (value o (destination_of x.0)))) }
+    ensures shorter { IfOk result (λ x. length x.1.now < length tokens.now) }
+{
+    let (name, rest) = name(alloc, tokens)?;
+    indexed(alloc, name, rest)
 }
 
 // The word `emit`, which can follow in format 2 alone.
@@ -158,29 +173,8 @@ fn value_destination(
             let rest = emit(format, tokens)?;
             port(alloc, rest)
         }
-        _ => {
-            let (place, rest) = assigned_place(alloc, tokens)?;
-            let rest = equals(rest)?;
-            Ok((place, rest))
-        }
+        _ => assigned_place(alloc, tokens),
     }
-}
-
-// Where a value goes, and the value.
-fn assignment(
-    alloc: Global,
-    format: Format,
-    tokens: &[Token],
-) -> Result<(Destination, Expr<Name>, &[Token]), ReadError>
-    ensures goes { (o : OpenTransition) → o.state.format ≡ format
-        → ParsesOn result (reading tokens.now (at_assignment o))
-        (λ x. reading x.2.now (after_sum (named_term x.1) (value o (destination_of x.0)))) }
-    ensures shorter { IfOk result (λ x. length x.2.now < length tokens.now) }
-    ensures ends { IfOk result (λ x. EndsSum x.2.now) }
-{
-    let (destination, rest) = value_destination(alloc, format, tokens)?;
-    let (value, rest) = sum(alloc, rest)?;
-    Ok((destination, value, rest))
 }
 
 // What follows an assignment: whether it is a comma, and not the end of the line.
@@ -205,6 +199,36 @@ fn separator(tokens: &[Token]) -> Result<(bool, &[Token]), ReadError>
     }
 }
 
+// The value of an assignment or an emit, and whether one more follows.
+fn listed_value(alloc: Global, tokens: &[Token]) -> Result<(Expr<Name>, bool, &[Token]), ReadError>
+    ensures goes { (o : OpenTransition) (d : grammar.Destination)
+        → ParsesOn result (reading tokens.now (at_sum (value o d)))
+        (λ x. let next = with_assignments o (destination_assignment d (named_term x.0) ∷ []) in
+        reading x.2.now (cond x.1 (at_assignment next) (at_transition (close_transition next)))) }
+    ensures shorter { IfOk result (λ x. length x.2.now < length tokens.now) }
+{
+    let (value, rest) = sum(alloc, tokens)?;
+    let (more, rest) = separator(rest)?;
+    Ok((value, more, rest))
+}
+
+// An assignment or an emit, and whether one more follows.
+fn listed_assignment(
+    alloc: Global,
+    format: Format,
+    tokens: &[Token],
+) -> Result<(Assign<Name>, bool, &[Token]), ReadError>
+    ensures goes { (o : OpenTransition) → o.state.format ≡ format
+        → ParsesOn result (reading tokens.now (at_assignment o))
+        (λ x. let next = with_assignments o (named_assignment x.0 ∷ []) in
+        reading x.2.now (cond x.1 (at_assignment next) (at_transition (close_transition next)))) }
+    ensures shorter { IfOk result (λ x. length x.2.now < length tokens.now) }
+{
+    let (destination, rest) = value_destination(alloc, format, tokens)?;
+    let (value, more, rest) = listed_value(alloc, rest)?;
+    Ok((destination.assign(value), more, rest))
+}
+
 // Assignments up to the end of their line.
 fn assignments(
     alloc: Global,
@@ -219,9 +243,8 @@ fn assignments(
     let mut all = Vec::new(alloc);
     let mut rest = tokens;
     loop {
-        let (destination, value, after) = assignment(alloc, format, rest)?;
-        let (more, after) = separator(after)?;
-        all.push(destination.assign(value))?;
+        let (one, more, after) = listed_assignment(alloc, format, rest)?;
+        all.push(one)?;
         if !more {
             return Ok((all, after));
         }

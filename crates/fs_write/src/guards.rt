@@ -5,7 +5,7 @@ ghost use Rattle.fs_model.specs.View.{named_guard};
 ghost use Rattle.fs_write.specs.Canonical.{relation_text, guard_text, when_text};
 ghost use Rattle.fs_write.specs.Spellable.{is_spellable_guard, is_spellable_condition};
 
-use crate::terms::{write_bracket, write_expr};
+use crate::terms::{bracket, write_expr, write_three, write_two};
 use fs_model::parts::{Guard, Rel};
 use fs_model::well_formed::{is_and, is_or};
 use std::alloc::AllocError;
@@ -36,27 +36,23 @@ fn write_guard(out: &mut Vec<u8>, guard: &Guard) -> Result<(), AllocError>
         }
         Guard::Not(a) => {
             let needed = is_and(a) || is_or(a);
-            out.extend_from_slice(b"!")?;
-            write_bracket(out, needed, b"{")?;
+            write_two(out, b"!", bracket(needed, b"{"))?;
             write_guard(out, a)?;
-            write_bracket(out, needed, b"}")
+            out.extend_from_slice(bracket(needed, b"}"))
         }
         Guard::And(a, b) => {
-            write_bracket(out, is_or(a), b"{")?;
+            out.extend_from_slice(bracket(is_or(a), b"{"))?;
             write_guard(out, a)?;
-            write_bracket(out, is_or(a), b"}")?;
-            out.extend_from_slice(b" && ")?;
             let needed = is_and(b) || is_or(b);
-            write_bracket(out, needed, b"{")?;
+            write_three(out, bracket(is_or(a), b"}"), b" && ", bracket(needed, b"{"))?;
             write_guard(out, b)?;
-            write_bracket(out, needed, b"}")
+            out.extend_from_slice(bracket(needed, b"}"))
         }
         Guard::Or(a, b) => {
             write_guard(out, a)?;
-            out.extend_from_slice(b" || ")?;
-            write_bracket(out, is_or(b), b"{")?;
+            write_two(out, b" || ", bracket(is_or(b), b"{"))?;
             write_guard(out, b)?;
-            write_bracket(out, is_or(b), b"}")
+            out.extend_from_slice(bracket(is_or(b), b"}"))
         }
     }
 }

@@ -1,6 +1,6 @@
 //! The texts of declarations, transitions and states.
 
-ghost use Rattle.std.specs.Prelude.{◌≡◌, ◌++◌, IsTrue, OnOk, codes, map};
+ghost use Rattle.std.specs.Prelude.{◌≡◌, ◌++◌, IsTrue, OnOk, map};
 ghost use Rattle.std.specs.List.{flat_map, list_all};
 ghost use Rattle.fs_model.specs.Words.{is_name};
 ghost use Rattle.fs_model.specs.View.{named_assignment, declaration_of, source_transition_of, source_state_of, source_of};
@@ -11,7 +11,7 @@ ghost use Rattle.fs_write.specs.Spellable.{is_spellable_declaration, is_spellabl
 
 use crate::formats::format_for;
 use crate::guards::write_condition;
-use crate::terms::write_expr;
+use crate::terms::{write_expr, write_three, write_two};
 use fs_grammar::format::Format;
 use fs_model::name::Name;
 use fs_model::parts::{Assign, Decl, Parts, RawLine, RawState, Role, Sort};
@@ -23,30 +23,20 @@ fn write_assign(out: &mut Vec<u8>, assign: &Assign<Name>) -> Result<(), AllocErr
 {
     match assign {
         Assign::Set(name, value) => {
-            out.extend_from_slice(name.bytes())?;
-            out.extend_from_slice(b" = ")?;
+            write_two(out, name.bytes(), b" = ")?;
             write_expr(out, value)
         }
         Assign::Put(name, index, value) => {
-            out.extend_from_slice(name.bytes())?;
-            out.extend_from_slice(b"[")?;
+            write_two(out, name.bytes(), b"[")?;
             write_expr(out, index)?;
             out.extend_from_slice(b"] = ")?;
             write_expr(out, value)
         }
         Assign::Emit(name, value) => {
-            out.extend_from_slice(b"emit ")?;
-            out.extend_from_slice(name.bytes())?;
-            out.extend_from_slice(b" ")?;
+            write_three(out, b"emit ", name.bytes(), b" ")?;
             write_expr(out, value)
         }
     }
-}
-
-fn write_comma(out: &mut Vec<u8>) -> Result<(), AllocError>
-    ensures { OnOk result (out.new.items ≡ out.old.items ++ codes ", ") }
-{
-    out.extend_from_slice(b", ")
 }
 
 // Writes the assignments after the first one.
@@ -56,7 +46,7 @@ fn write_more_assigns(out: &mut Vec<u8>, assigns: &[Assign<Name>]) -> Result<(),
     ensures words { OnOk result (IsTrue (list_all is_spellable_assignment (map named_assignment assigns.now))) }
 {
     for assign in assigns {
-        write_comma(out)?;
+        out.extend_from_slice(b", ")?;
         write_assign(out, assign)?;
     }
     Ok(())
@@ -83,8 +73,7 @@ fn write_line(out: &mut Vec<u8>, line: &RawLine) -> Result<(), AllocError>
 {
     out.extend_from_slice(b"  ")?;
     write_condition(out, &line.guard)?;
-    out.extend_from_slice(b"goto ")?;
-    out.extend_from_slice(line.target.bytes())?;
+    write_two(out, b"goto ", line.target.bytes())?;
     write_assigns(out, &line.assigns)?;
     out.extend_from_slice(b";\n")
 }
@@ -103,9 +92,7 @@ fn write_state(out: &mut Vec<u8>, state: &RawState) -> Result<(), AllocError>
     ensures text { OnOk result (out.new.items ≡ out.old.items ++ state_text (source_state_of state.now)) }
     ensures words { OnOk result (IsTrue (is_spellable_state (source_state_of state.now))) }
 {
-    out.extend_from_slice(b"state ")?;
-    out.extend_from_slice(state.name.bytes())?;
-    out.extend_from_slice(b":\n")?;
+    write_three(out, b"state ", state.name.bytes(), b":\n")?;
     write_lines(out, &state.lines)
 }
 
@@ -125,8 +112,7 @@ fn write_more_names(out: &mut Vec<u8>, names: &[Name]) -> Result<(), AllocError>
     ensures words { OnOk result (IsTrue (list_all is_name names.now)) }
 {
     for name in names {
-        write_comma(out)?;
-        out.extend_from_slice(name.bytes())?;
+        write_two(out, b", ", name.bytes())?;
     }
     Ok(())
 }
@@ -203,8 +189,6 @@ pub fn write_source(out: &mut Vec<u8>, parts: &Parts) -> Result<(), AllocError>
 {
     out.extend_from_slice(head(format_for(parts)))?;
     write_declarations(out, &parts.decls)?;
-    out.extend_from_slice(b"reset ")?;
-    out.extend_from_slice(parts.reset.bytes())?;
-    out.extend_from_slice(b";\n")?;
+    write_three(out, b"reset ", parts.reset.bytes(), b";\n")?;
     write_states(out, &parts.states)
 }

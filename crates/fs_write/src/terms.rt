@@ -12,14 +12,32 @@ use fs_model::well_formed::{is_product, is_sum};
 use itoa::Buffer;
 use std::alloc::AllocError;
 
-/// Writes a bracket where it is needed.
-pub fn write_bracket(out: &mut Vec<u8>, needed: bool, bracket: &[u8]) -> Result<(), AllocError>
-    ensures { OnOk result (out.new.items ≡ out.old.items ++ bracket_text needed bracket.now) }
+/// A bracket where it is needed, and no bytes where it is not.
+pub fn bracket(needed: bool, bracket: &'static [u8]) -> &'static [u8]
+    ensures { result.now ≡ bracket_text needed bracket.now }
 {
-    if needed {
-        out.extend_from_slice(bracket)?;
-    }
-    Ok(())
+    if needed { bracket } else { b"" }
+}
+
+/// Writes two pieces of text.
+pub fn write_two(out: &mut Vec<u8>, first: &[u8], second: &[u8]) -> Result<(), AllocError>
+    ensures { OnOk result (out.new.items ≡ out.old.items ++ (first.now ++ second.now)) }
+{
+    out.extend_from_slice(first)?;
+    out.extend_from_slice(second)
+}
+
+/// Writes three pieces of text.
+pub fn write_three(
+    out: &mut Vec<u8>,
+    first: &[u8],
+    second: &[u8],
+    third: &[u8],
+) -> Result<(), AllocError>
+    ensures { OnOk result (out.new.items ≡ out.old.items ++ (first.now ++ (second.now ++ third.now))) }
+{
+    write_two(out, first, second)?;
+    out.extend_from_slice(third)
 }
 
 fn write_number(out: &mut Vec<u8>, number: &i128) -> Result<(), AllocError>
@@ -53,34 +71,34 @@ pub fn write_expr(out: &mut Vec<u8>, expr: &Expr<Name>) -> Result<(), AllocError
         Expr::Num(number) => write_number(out, number),
         Expr::Var(name) => out.extend_from_slice(name.bytes()),
         Expr::Read(name, index) => {
-            out.extend_from_slice(name.bytes())?;
-            out.extend_from_slice(b"[")?;
+            write_two(out, name.bytes(), b"[")?;
             write_expr(out, index)?;
             out.extend_from_slice(b"]")
         }
         Expr::Add(a, b) | Expr::Sub(a, b) => {
             write_expr(out, a)?;
-            out.extend_from_slice(operator(expr))?;
-            write_bracket(out, is_sum(b), b"(")?;
+            write_two(out, operator(expr), bracket(is_sum(b), b"("))?;
             write_expr(out, b)?;
-            write_bracket(out, is_sum(b), b")")
+            out.extend_from_slice(bracket(is_sum(b), b")"))
         }
         Expr::Mul(a, b) | Expr::Div(a, b) | Expr::Rem(a, b) => {
-            write_bracket(out, is_sum(a), b"(")?;
+            out.extend_from_slice(bracket(is_sum(a), b"("))?;
             write_expr(out, a)?;
-            write_bracket(out, is_sum(a), b")")?;
-            out.extend_from_slice(operator(expr))?;
             let needed = is_sum(b) || is_product(b);
-            write_bracket(out, needed, b"(")?;
+            write_three(
+                out,
+                bracket(is_sum(a), b")"),
+                operator(expr),
+                bracket(needed, b"("),
+            )?;
             write_expr(out, b)?;
-            write_bracket(out, needed, b")")
+            out.extend_from_slice(bracket(needed, b")"))
         }
         Expr::Neg(a) => {
             let needed = is_sum(a) || is_product(a);
-            out.extend_from_slice(b"-")?;
-            write_bracket(out, needed, b"(")?;
+            write_two(out, b"-", bracket(needed, b"("))?;
             write_expr(out, a)?;
-            write_bracket(out, needed, b")")
+            out.extend_from_slice(bracket(needed, b")"))
         }
     }
 }
