@@ -54,9 +54,11 @@ fn is_item(state: u32, assigns: usize, text: &str) -> bool {
 fn has_straight_states(m: &Machine, text: &str) -> bool {
     let mut wanted = text.split("; ");
     for q in 0..m.state_count() {
-        let state = StateId(q);
-        if is_straight(m, state) && !is_item(q, item(m, state).len(), wanted.next().unwrap_or("")) {
-            return false;
+        if is_straight(m, StateId(q)) {
+            let count = item(m, StateId(q)).len();
+            if !is_item(q, count, wanted.next().unwrap_or("")) {
+                return false;
+            }
         }
     }
     wanted.next().is_none()
