@@ -7,6 +7,7 @@ use fs_sample_machines::samples::SOLVER;
 use hls_line_tracing::arrivals::count_arrivals;
 use hls_line_tracing::lines::{Line, firsts, is_straight, item, trace_line};
 use std::alloc::Global;
+use std::test::Fail;
 
 fn number(text: &str) -> u32 {
     text.parse::<u32>().unwrap_or(u32::MAX)
@@ -44,24 +45,17 @@ fn has_lines(alloc: Global, m: &Machine, text: &str) -> bool {
     wanted.next().unwrap_or("").is_empty()
 }
 
-// Whether a state makes so many assignments, as `1: 2`.
-fn is_item(state: u32, assigns: usize, text: &str) -> bool {
-    let (place, count) = text.split_once(": ").unwrap_or((text, ""));
-    number(place) == state && number(count) as usize == assigns
-}
-
-// Whether the states of a machine that stand in lines are those of a text, each with how many assignments it makes.
-fn has_straight_states(m: &Machine, text: &str) -> bool {
-    let mut wanted = text.split("; ");
-    for q in 0..m.state_count() {
-        if is_straight(m, StateId(q)) {
-            let count = item(m, StateId(q)).len();
-            if !is_item(q, count, wanted.next().unwrap_or("")) {
-                return false;
-            }
+// The states of a machine that stand in lines, each with how many assignments it makes.
+fn straight(alloc: Global, text: &str) -> Result<String, Fail> {
+    let machine = machine(alloc, text)?;
+    let mut states = String::new(alloc);
+    for q in 0..machine.state_count() {
+        if is_straight(&machine, StateId(q)) {
+            let count = item(&machine, StateId(q)).len();
+            states.push_str(format!(in alloc; "{q}: {count}; ")?.as_str())?;
         }
     }
-    wanted.next().is_none()
+    Ok(states)
 }
 
 // Two branches meet in a state that no line leads into, since two states lead to it.
@@ -110,16 +104,11 @@ fn lines_of_machines(rt: HostRuntime) {
     }
 }
 
-// Whether these states of the machine of a text stand in lines, each with so many assignments.
-fn stands(alloc: Global, text: &str, states: &str) -> bool {
-    match machine(alloc, text) {
-        Ok(machine) => has_straight_states(&machine, states),
-        Err(_) => false,
-    }
-}
-
 #[test]
-fn states_in_lines(rt: HostRuntime) {
-    assert!(rt; stands(rt.alloc(), MEETING, "2: 1; 3: 1; 4: 1; 5: 1"));
-    assert!(rt; stands(rt.alloc(), FORKED, "1: 1; 2: 0; 3: 0"));
+fn states_in_lines(rt: HostRuntime) -> Result<(), Fail> {
+    let meeting = straight(rt.alloc(), MEETING)?;
+    assert_eq!(rt; meeting.as_str(), "2: 1; 3: 1; 4: 1; 5: 1; ");
+    let forked = straight(rt.alloc(), FORKED)?;
+    assert_eq!(rt; forked.as_str(), "1: 1; 2: 0; 3: 0; ");
+    Ok(())
 }
