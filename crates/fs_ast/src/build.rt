@@ -7,8 +7,10 @@ ghost use Rattle.fs_model.specs.WellFormed.{is_well_formed};
 ghost use Rattle.fs_rules.specs.MachineOfParts.{state_names, place_or_end, machine_of};
 ghost use Rattle.fs_rules.specs.Rules.{plain_faults, Broken, IsFirstBroken, BreaksNoRule};
 ghost use Rattle.fs_rules.specs.Scopes.{IsScopeOf};
+ghost use Rattle.fs_rules.specs.SoundParts.{IsSound};
 ghost use Rattle.fs_ast.specs.BuildAnswers.{IfCheck};
-ghost use Rattle.fs_ast.specs.NumberedParts.{state_with_line, states_with_lines};
+ghost use Rattle.fs_ast.specs.NumberedParts.{resolved_state, state_with_line, states_with_lines};
+ghost use Rattle.fs_ast.specs.StoredBranches.{KeepsTypes};
 
 use crate::machine::Machine;
 use crate::resolve::{State, resolve};
@@ -64,14 +66,27 @@ fn build_checked(alloc: Global, scope: Scope, parts: &Parts) -> Result<Machine, 
     match check_shapes(alloc, states.as_slice(), reset.0 as usize) {
         Err(_) => Err(BuildError::NoMemory),
         Ok(Some(fault)) => Err(BuildError::Check(fault)),
-        Ok(None) => {
-            let Scope { vars, .. } = scope;
-            match Machine::of(alloc, vars, reset, states) {
-                Ok(machine) => Ok(machine),
-                Err(_) => Err(BuildError::NoMemory),
-            }
-        }
+        Ok(None) => match machine_of_states(alloc, scope, reset, states) {
+            Ok(machine) => Ok(machine),
+            Err(_) => Err(BuildError::NoMemory),
+        },
     }
+}
+
+// The machine of the variables of a scope and of states.
+fn machine_of_states(
+    alloc: Global,
+    scope: Scope,
+    reset: StateId,
+    states: Vec<State>,
+) -> Result<Machine, NoMemory>
+    requires { KeepsTypes scope.vars.items (map resolved_state states.items)
+        → IsSound (record { variables = scope.vars.items; reset = reset.0; states = map resolved_state states.items }) }
+    ensures { IfOk result
+        (λ m. m ≡ record { variables = scope.entry.vars.items; reset = reset.0; states = map resolved_state states.items }) }
+{
+    let Scope { vars, .. } = scope;
+    Machine::of(alloc, vars, reset, states)
 }
 
 // The states of parts, over the numbers of variables and states.

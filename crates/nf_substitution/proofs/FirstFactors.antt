@@ -4,12 +4,13 @@ use Rattle.std.proofs.Common.{subst, ◌∙◌}
 use Rattle.std.proofs.Math.Seq.{take-length}
 use Rattle.std.proofs.lemmas.Int.{ints}
 use Rattle.std.proofs.lemmas.Bool.{le-leb}
+use Rattle.nf_terms.proofs.Identities.{sum_with_zero}
 use Rattle.nf_terms.proofs.Simple.{light}
 use Rattle.nf_terms.specs.NormalTerms.{Atom, Monomial, Polynomial, One, Times, Zero, Plus}
 use Rattle.nf_terms.specs.Measures.{size_of, depth_of, weight_of}
 use Rattle.nf_terms.specs.TermLimits.{weight_limit}
 use Rattle.nf_terms.specs.Normal.{IsNormal}
-use Rattle.nf_terms.specs.RawSums.{raw_sum, raw_multiple, raw_product}
+use Rattle.nf_terms.specs.RawSums.{raw_multiple, raw_product}
 use Rattle.nf_terms.specs.Computed.{Computed, Done, Wide, Answers, after, if_small}
 use Rattle.nf_terms.specs.declared.stop.NfStop.{NfStop}
 use Rattle.nf_bank.specs.declared.node.AtomId.{AtomId}
@@ -32,16 +33,12 @@ once n = omega arith
 coefficient_once : (c : ℤ) → pos 1 *ℤ c ≡ c
 coefficient_once c = omega (arith, ints)
 
-nothing_behind : (p : Polynomial) → raw_sum p Zero ≡ p
-nothing_behind Zero = refl
-nothing_behind (Plus m c p) = ap (Plus m c) (nothing_behind p)
-
 multiple_once : (p : Polynomial) → raw_multiple One (pos 1) p ≡ p
 multiple_once Zero = refl
 multiple_once (Plus m c p) = λ k. Plus m (coefficient_once c k) (multiple_once p k)
 
 product_once : (p : Polynomial) → raw_product one p ≡ p
-product_once p = nothing_behind (raw_multiple One (pos 1) p) ∙ multiple_once p
+product_once p = sum_with_zero (raw_multiple One (pos 1) p) ∙ multiple_once p
 
 -- a normal polynomial is its own product with 1
 pub times_one : (p : Polynomial) → IsNormal p → normal_product one p ≡ Done p

@@ -8,6 +8,7 @@ use Rattle.std.specs.List.{list_all}
 use Rattle.std.specs.Ordering.{int_eq}
 use Rattle.std.specs.Prelude.{is_some}
 use Rattle.nf_terms.proofs.Booleans.{and_first, and_second}
+use Rattle.nf_terms.proofs.Identities.{product_with_one, sum_with_zero}
 use Rattle.nf_terms.proofs.Partings.{ordered_term, term_ordered}
 use Rattle.nf_terms.proofs.Simple.{light}
 use Rattle.nf_terms.specs.NormalTerms.{Atom, Monomial, Polynomial, Symbol, Read, Quotient, Remainder, One, Times, Zero, Plus, polynomial_of_symbol}
@@ -91,14 +92,6 @@ sum_deep : (s t p : Polynomial) → raw_sum (raw_sum s t) p ≡ raw_sum s (raw_s
 sum_deep Zero t p = refl
 sum_deep (Plus m c s) t p = ap (Plus m c) (sum_deep s t p)
 
-nothing_behind : (p : Polynomial) → raw_sum p Zero ≡ p
-nothing_behind Zero = refl
-nothing_behind (Plus m c p) = ap (Plus m c) (nothing_behind p)
-
-no_atom_behind : (m : Monomial) → monomial_product m One ≡ m
-no_atom_behind One = refl
-no_atom_behind (Times a m) = ap (Times a) (no_atom_behind m)
-
 times_one : (c : ℤ) → c *ℤ pos 1 ≡ c
 times_one c = omega (arith, ints)
 
@@ -152,7 +145,7 @@ module _ (v : List (Pos × Nf)) where
       (d : depth_of_monomial whole ≤ depth_limit) (s : size_of_monomial whole ≤ most_atoms) where
     product_stays : (k m : Monomial) → monomial_product k m ≡ whole → atoms_stay v m ≡ true
         → atoms_substituted v m (Plus k c Zero) ≡ Done (Plus whole c Zero)
-    product_stays k One e h = ap (λ n. Done (Plus n c Zero)) (sym (no_atom_behind k) ∙ e)
+    product_stays k One e h = ap (λ n. Done (Plus n c Zero)) (sym (product_with_one k) ∙ e)
     product_stays k (Times (Symbol p) m) e h =
         let n = monomial_product k (Times (Symbol p) One) in
         let f : monomial_product n m ≡ whole = joined_deep k (Times (Symbol p) One) m ∙ e in
@@ -178,7 +171,7 @@ module _ (v : List (Pos × Nf)) where
 
   module _ (whole : Polynomial) (n : IsNormal whole) where
     sum_stays : (s p : Polynomial) → raw_sum s p ≡ whole → terms_stay v p ≡ true → terms_substituted v p s ≡ Done whole
-    sum_stays s Zero e h = ap Done (sym (nothing_behind s) ∙ e)
+    sum_stays s Zero e h = ap Done (sym (sum_with_zero s) ∙ e)
     sum_stays s (Plus m c p) e h =
         let one = Plus m c Zero in
         let t = ordered_term m c p (back_of_sum s (Plus m c p) (ap ordered e ∙ n.ordered)) in

@@ -4,6 +4,7 @@ use Rattle.std.proofs.Common.{drop-cons, add-one}
 use Rattle.std.proofs.lemmas.List.{drop_all, append-nil}
 use Rattle.std.specs.declared.cmp.Ordering.TheVariants.{Less}
 use Rattle.std.specs.Ordering.{is_le, ordering_reverse}
+use Rattle.nf_terms.proofs.Identities.{product_with_one}
 use Rattle.nf_terms.proofs.Orderings.{is_le-false}
 use Rattle.nf_terms.specs.NormalTerms.{Atom, Monomial, One, Times, monomial_of}
 use Rattle.nf_terms.specs.View.{atom_in}
@@ -37,10 +38,6 @@ ordered_of xs r = ordered_sorted xs ∙ r.stands.holds
 monomial_of-append : (xs ys : List Atom) → monomial_of (xs ++ ys) ≡ monomial_product (monomial_of xs) (monomial_of ys)
 monomial_of-append [] ys = refl
 monomial_of-append (a ∷ xs) ys = ap (Times a) (monomial_of-append xs ys)
-
-joined_one : (m : Monomial) → monomial_product m One ≡ m
-joined_one One = refl
-joined_one (Times a m) = ap (Times a) (joined_one m)
 
 -- an atom moves to the front
 moved : (f : Monomial → ℤ) → IgnoresOrder f → (k m : Monomial) (a : Atom) (n : Monomial)
@@ -101,7 +98,7 @@ ended l r out i j m h k =
     let s : P [] [] = subst (λ a. P a []) (past l i h) (subst (λ b. P (map atom_in (drop i l)) b) (past r j k) m.so_far) in
     record {
       in_order = ordered_of (map atom_in out) (rw (← append-nil (map atom_in out)) s.left);
-      same = λ f g. ap f (sym (joined_one (monomial_of (map atom_in out)))) ∙ s.same f g;
+      same = λ f g. ap f (sym (product_with_one (monomial_of (map atom_in out)))) ∙ s.same f g;
     }
 
 module _ (l r out out' : List AtomTree) (i j : ℕ) (m : Joined l r out i j) where

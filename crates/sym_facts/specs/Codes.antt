@@ -2,8 +2,8 @@
 use Rattle.std.specs.Prelude.{◌≡◌, Bool, true, false, ℤ, ◌⊎◌, List, Option, refl}
 use Rattle.std.proofs.Common.{inl, inr}
 use Rattle.std.specs.Coded.{Coded, code_by, coded×, coded⊎, coded_bool, coded_ℤ, coded_list, coded_option}
+use Rattle.fs_model.specs.Codes.{coded_sort}
 use Rattle.fs_model.specs.declared.parts.Sort.{Sort}
-use Rattle.fs_model.specs.declared.parts.Sort.TheVariants as sort
 use Rattle.nf_terms.specs.NormalTerms.{Polynomial}
 use Rattle.nf_terms.specs.Codes.{coded_polynomial, coded_pos}
 use Rattle.nf_terms.specs.FormCodes.{coded_form}
@@ -52,36 +52,19 @@ literal_again True = refl
 literal_again False = refl
 literal_again (Is d k b) = refl
 
-abbrev pub coded_literal : Coded NormalLiteral
-coded_literal = code_by (Bool ⊎ (Polynomial × (Kind × ℤ)))
+abbrev pub coded_normal_literal : Coded NormalLiteral
+coded_normal_literal = code_by (Bool ⊎ (Polynomial × (Kind × ℤ)))
     (coded⊎ coded_bool (coded× coded_polynomial (coded× coded_kind coded_ℤ))) parts_of_literal literal_of_parts literal_again
-
-abbrev bits_of_sort : Sort → Bool × Bool
-bits_of_sort sort.Scalar = (true, true)
-bits_of_sort sort.Array = (true, false)
-bits_of_sort sort.Port = (false, false)
-
-abbrev sort_of_bits : Bool × Bool → Sort
-sort_of_bits (true, true) = sort.Scalar
-sort_of_bits (true, false) = sort.Array
-sort_of_bits (false, b) = sort.Port
-
-pub sort_again : (s : Sort) → sort_of_bits (bits_of_sort s) ≡ s
-sort_again sort.Scalar = refl
-sort_again sort.Array = refl
-sort_again sort.Port = refl
-
-abbrev pub coded_sort : Coded Sort
-coded_sort = code_by (Bool × Bool) (coded× coded_bool coded_bool) bits_of_sort sort_of_bits sort_again
 
 abbrev pub coded_position : Coded FactPosition
 coded_position = code_by (Pos × (Sort × Option Nf)) (coded× coded_pos (coded× coded_sort (coded_option coded_form)))
     (λ p. (p.pos, (p.sort, p.equation))) (λ t. record { pos = t.0; sort = t.1.0; equation = t.1.1 }) (λ _. refl)
 
 abbrev pub coded_fact : Coded Fact
-coded_fact = code_by (List FactPosition × List NormalLiteral) (coded× (coded_list coded_position) (coded_list coded_literal))
+coded_fact = code_by (List FactPosition × List NormalLiteral)
+    (coded× (coded_list coded_position) (coded_list coded_normal_literal))
     (λ f. (f.positions, f.literals)) (λ t. record { positions = t.0; literals = t.1 }) (λ _. refl)
 
 abbrev pub coded_post : Coded Post
-coded_post = code_by (List NormalLiteral × List (Pos × Nf)) (coded× (coded_list coded_literal) coded_vector)
+coded_post = code_by (List NormalLiteral × List (Pos × Nf)) (coded× (coded_list coded_normal_literal) coded_vector)
     (λ p. (p.conditions, p.vector)) (λ t. record { conditions = t.0; vector = t.1 }) (λ _. refl)

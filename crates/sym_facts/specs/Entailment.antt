@@ -1,5 +1,5 @@
 -- What a post entails.
-use Rattle.std.specs.Prelude.{ℕ, ◌+◌, ◌==◌, ◌&&◌, Bool, true, cond, List, [], ◌∷◌, length, Option, Some, None}
+use Rattle.std.specs.Prelude.{ℕ, ◌+◌, ◌==◌, ◌&&◌, Bool, true, false, cond, List, [], ◌∷◌, length, Option, Some, None}
 use Rattle.fs_model.specs.declared.parts.Rel.{Rel}
 use Rattle.fs_model.specs.declared.parts.Rel.TheVariants as rel
 use Rattle.nf_terms.specs.Forms.{same_form}
@@ -10,6 +10,7 @@ use Rattle.nf_terms.specs.declared.form.Nf.TheVariants.{Num, Arr, Seq}
 use Rattle.nf_sums.specs.Operations.{number}
 use Rattle.nf_substitution.specs.Vectors.{number_at, array_form, list_at}
 use Rattle.nf_substitution.specs.Substitution.{polynomial_substituted, array_substituted, list_substituted}
+use Rattle.nf_substitution.specs.StayingTerms.{terms_stay}
 use Rattle.nf_rel.specs.declared.kind.Kind.{Kind}
 use Rattle.nf_rel.specs.declared.kind.Kind.TheVariants.{Ge, Le, Eq, Ne}
 use Rattle.nf_rel.specs.Literals.{NormalLiteral, True, False, Is, literal, is_implied}
@@ -22,6 +23,12 @@ abbrev pub form_substituted : List (Pos × Nf) → Nf → Computed Nf
 form_substituted v (Num p) = after (polynomial_substituted v p) (λ q. Done (Num q))
 form_substituted v (Arr a) = after (array_substituted v a) (λ b. Done (Arr b))
 form_substituted v (Seq l) = after (list_substituted v l) (λ m. Done (Seq m))
+
+-- whether a form is a number over symbols that a vector has for themselves, in no monomial too many
+abbrev pub leaves_form : List (Pos × Nf) → Nf → Bool
+leaves_form v (Num p) = terms_stay v p
+leaves_form v (Arr a) = false
+leaves_form v (Seq l) = false
 
 -- what a vector has at a position, of the sort of a form
 abbrev pub form_like : List (Pos × Nf) → Pos → Nf → Nf

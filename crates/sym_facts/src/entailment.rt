@@ -10,7 +10,7 @@ ghost use Rattle.nf_rel.specs.NormalLiterals.{IsNormalLiteral};
 ghost use Rattle.nf_rel.specs.View.{literal_in};
 ghost use Rattle.sym_paths.specs.Sequences.{each};
 ghost use Rattle.sym_paths.specs.View.{answer_in_data, post_in};
-ghost use Rattle.sym_facts.specs.Entailment.{form_substituted, form_like as like, equation_met as equation_is_met};
+ghost use Rattle.sym_facts.specs.Entailment.{form_substituted, leaves_form, form_like as like, equation_met as equation_is_met};
 ghost use Rattle.sym_facts.specs.Entailment.{relation_of as relation, literal_substituted, literal_met as literal_is_met};
 ghost use Rattle.sym_facts.specs.Entailment.{false_places as places_of_false, entails as entailed};
 ghost use Rattle.sym_facts.specs.View.{position_in, missing_in};
@@ -53,8 +53,10 @@ pub fn substitute(alloc: Global, s: &mut Subst, form: &Nf) -> Result<Nf, NfStop>
     }
 }
 
-/// Whether the vector is known to have the symbols of a form, and to leave it as it is. The look takes no memory.
+/// Whether the vector is known to have the symbols of a form, and to leave it as it is: the form is a number, each atom is a
+/// symbol that the vector has as its own form, and no monomial has more than 2,048. The look takes no memory.
 pub fn leaves_form(s: &Subst, form: &Nf) -> bool
+    ensures look { result ≡ leaves_form s.now.vector form.now }
     ensures left { result ≡ true → form_substituted s.now.vector form.now ≡ Done form.now }
     ensures there { result ≡ true → list_all (has_symbol s.now.vector) (symbols_of_form form.now) ≡ true }
 {

@@ -23,8 +23,8 @@ check_shapes-requires-clause-reset c =
     reset_low p c.reset_state-reset.result.0 c.as_slice.result.now c.reset_state-reset.ensures.within
     (ap (map state_with_line) c.as_slice.ensures.value ∙ c.in-Ok.ensures)
 
-pub of-requires : goal.of-requires
-of-requires c =
+pub machine_of_states-requires : goal.machine_of_states-requires
+machine_of_states-requires c =
     let p = source_of c.args.parts.now in
     let reset = c.reset_state-reset in
     let late = shapes_kept p _ reset.result.0 _ (ap (map state_with_line) c.as_slice.ensures.value ∙ c.in-Ok.ensures) reset.ensures.number
@@ -34,13 +34,14 @@ of-requires c =
     λ kept. subst IsSound (sym is)
     (sound p (all_kept p c.requires.plain) late.0 late.1 (right p c.requires.formed (subst (λ (m : Fsmd). KeepsTypes m.variables m.states) is kept)))
 
-pub returns-in-Ok-of-clause-spelled : goal.returns-in-Ok-of-clause-spelled
-returns-in-Ok-of-clause-spelled c =
-    c.in-Ok-of.ensures ∙ machine_is (source_of c.args.parts.now) c.args.scope.vars.items _ c.in-Ok.states.items c.reset_state-reset.result.0 c.requires.scope
+pub returns-in-Ok-machine_of_states-clause-spelled : goal.returns-in-Ok-machine_of_states-clause-spelled
+returns-in-Ok-machine_of_states-clause-spelled c =
+    c.in-Ok-machine_of_states.ensures
+    ∙ machine_is (source_of c.args.parts.now) c.args.scope.vars.items _ c.in-Ok.states.items c.reset_state-reset.result.0 c.requires.scope
     c.in-Ok.ensures c.reset_state-reset.ensures.number
 
-pub returns-in-Ok-of-clause-lawful : goal.returns-in-Ok-of-clause-lawful
-returns-in-Ok-of-clause-lawful c =
+pub returns-in-Ok-machine_of_states-clause-lawful : goal.returns-in-Ok-machine_of_states-clause-lawful
+returns-in-Ok-machine_of_states-clause-lawful c =
     let p = source_of c.args.parts.now in
     let late = shapes_kept p _ _ _ (ap (map state_with_line) c.as_slice.ensures.value ∙ c.in-Ok.ensures) c.reset_state-reset.ensures.number
     c.in-Ok-None.field-0-is
