@@ -1,6 +1,7 @@
 //! What a certificate is read against.
 
 ghost use Rattle.std.specs.Prelude.{◌≡◌, ℕ, List, IfOk};
+ghost use Rattle.fs_model.specs.declared.sides.Side.TheVariants.{Left, Right};
 ghost use Rattle.fs_pair.specs.Positions.{positions};
 ghost use Rattle.cert_text.specs.CertificateNames.{state_named, place_named, find_in};
 ghost use Rattle.cert_text.specs.NameTables.{name_number};
@@ -52,6 +53,42 @@ fn positions_of<'a>(
     table_of(alloc, names.as_slice())
 }
 
+// The tables of the states of two machines. The one refusal is out of memory.
+fn state_tables<'a>(
+    alloc: Global,
+    a: &'a Machine,
+    b: &'a Machine,
+) -> Result<(NameTable<'a>, NameTable<'a>), NoMemory>
+    ensures left { IfOk result (λ t. (x : List ℕ) → name_number t.0 x ≡ state_named a.now x) }
+    ensures right { IfOk result (λ t. (x : List ℕ) → name_number t.1 x ≡ state_named b.now x) }
+{
+    let left = states_of(alloc, a)?;
+    Ok((left, states_of(alloc, b)?))
+}
+
+// The places of the names of two machines. The one refusal is out of memory.
+fn places_of<'a>(
+    alloc: Global,
+    a: &'a Machine,
+    b: &'a Machine,
+    p: &'a Pairing,
+    format: u64,
+) -> Result<Places<'a>, NoMemory>
+    ensures positions { IfOk result (λ t. t.positions.now ≡ p.now) }
+    ensures format { IfOk result (λ t. t.format ≡ format) }
+    ensures left { IfOk result (λ t. (x : List ℕ) → name_number t.left x ≡ place_named a.now b.now p.now Left x) }
+    ensures right { IfOk result (λ t. (x : List ℕ) → name_number t.right x ≡ place_named a.now b.now p.now Right x) }
+{
+    let left = positions_of(alloc, a, b, Side::Left, p)?;
+    let right = positions_of(alloc, a, b, Side::Right, p)?;
+    Ok(Places {
+        positions: p.positions(),
+        format,
+        left,
+        right,
+    })
+}
+
 /// What a file of a format is read against. The one refusal is out of memory.
 #[tactic(auto, using(crate::proofs::Contexts::same_context))]
 pub fn context_of<'a>(
@@ -67,16 +104,8 @@ pub fn context_of<'a>(
         (meanings_by (find_in (place_named a.now b.now (positions a.now b.now)) (positions a.now b.now) format))) }
     ensures pairing { IfOk result (λ c. c.pairing.now ≡ c.places.positions.now) }
 {
-    let left_states = states_of(alloc, a)?;
-    let right_states = states_of(alloc, b)?;
-    let left = positions_of(alloc, a, b, Side::Left, p)?;
-    let right = positions_of(alloc, a, b, Side::Right, p)?;
-    let places = Places {
-        positions: p.positions(),
-        format,
-        left,
-        right,
-    };
+    let (left_states, right_states) = state_tables(alloc, a, b)?;
+    let places = places_of(alloc, a, b, p, format)?;
     Ok(Context {
         a,
         b,

@@ -100,8 +100,31 @@ fn keep(
     Ok(())
 }
 
-/// The form of a text of a node at a place, or why the node is refused.
+// The form of a text of a node at a place at which another one was read last, or why the node is refused.
 #[tactic(auto, using(crate::proofs::Repeated::read_as))]
+fn read_new(
+    alloc: Global,
+    places: &Places<'_>,
+    node: u32,
+    place: u32,
+    text: &str,
+    last: &mut Vec<Option<ReadText>>,
+) -> Result<Nf, Stop>
+    requires place { place < length places.now.positions.now }
+    requires last { AreLast places.now last.old.items }
+    ensures told { Tells (λ f. f) result
+        (text_read node ((meanings_by (find_of places.now)).term (sort_of_place places.now.positions.now place) text.now)) }
+    ensures sort { IfOk result (λ f. sort_of_form f ≡ sort_of_place places.now.positions.now place) }
+    ensures within { IfOk result (FormWithin (find_of places.now)) }
+    ensures last { OnOk result (AreLast places.now last.new.items) }
+{
+    let sort = sort_at(places.positions, place);
+    let form = read_term(alloc, places, node, sort, text.as_bytes())?;
+    keep(alloc, places, place, text, &form, last)?;
+    Ok(form)
+}
+
+/// The form of a text of a node at a place, or why the node is refused.
 pub fn read_at(
     alloc: Global,
     places: &Places<'_>,
@@ -118,11 +141,8 @@ pub fn read_at(
     ensures within { IfOk result (FormWithin (find_of places.now)) }
     ensures last { OnOk result (AreLast places.now last.new.items) }
 {
-    if let Some(form) = find_repeated(alloc, places, place, text, last.as_slice())? {
-        return Ok(form);
+    match find_repeated(alloc, places, place, text, last.as_slice())? {
+        Some(form) => Ok(form),
+        None => read_new(alloc, places, node, place, text, last),
     }
-    let sort = sort_at(places.positions, place);
-    let form = read_term(alloc, places, node, sort, text.as_bytes())?;
-    keep(alloc, places, place, text, &form, last)?;
-    Ok(form)
 }

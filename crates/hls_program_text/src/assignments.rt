@@ -1,6 +1,6 @@
 //! The assignments of a program.
 
-ghost use Rattle.std.specs.Prelude.{◌≡◌, ◌<◌, ◌≤◌, List, ℕ, option_map, length, IfOk};
+ghost use Rattle.std.specs.Prelude.{◌≡◌, ◌<◌, List, ℕ, option_map, length, IfOk};
 ghost use Rattle.fs_model.specs.Terms.{Term};
 ghost use Rattle.fs_model.specs.View.{named_term, named_assignment};
 ghost use Rattle.fs_grammar.specs.Tokens.{ParsesOn, kind_at, line_at};
@@ -32,56 +32,6 @@ fn close_bracket(tokens: &[Token]) -> Result<&[Token], ReadError>
     }
 }
 
-// The index of a destination, after the bracket that opens it.
-fn index(alloc: Global, tokens: &[Token]) -> Result<(Expr<Name>, &[Token]), ReadError>
-    ensures goes { (o : Open) (b : Named) (n : ℕ) (x : List ℕ)
-        → ParsesOn result (program_reading tokens.now (inside (for_index o b n x) (at_sum sum_alone)))
-        (λ y. program_reading y.1.now (at_equals o b n (element x (named_term y.0)))) }
-    ensures shorter { IfOk result (λ y. length y.1.now < length tokens.now) }
-{
-    let (index, rest) = sum(alloc, tokens)?;
-    let rest = close_bracket(rest)?;
-    Ok((index, rest))
-}
-
-// The index of a destination, if it has one, after its name.
-#[tactic(auto, using(crate::proofs::Readings::scalar_ends, crate::proofs::Readings::bracket_taken))]
-fn optional_index(
-    alloc: Global,
-    tokens: &[Token],
-) -> Result<(Option<Expr<Name>>, &[Token]), ReadError>
-    ensures goes { (o : Open) (b : Named) (n : ℕ) (x : List ℕ)
-        → ParsesOn result (program_reading tokens.now (after_name o b n x))
-        (λ y. program_reading y.1.now (at_equals o b n (destination x (option_map named_term y.0)))) }
-    ensures shorter { IfOk result (λ y. length y.1.now ≤ length tokens.now) }
-{
-    match front(tokens) {
-        Some(TokenKind::OpenBracket) => {
-            let rest = accept(tokens)?;
-            let (index, rest) = index(alloc, rest)?;
-            Ok((Some(index), rest))
-        }
-        _ => Ok((None, tokens)),
-    }
-}
-
-// What stands before the `=` of an assignment: a name, and its index, if it has one.
-#[tactic(auto, using(crate::proofs::Readings::name_read))]
-fn before_equals(
-    alloc: Global,
-    tokens: &[Token],
-) -> Result<(Name, Option<Expr<Name>>, &[Token]), ReadError>
-    requires { IsNoKeyword (kind_at tokens.now) }
-    ensures goes { (o : Open) (b : Named)
-        → ParsesOn result (program_reading tokens.now (at_statement o b))
-        (λ y. program_reading y.2.now (at_equals o b (line_at tokens.now) (destination y.0 (option_map named_term y.1)))) }
-    ensures shorter { IfOk result (λ y. length y.2.now < length tokens.now) }
-{
-    let (name, rest) = name(alloc, tokens)?;
-    let (index, rest) = optional_index(alloc, rest)?;
-    Ok((name, index, rest))
-}
-
 // The sign between the two sides of an assignment.
 fn equals(tokens: &[Token]) -> Result<&[Token], ReadError>
     ensures goes { (o : Open) (b : Named) (n : ℕ) (d : Destination)
@@ -95,6 +45,72 @@ fn equals(tokens: &[Token]) -> Result<&[Token], ReadError>
     }
 }
 
+// What stands between the index of a destination and the value.
+fn index_end(tokens: &[Token]) -> Result<&[Token], ReadError>
+    ensures goes { (o : Open) (b : Named) (n : ℕ) (x : List ℕ) (i : Term (List ℕ))
+        → ParsesOn result (program_reading tokens.now (after (for_index o b n x) (whole_sum i)))
+        (λ r. program_reading r.now (inside (for_value o b n (element x i)) (at_sum sum_alone))) }
+    ensures shorter { IfOk result (λ r. length r.now < length tokens.now) }
+{
+    let rest = close_bracket(tokens)?;
+    equals(rest)
+}
+
+// The index of a destination, after the bracket that opens it, up to the value.
+fn index(alloc: Global, tokens: &[Token]) -> Result<(Expr<Name>, &[Token]), ReadError>
+    ensures goes { (o : Open) (b : Named) (n : ℕ) (x : List ℕ)
+        → ParsesOn result (program_reading tokens.now (inside (for_index o b n x) (at_sum sum_alone)))
+        (λ y. program_reading y.1.now (inside (for_value o b n (element x (named_term y.0))) (at_sum sum_alone))) }
+    ensures shorter { IfOk result (λ y. length y.1.now < length tokens.now) }
+{
+    let (index, rest) = sum(alloc, tokens)?;
+    let rest = index_end(rest)?;
+    Ok((index, rest))
+}
+
+// The index of a destination, if it has one, after its name, up to the value.
+#[tactic(auto, using(crate::proofs::Readings::scalar_ends, crate::proofs::Readings::bracket_taken))]
+fn optional_index(
+    alloc: Global,
+    tokens: &[Token],
+) -> Result<(Option<Expr<Name>>, &[Token]), ReadError>
+    ensures goes { (o : Open) (b : Named) (n : ℕ) (x : List ℕ)
+        → ParsesOn result (program_reading tokens.now (after_name o b n x))
+        (λ y. program_reading y.1.now
+        (inside (for_value o b n (destination x (option_map named_term y.0))) (at_sum sum_alone))) }
+    ensures shorter { IfOk result (λ y. length y.1.now < length tokens.now) }
+{
+    match front(tokens) {
+        Some(TokenKind::OpenBracket) => {
+            let rest = accept(tokens)?;
+            let (index, rest) = index(alloc, rest)?;
+            Ok((Some(index), rest))
+        }
+        _ => {
+            let rest = equals(tokens)?;
+            Ok((None, rest))
+        }
+    }
+}
+
+// What stands before the value of an assignment: a name, and its index, if it has one.
+#[tactic(auto, using(crate::proofs::Readings::name_read))]
+fn before_value(
+    alloc: Global,
+    tokens: &[Token],
+) -> Result<(Name, Option<Expr<Name>>, &[Token]), ReadError>
+    requires { IsNoKeyword (kind_at tokens.now) }
+    ensures goes { (o : Open) (b : Named)
+        → ParsesOn result (program_reading tokens.now (at_statement o b))
+        (λ y. program_reading y.2.now
+        (inside (for_value o b (line_at tokens.now) (destination y.0 (option_map named_term y.1))) (at_sum sum_alone))) }
+    ensures shorter { IfOk result (λ y. length y.2.now < length tokens.now) }
+{
+    let (name, rest) = name(alloc, tokens)?;
+    let (index, rest) = optional_index(alloc, rest)?;
+    Ok((name, index, rest))
+}
+
 // The semicolon that ends an assignment.
 fn semicolon(tokens: &[Token]) -> Result<&[Token], ReadError>
     ensures goes { (o : Open) (b : Named) (n : ℕ) (d : Destination) (e : Term (List ℕ))
@@ -106,6 +122,19 @@ fn semicolon(tokens: &[Token]) -> Result<&[Token], ReadError>
         Some(TokenKind::Semicolon) => accept(tokens),
         _ => Err(refuse(tokens)),
     }
+}
+
+// The value of an assignment, with its semicolon.
+fn value(alloc: Global, tokens: &[Token]) -> Result<(Expr<Name>, &[Token]), ReadError>
+    ensures goes { (o : Open) (b : Named) (n : ℕ) (d : Destination)
+        → ParsesOn result (program_reading tokens.now (inside (for_value o b n d) (at_sum sum_alone)))
+        (λ y. program_reading y.1.now
+        (at_statement o (join_blocks b (Do n (destination_assignment d (named_term y.0)) End)))) }
+    ensures shorter { IfOk result (λ y. length y.1.now < length tokens.now) }
+{
+    let (value, rest) = sum(alloc, tokens)?;
+    let rest = semicolon(rest)?;
+    Ok((value, rest))
 }
 
 fn assign(name: Name, index: Option<Expr<Name>>, value: Expr<Name>) -> Assign<Name>
@@ -126,9 +155,7 @@ pub fn assignment(alloc: Global, tokens: &[Token]) -> Result<(Assign<Name>, &[To
         (λ y. program_reading y.1.now (at_statement o (join_blocks b (Do (line_at tokens.now) (named_assignment y.0) End)))) }
     ensures shorter { IfOk result (λ y. length y.1.now < length tokens.now) }
 {
-    let (name, index, rest) = before_equals(alloc, tokens)?;
-    let rest = equals(rest)?;
-    let (value, rest) = sum(alloc, rest)?;
-    let rest = semicolon(rest)?;
+    let (name, index, rest) = before_value(alloc, tokens)?;
+    let (value, rest) = value(alloc, rest)?;
     Ok((assign(name, index, value), rest))
 }

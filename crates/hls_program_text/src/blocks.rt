@@ -124,6 +124,30 @@ fn while_word(tokens: &[Token]) -> Result<&[Token], ReadError>
     accept(tokens)
 }
 
+// The guard of a choice, and the word `if` before it.
+fn if_guard(alloc: Global, tokens: &[Token]) -> Result<(Guard, &[Token]), ReadError>
+    requires { kind_at tokens.now ≡ Some kinds.If }
+    ensures goes { (o : Open) (b : Named)
+        → ParsesOn result (program_reading tokens.now (at_statement o b))
+        (λ x. program_reading x.1.now (after (for_if o b (line_at tokens.now)) (whole_guard (named_guard x.0)))) }
+    ensures shorter { IfOk result (λ x. length x.1.now < length tokens.now) }
+{
+    let rest = if_word(tokens)?;
+    guard(alloc, rest)
+}
+
+// The guard of a loop, and the word `while` before it.
+fn while_guard(alloc: Global, tokens: &[Token]) -> Result<(Guard, &[Token]), ReadError>
+    requires { kind_at tokens.now ≡ Some kinds.While }
+    ensures goes { (o : Open) (b : Named)
+        → ParsesOn result (program_reading tokens.now (at_statement o b))
+        (λ x. program_reading x.1.now (after (for_while o b (line_at tokens.now)) (whole_guard (named_guard x.0)))) }
+    ensures shorter { IfOk result (λ x. length x.1.now < length tokens.now) }
+{
+    let rest = while_word(tokens)?;
+    guard(alloc, rest)
+}
+
 // The word `else`.
 fn else_word(tokens: &[Token]) -> Result<&[Token], ReadError>
     requires { kind_at tokens.now ≡ Some kinds.Else }
@@ -224,8 +248,7 @@ fn choice(alloc: Global, depth: u32, tokens: &[Token]) -> Result<(Stmt, &[Token]
     ensures shorter { IfOk result (λ x. length x.1.now < length tokens.now) }
 {
     let line = line_of(tokens);
-    let rest = if_word(tokens)?;
-    let (guard, rest) = guard(alloc, rest)?;
+    let (guard, rest) = if_guard(alloc, tokens)?;
     let (yes, rest) = block(alloc, depth + 1, rest)?;
     let (no, rest) = otherwise(alloc, depth, rest)?;
     Ok((chosen(line, guard, yes, no), rest))
@@ -264,8 +287,7 @@ fn repetition(alloc: Global, depth: u32, tokens: &[Token]) -> Result<(Stmt, &[To
     ensures shorter { IfOk result (λ x. length x.1.now < length tokens.now) }
 {
     let line = line_of(tokens);
-    let rest = while_word(tokens)?;
-    let (guard, rest) = guard(alloc, rest)?;
+    let (guard, rest) = while_guard(alloc, tokens)?;
     let (body, rest) = block(alloc, depth + 1, rest)?;
     Ok((repeated(line, guard, body), rest))
 }

@@ -10,8 +10,8 @@ returns-clause-same c =
       b = c.args.b;
       pairing = c.args.p;
       left_states = c.in_ok-left_states.left_states;
-      right_states = c.in_ok-right_states.right_states;
-      places = record { positions = c.positions.result; format = c.args.format; left = c.in_ok-left.left; right = c.in_ok-right.right };
+      right_states = c.in_ok-left_states.right_states;
+      places = c.in_ok-places.places;
     })
-    c.args.a.now c.args.b.now c.args.p.now c.args.format c.requires refl refl c.in_ok-left_states.ensures c.in_ok-right_states.ensures c.positions.ensures refl
-    c.in_ok-left.ensures c.in_ok-right.ensures
+    c.args.a.now c.args.b.now c.args.p.now c.args.format c.requires refl refl c.in_ok-left_states.ensures.left c.in_ok-left_states.ensures.right
+    c.in_ok-places.ensures.positions c.in_ok-places.ensures.format c.in_ok-places.ensures.left c.in_ok-places.ensures.right
