@@ -4,7 +4,6 @@ use Rattle.std.proofs.lemmas.List.{get_or_append_left, length-append}
 use Rattle.nf_terms.specs.NormalTerms.{Atom, Monomial, Polynomial, ArrayTerm, Read, Quotient, Remainder, Over, monomial_of, polynomial_of, writes_of}
 use Rattle.nf_bank.specs.declared.node.Term.{Term}
 use Rattle.nf_bank.specs.declared.node.Array.{Array}
-use Rattle.nf_bank.specs.declared.node.Node.{Node}
 use Rattle.nf_bank.specs.declared.node.Node.TheVariants as node
 use Rattle.nf_bank.specs.Atoms.{atom_place, IsBank, IsFront}
 use Rattle.nf_bank.specs.AtomNumbers.{bound_over, bound_of_number, bound_of_term, bound_of_sum, bound_of_write, bound_of_array, bound_of_node, past_end}

@@ -5,3 +5,4 @@ pub mod Growing
 pub mod Nodes
 pub mod Closed
 pub mod Turns
+mod Made

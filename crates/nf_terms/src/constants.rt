@@ -8,7 +8,6 @@ ghost use Rattle.nf_terms.specs.Normal.{constant_part as constant_of, is_constan
 
 use crate::order::compare_monos;
 use crate::tree::{MonoTree, PolyTree};
-use std::cmp::Ordering;
 
 /// Whether a monomial has an atom.
 #[tactic(auto, using(crate::proofs::Steps::has_atoms_in))]
@@ -69,10 +68,13 @@ pub fn differs_by_constant(left: &PolyTree, right: &PolyTree) -> bool
         if !has_atoms(mono) {
             continue;
         }
-        let Some(((other, number), after)) = rest.split_first() else {
+        let Some((other, after)) = rest.split_first() else {
             return false;
         };
-        if compare_monos(mono, other).then(coefficient.cmp(number)) != Ordering::Equal {
+        if !compare_monos(mono, &other.0)
+            .then(coefficient.cmp(&other.1))
+            .is_eq()
+        {
             return false;
         }
         rest = skip_constants(after);

@@ -92,13 +92,13 @@ pub fn compare_monos(l: &MonoTree, r: &MonoTree) -> Ordering
 pub fn compare_polys(l: &PolyTree, r: &PolyTree) -> Ordering
     ensures { result ≡ cmp_polynomial (polynomial_in l.now) (polynomial_in r.now) }
 {
-    for (i, (a, c)) in l.monos.iter().enumerate() {
-        let Some((b, d)) = r.monos.get(i) else {
+    for (i, term) in l.monos.iter().enumerate() {
+        let Some(other) = r.monos.get(i) else {
             return Ordering::Greater;
         };
-        match compare_monos(a, b).then(c.cmp(d)) {
+        match compare_monos(&term.0, &other.0).then(term.1.cmp(&other.1)) {
             Ordering::Equal => {}
-            other => return other,
+            decided => return decided,
         }
     }
     match r.monos.get(l.monos.len()) {
@@ -116,13 +116,13 @@ pub fn compare_arrs(l: &ArrTree, r: &ArrTree) -> Ordering
         Ordering::Equal => {}
         other => return other,
     }
-    for (n, (i, v)) in l.writes.iter().enumerate() {
-        let Some((j, w)) = r.writes.get(n) else {
+    for (n, write) in l.writes.iter().enumerate() {
+        let Some(other) = r.writes.get(n) else {
             return Ordering::Greater;
         };
-        match compare_polys(i, j).then(compare_polys(v, w)) {
+        match compare_polys(&write.0, &other.0).then(compare_polys(&write.1, &other.1)) {
             Ordering::Equal => {}
-            other => return other,
+            decided => return decided,
         }
     }
     match r.writes.get(l.writes.len()) {

@@ -94,7 +94,10 @@ pub fn is_ordered_mono(mono: &MonoTree) -> bool
     ensures { result ≡ ordered_monomial (monomial_in mono.now) }
 {
     for (i, atom) in mono.atoms.iter().enumerate() {
-        if !is_ordered_atom(atom) || !atom_rises(atom, &mono.atoms[i + 1..]) {
+        if !is_ordered_atom(atom) {
+            return false;
+        }
+        if !atom_rises(atom, &mono.atoms[i + 1..]) {
             return false;
         }
     }
@@ -106,11 +109,14 @@ pub fn is_ordered_mono(mono: &MonoTree) -> bool
 pub fn is_ordered_poly(poly: &PolyTree) -> bool
     ensures { result ≡ ordered (polynomial_in poly.now) }
 {
-    for (i, (mono, coefficient)) in poly.monos.iter().enumerate() {
-        if *coefficient == 0 || !is_ordered_mono(mono) {
+    for (i, term) in poly.monos.iter().enumerate() {
+        if term.1 == 0 {
             return false;
         }
-        if !monomial_rises(mono, &poly.monos[i + 1..]) {
+        if !is_ordered_mono(&term.0) {
+            return false;
+        }
+        if !monomial_rises(&term.0, &poly.monos[i + 1..]) {
             return false;
         }
     }
@@ -122,12 +128,18 @@ pub fn is_ordered_poly(poly: &PolyTree) -> bool
 pub fn is_ordered_arr(arr: &ArrTree) -> bool
     ensures { result ≡ ordered_array (array_in arr.now) }
 {
-    for (i, (index, value)) in arr.writes.iter().enumerate() {
-        if !is_ordered_poly(index) || !is_ordered_poly(value) {
+    for (i, write) in arr.writes.iter().enumerate() {
+        if !is_ordered_poly(&write.0) {
+            return false;
+        }
+        if !is_ordered_poly(&write.1) {
             return false;
         }
         let later = &arr.writes[i + 1..];
-        if is_written(index, later) || !write_rises(index, later) {
+        if is_written(&write.0, later) {
+            return false;
+        }
+        if !write_rises(&write.0, later) {
             return false;
         }
     }

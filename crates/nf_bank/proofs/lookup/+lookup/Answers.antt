@@ -1,9 +1,15 @@
-use Rattle.std.proofs.Common.{◌∙◌, refl}
-use Rattle.nf_terms.specs.View.{atom_in, monomial_in, polynomial_in, array_in, term_in, write_in}
+use Rattle.std.proofs.Common.{◌≡◌, ◌∙◌, refl, ap, sym, subst}
+use Rattle.nf_terms.specs.NormalTerms.{Atom, Monomial, Polynomial, ArrayTerm, Read, Quotient, Remainder}
+use Rattle.nf_terms.specs.declared.tree.Atom.TheFolds.{fold-roll-Atom}
+use Rattle.nf_terms.specs.declared.tree.Atom.TheVariants.{rolls-Read, rolls-Div, rolls-Rem}
+use Rattle.nf_terms.specs.declared.tree.Atom.TheOpen as open_tree
+use Rattle.nf_terms.specs.View.{atom_step, arr_step, mono_step, poly_step, atom_in, monomial_in, polynomial_in, array_in, term_in, write_in}
 use Rattle.nf_terms.specs.declared.tree.ArrTree.{out-ArrTree}
-use Rattle.nf_bank.specs.AtomNumbers.{bound_of_number, bound_of_term, bound_of_write, atom_of_number, scaled_monomial_over, write_over}
+use Rattle.nf_bank.specs.AtomNumbers.{SpellsSum, SpellsArray, SpellsAtom, bound_of_number, bound_of_term, bound_of_write, atom_of_number, scaled_monomial_over}
+use Rattle.nf_bank.specs.AtomNumbers.{write_over}
+use Rattle.nf_bank.specs.declared.node.Node.TheVariants as node
 use Rattle.nf_bank.proofs.Fronts.{front_same}
-use Rattle.nf_bank.proofs.Growing.{numbers_grow, terms_grow, writes_grow}
+use Rattle.nf_bank.proofs.Growing.{numbers_grow, terms_grow, writes_grow, read_spelled, quotient_spelled, remainder_spelled}
 use Rattle.nf_bank.proofs.Places.{found_there}
 use Rattle.nf_bank.proofs.Turns.{one_more, monomial_spelled, sum_spelled, array_spelled, number_spells, term_spells, write_spells, monomial_there, sum_there}
 use Rattle.nf_bank.proofs.Turns.{writes_there}
@@ -63,3 +69,42 @@ pub find_array-returns-clause-spelled : goal.find_array-returns-clause-spelled
 find_array-returns-clause-spelled t c =
     array_spelled c.args.bank.now (out-ArrTree c.args.array.now).base c.loop-index.writes.items c.new.result c.deref-index-items.result.now
     c.loop-index.index-index (array_in c.args.array.now) c.loop-index.invariant.spelled c.loop-index-test.false c.new.ensures c.loop-index.invariant.whole
+
+pub find_inner-returns-in_ok-index-in-Read-clause-spelled : goal.find_inner-returns-in_ok-index-in-Read-clause-spelled
+find_inner-returns-in_ok-index-in-Read-clause-spelled t c =
+    let bank = c.args.bank.now in
+    let l = c.in_ok-array-in-Read.array in
+    let r = c.in_ok-index-in-Read.index in
+    let s = subst (λ x. SpellsArray bank l (array_in x)) c.deref.ensures c.in_ok-array-in-Read.ensures.spelled in
+    let u = subst (λ x. SpellsSum bank r (polynomial_in x)) c.deref-in-Read.ensures c.in_ok-index-in-Read.ensures.spelled in
+    let e : atom_in c.args.atom.now ≡ Read (array_in c.in-Read.array.value) (polynomial_in c.in-Read.index.value) =
+    ap atom_in (c.in-Read.is ∙ sym (rolls-Read c.in-Read.array c.in-Read.index))
+    ∙ fold-roll-Atom Atom ArrayTerm Monomial Polynomial atom_step arr_step mono_step poly_step (open_tree.Read c.in-Read.array c.in-Read.index) in
+    subst (SpellsAtom bank (node.Read l r)) (sym e)
+    (read_spelled bank bank l r (array_in c.in-Read.array.value) (polynomial_in c.in-Read.index.value) (front_same bank bank refl) s u)
+
+pub find_inner-returns-in_ok-right-in-Div-clause-spelled : goal.find_inner-returns-in_ok-right-in-Div-clause-spelled
+find_inner-returns-in_ok-right-in-Div-clause-spelled t c =
+    let bank = c.args.bank.now in
+    let l = c.in_ok-left-in-Div.left in
+    let r = c.in_ok-right-in-Div.right in
+    let s = subst (λ x. SpellsSum bank l (polynomial_in x)) c.deref-in-Div.ensures c.in_ok-left-in-Div.ensures.spelled in
+    let u = subst (λ x. SpellsSum bank r (polynomial_in x)) c.deref-in-Div-2.ensures c.in_ok-right-in-Div.ensures.spelled in
+    let e : atom_in c.args.atom.now ≡ Quotient (polynomial_in c.in-Div.left.value) (polynomial_in c.in-Div.right.value) =
+    ap atom_in (c.in-Div.is ∙ sym (rolls-Div c.in-Div.left c.in-Div.right))
+    ∙ fold-roll-Atom Atom ArrayTerm Monomial Polynomial atom_step arr_step mono_step poly_step (open_tree.Div c.in-Div.left c.in-Div.right) in
+    subst (SpellsAtom bank (node.Div l r)) (sym e)
+    (quotient_spelled bank bank l r (polynomial_in c.in-Div.left.value) (polynomial_in c.in-Div.right.value) (front_same bank bank refl) s u)
+
+pub find_inner-returns-in_ok-right-in-Rem-clause-spelled : goal.find_inner-returns-in_ok-right-in-Rem-clause-spelled
+find_inner-returns-in_ok-right-in-Rem-clause-spelled t c =
+    let bank = c.args.bank.now in
+    let l = c.in_ok-left-in-Rem.left in
+    let r = c.in_ok-right-in-Rem.right in
+    let s = subst (λ x. SpellsSum bank l (polynomial_in x)) c.deref-in-Rem.ensures c.in_ok-left-in-Rem.ensures.spelled in
+    let u = subst (λ x. SpellsSum bank r (polynomial_in x)) c.deref-in-Rem-2.ensures c.in_ok-right-in-Rem.ensures.spelled in
+    let e : atom_in c.args.atom.now ≡ Remainder (polynomial_in c.in-Rem.left.value) (polynomial_in c.in-Rem.right.value) =
+    ap atom_in (c.in-Rem.is ∙ sym (rolls-Rem c.in-Rem.left c.in-Rem.right))
+    ∙ fold-roll-Atom Atom ArrayTerm Monomial Polynomial atom_step arr_step mono_step poly_step (open_tree.Rem c.in-Rem.left c.in-Rem.right) in
+    subst (SpellsAtom bank (node.Rem l r)) (sym e)
+    (remainder_spelled bank bank l r (polynomial_in c.in-Rem.left.value) (polynomial_in c.in-Rem.right.value) (front_same bank bank refl) s u)

@@ -1,0 +1,34 @@
+use Rattle.std.proofs.Common.{◌+◌, max, refl, ap, ◌∙◌, arith}
+use Rattle.nf_terms.specs.NormalTerms.{monomial_of, polynomial_of, writes_of}
+use Rattle.nf_terms.specs.View.{atom_in, term_in, write_in}
+use Rattle.nf_terms.specs.Measures.{depth_of_atom, depth_of_monomial, depth_of, depth_of_writes}
+use Rattle.nf_terms.proofs.Capped.{greatest_more}
+use Rattle.nf_terms.proofs.measures.+depths.Goals as goal
+
+pub depth_of_mono-loop-atom-preserved : goal.depth_of_mono-loop-atom-preserved
+depth_of_mono-loop-atom-preserved t c = (
+  omega (arith, c.max-deepest.type_inv),
+  greatest_more atom_in (λ as'. depth_of_monomial (monomial_of as')) depth_of_atom (λ a as'. refl) 4294967295 c.loop-atom.deepest c.max-deepest.result
+      c.deref-atom-items.result.now c.loop-atom.atom-index c.atom-item.result c.loop-atom.invariant.0
+      (c.max-deepest.ensures ∙ ap (max c.loop-atom.deepest) c.depth_of_atom.ensures) c.loop-atom-test.true c.atom-item.is
+      ∙ c.loop-atom.invariant.1,
+)
+
+pub depth_of_poly-loop-mono-preserved : goal.depth_of_poly-loop-mono-preserved
+depth_of_poly-loop-mono-preserved t c = (
+  omega (arith, c.max-deepest.type_inv),
+  greatest_more term_in (λ ts. depth_of (polynomial_of ts)) (λ m. depth_of_monomial m.0) (λ m ts. refl) 4294967295 c.loop-mono.deepest
+      c.max-deepest.result c.deref-mono-items.result.now c.loop-mono.mono-index c.loop-mono-item.result c.loop-mono.invariant.0
+      (c.max-deepest.ensures ∙ ap (max c.loop-mono.deepest) c.depth_of_mono.ensures) c.loop-mono-test.true c.loop-mono-item.is
+      ∙ c.loop-mono.invariant.1,
+)
+
+pub depth_of_arr-loop-index-preserved : goal.depth_of_arr-loop-index-preserved
+depth_of_arr-loop-index-preserved t c = (
+  omega (arith, c.max-deepest.type_inv),
+  greatest_more write_in (λ ws. depth_of_writes (writes_of ws)) (λ w. 1 + max (depth_of w.0) (depth_of w.1)) (λ w ws. refl) 4294967295
+      c.loop-index.deepest c.max-deepest.result c.deref-index-items.result.now c.loop-index.index-index c.loop-index-item.result c.loop-index.invariant.0
+      (omega (arith, c.max-deepest.ensures, c.saturating_add-write.ensures, c.max.ensures, c.depth_of_poly.ensures, c.depth_of_poly-in-loop-index.ensures))
+      c.loop-index-test.true c.loop-index-item.is
+      ∙ c.loop-index.invariant.1,
+)

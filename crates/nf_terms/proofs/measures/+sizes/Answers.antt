@@ -1,0 +1,41 @@
+use Rattle.std.proofs.Common.{◌+◌, refl, ◌∙◌, arith}
+use Rattle.nf_terms.specs.NormalTerms.{monomial_of, polynomial_of, writes_of}
+use Rattle.nf_terms.specs.View.{atom_in, term_in, write_in}
+use Rattle.nf_terms.specs.Measures.{size_of_atom, size_of_monomial, size_of, size_of_writes}
+use Rattle.nf_terms.proofs.Capped.{sum_more}
+use Rattle.nf_terms.proofs.measures.+sizes.Goals as goal
+
+pub size_of_mono-loop-atom-preserved : goal.size_of_mono-loop-atom-preserved
+size_of_mono-loop-atom-preserved t c = (
+  omega (arith, c.saturating_add-total.type_inv),
+  sum_more atom_in (λ as'. size_of_monomial (monomial_of as')) size_of_atom (λ a as'. refl) 18446744073709551615 c.loop-atom.total
+      c.saturating_add-total.result c.deref-atom-items.result.now c.loop-atom.atom-index c.atom-item.result
+      (omega (arith, c.saturating_add-total.ensures, c.size_of_atom.ensures)) c.loop-atom-test.true c.atom-item.is
+      ∙ c.loop-atom.invariant.1,
+)
+
+pub size_of_poly-loop-mono-preserved : goal.size_of_poly-loop-mono-preserved
+size_of_poly-loop-mono-preserved t c = (
+  omega (arith, c.saturating_add-total.type_inv),
+  sum_more term_in (λ ts. size_of (polynomial_of ts)) (λ m. 1 + size_of_monomial m.0) (λ m ts. refl) 18446744073709551615 c.loop-mono.total
+      c.saturating_add-total.result c.deref-mono-items.result.now c.loop-mono.mono-index c.loop-mono-item.result
+      (omega (arith, c.saturating_add-total.ensures, c.saturating_add.ensures, c.size_of_mono.ensures)) c.loop-mono-test.true c.loop-mono-item.is
+      ∙ c.loop-mono.invariant.1,
+)
+
+pub size_of_arr-loop-index-preserved : goal.size_of_arr-loop-index-preserved
+size_of_arr-loop-index-preserved t c = (
+  omega (arith, c.saturating_add-total.type_inv),
+  sum_more write_in (λ ws. size_of_writes (writes_of ws)) (λ w. 1 + size_of w.0 + size_of w.1) (λ w ws. refl) 18446744073709551615 c.loop-index.total
+      c.saturating_add-total.result c.deref-index-items.result.now c.loop-index.index-index c.loop-index-item.result
+      (omega (
+        arith,
+        c.saturating_add-total.ensures,
+        c.saturating_add-in-loop-index.ensures,
+        c.size_of_poly-in-loop-index.ensures,
+        c.saturating_add.ensures,
+        c.size_of_poly.ensures,
+      ))
+      c.loop-index-test.true c.loop-index-item.is
+      ∙ c.loop-index.invariant.1,
+)

@@ -1,0 +1,131 @@
+use Rattle.std.proofs.Common.{◌+◌, pos, not, ◌&&◌, map, drop, refl, ap, sym, ◌∙◌}
+use Rattle.std.specs.Ordering.{int_eq}
+use Rattle.nf_terms.specs.NormalTerms.{monomial_of, polynomial_of, writes_of}
+use Rattle.nf_terms.specs.Normal.{atom_rises, monomial_rises, write_rises, is_written, ordered_monomial, ordered, ordered_writes}
+use Rattle.nf_terms.specs.View.{atom_in, monomial_in, polynomial_in, term_in, write_in}
+use Rattle.nf_terms.proofs.InOrder.{atom_test, term_test, write_test, part_to_end, fails, holds, second_fails, both_hold, is_not_zero}
+use Rattle.nf_terms.proofs.ordered.+ordered.Goals as goal
+
+pub is_ordered_mono-returns-then-not-is_ordered_atom : goal.is_ordered_mono-returns-then-not-is_ordered_atom
+is_ordered_mono-returns-then-not-is_ordered_atom t c =
+    let xs = c.deref-atom-items.result.now in
+    let i = c.loop-i.i in
+    sym (fails atom_test (λ as'. ordered_monomial (monomial_of (map atom_in as'))) (λ a as'. refl) xs i c.atom-item.result c.loop-i-test.true c.atom-item.is
+    (ap (λ b. b && atom_rises (atom_in c.atom-item.result) (monomial_of (map atom_in (drop (i + 1) xs))))
+    (sym c.is_ordered_atom.ensures ∙ c.if-not-is_ordered_atom.true)))
+    ∙ c.loop-i.invariant
+
+pub is_ordered_mono-returns-then-not-atom_rises : goal.is_ordered_mono-returns-then-not-atom_rises
+is_ordered_mono-returns-then-not-atom_rises t c =
+    let xs = c.deref-atom-items.result.now in
+    let i = c.loop-i.i in
+    let rest = part_to_end c.deref.result.now (i + 1) ∙ ap (drop (i + 1)) (c.deref.ensures.value ∙ sym c.deref-atom-items.ensures.value) in
+    sym (fails atom_test (λ as'. ordered_monomial (monomial_of (map atom_in as'))) (λ a as'. refl) xs i c.atom-item.result c.loop-i-test.true c.atom-item.is
+    (second_fails _ _ (sym (c.atom_rises.ensures ∙ ap (λ as'. atom_rises (atom_in c.atom-item.result) (monomial_of (map atom_in as'))) rest)
+    ∙ c.if-not-atom_rises.true)))
+    ∙ c.loop-i.invariant
+
+pub is_ordered_mono-loop-i-preserved : goal.is_ordered_mono-loop-i-preserved
+is_ordered_mono-loop-i-preserved t c =
+    let xs = c.deref-atom-items.result.now in
+    let i = c.loop-i.i in
+    let rest = part_to_end c.deref.result.now (i + 1) ∙ ap (drop (i + 1)) (c.deref.ensures.value ∙ sym c.deref-atom-items.ensures.value) in
+    holds atom_test (λ as'. ordered_monomial (monomial_of (map atom_in as'))) (λ a as'. refl) xs i c.atom-item.result c.loop-i-test.true c.atom-item.is
+    (both_hold _ _ (sym c.is_ordered_atom.ensures ∙ c.if-not-is_ordered_atom.false)
+    (sym (c.atom_rises.ensures ∙ ap (λ as'. atom_rises (atom_in c.atom-item.result) (monomial_of (map atom_in as'))) rest) ∙ c.if-not-atom_rises.false))
+    ∙ c.loop-i.invariant
+
+pub is_ordered_poly-returns-then-not-is_ordered_mono : goal.is_ordered_poly-returns-then-not-is_ordered_mono
+is_ordered_poly-returns-then-not-is_ordered_mono t c =
+    let xs = c.deref-term-items.result.now in
+    let i = c.loop-i.i in
+    let x = c.term-item.result in
+    sym (fails term_test (λ ts. ordered (polynomial_of (map term_in ts))) (λ t ts. refl) xs i x c.loop-i-test.true c.term-item.is
+    (ap (λ b. b && monomial_rises (monomial_in x.0) (polynomial_of (map term_in (drop (i + 1) xs))))
+    (second_fails (not (int_eq x.1 (pos 0))) _ (sym c.is_ordered_mono.ensures ∙ c.if-not-is_ordered_mono.true))))
+    ∙ c.loop-i.invariant
+
+pub is_ordered_poly-returns-then-not-monomial_rises : goal.is_ordered_poly-returns-then-not-monomial_rises
+is_ordered_poly-returns-then-not-monomial_rises t c =
+    let xs = c.deref-term-items.result.now in
+    let i = c.loop-i.i in
+    let x = c.term-item.result in
+    let rest = part_to_end c.deref.result.now (i + 1) ∙ ap (drop (i + 1)) (c.deref.ensures.value ∙ sym c.deref-term-items.ensures.value) in
+    let rises = c.monomial_rises.ensures ∙ ap (λ ts. monomial_rises (monomial_in x.0) (polynomial_of (map term_in ts))) rest in
+    sym (fails term_test (λ ts. ordered (polynomial_of (map term_in ts))) (λ t ts. refl) xs i x c.loop-i-test.true c.term-item.is
+    (second_fails (not (int_eq x.1 (pos 0)) && ordered_monomial (monomial_in x.0)) _ (sym rises ∙ c.if-not-monomial_rises.true)))
+    ∙ c.loop-i.invariant
+
+pub is_ordered_poly-loop-i-preserved : goal.is_ordered_poly-loop-i-preserved
+is_ordered_poly-loop-i-preserved t c =
+    let xs = c.deref-term-items.result.now in
+    let i = c.loop-i.i in
+    let x = c.term-item.result in
+    let rest = part_to_end c.deref.result.now (i + 1) ∙ ap (drop (i + 1)) (c.deref.ensures.value ∙ sym c.deref-term-items.ensures.value) in
+    let rises = c.monomial_rises.ensures ∙ ap (λ ts. monomial_rises (monomial_in x.0) (polynomial_of (map term_in ts))) rest in
+    holds term_test (λ ts. ordered (polynomial_of (map term_in ts))) (λ t ts. refl) xs i x c.loop-i-test.true c.term-item.is
+    (both_hold _ _ (both_hold _ _ (is_not_zero x.1 c.if-term-eq0.false) (sym c.is_ordered_mono.ensures ∙ c.if-not-is_ordered_mono.false))
+    (sym rises ∙ c.if-not-monomial_rises.false))
+    ∙ c.loop-i.invariant
+
+pub is_ordered_arr-returns-then-not-is_ordered_poly : goal.is_ordered_arr-returns-then-not-is_ordered_poly
+is_ordered_arr-returns-then-not-is_ordered_poly t c =
+    let xs = c.deref-write-items.result.now in
+    let i = c.loop-i.i in
+    let x = c.write-item.result in
+    let later = writes_of (map write_in (drop (i + 1) xs)) in
+    sym (fails write_test (λ ws. ordered_writes (writes_of (map write_in ws))) (λ w ws. refl) xs i x c.loop-i-test.true c.write-item.is
+    (ap (λ b. b && ordered (polynomial_in x.1) && not (is_written (polynomial_in x.0) later) && write_rises (polynomial_in x.0) later)
+    (sym c.is_ordered_poly.ensures ∙ c.if-not-is_ordered_poly.true)))
+    ∙ c.loop-i.invariant
+
+pub is_ordered_arr-returns-then-not-is_ordered_poly-2 : goal.is_ordered_arr-returns-then-not-is_ordered_poly-2
+is_ordered_arr-returns-then-not-is_ordered_poly-2 t c =
+    let xs = c.deref-write-items.result.now in
+    let i = c.loop-i.i in
+    let x = c.write-item.result in
+    let later = writes_of (map write_in (drop (i + 1) xs)) in
+    sym (fails write_test (λ ws. ordered_writes (writes_of (map write_in ws))) (λ w ws. refl) xs i x c.loop-i-test.true c.write-item.is
+    (ap (λ b. b && not (is_written (polynomial_in x.0) later) && write_rises (polynomial_in x.0) later)
+    (second_fails (ordered (polynomial_in x.0)) _ (sym c.is_ordered_poly-in-loop-i.ensures ∙ c.if-not-is_ordered_poly-2.true))))
+    ∙ c.loop-i.invariant
+
+pub is_ordered_arr-returns-then-is_written : goal.is_ordered_arr-returns-then-is_written
+is_ordered_arr-returns-then-is_written t c =
+    let xs = c.deref-write-items.result.now in
+    let i = c.loop-i.i in
+    let x = c.write-item.result in
+    let later = writes_of (map write_in (drop (i + 1) xs)) in
+    let rest = part_to_end c.deref.result.now (i + 1) ∙ ap (drop (i + 1)) (c.deref.ensures.value ∙ sym c.deref-write-items.ensures.value) in
+    let again = c.is_written.ensures ∙ ap (λ ws. is_written (polynomial_in x.0) (writes_of (map write_in ws))) rest in
+    sym (fails write_test (λ ws. ordered_writes (writes_of (map write_in ws))) (λ w ws. refl) xs i x c.loop-i-test.true c.write-item.is
+    (ap (λ b. b && write_rises (polynomial_in x.0) later)
+    (second_fails (ordered (polynomial_in x.0) && ordered (polynomial_in x.1)) _ (ap not (sym again ∙ c.if-is_written.true)))))
+    ∙ c.loop-i.invariant
+
+pub is_ordered_arr-returns-then-not-write_rises : goal.is_ordered_arr-returns-then-not-write_rises
+is_ordered_arr-returns-then-not-write_rises t c =
+    let xs = c.deref-write-items.result.now in
+    let i = c.loop-i.i in
+    let x = c.write-item.result in
+    let later = writes_of (map write_in (drop (i + 1) xs)) in
+    let rest = part_to_end c.deref.result.now (i + 1) ∙ ap (drop (i + 1)) (c.deref.ensures.value ∙ sym c.deref-write-items.ensures.value) in
+    let rises = c.write_rises.ensures ∙ ap (λ ws. write_rises (polynomial_in x.0) (writes_of (map write_in ws))) rest in
+    sym (fails write_test (λ ws. ordered_writes (writes_of (map write_in ws))) (λ w ws. refl) xs i x c.loop-i-test.true c.write-item.is
+    (second_fails (ordered (polynomial_in x.0) && ordered (polynomial_in x.1) && not (is_written (polynomial_in x.0) later)) _
+    (sym rises ∙ c.if-not-write_rises.true)))
+    ∙ c.loop-i.invariant
+
+pub is_ordered_arr-loop-i-preserved : goal.is_ordered_arr-loop-i-preserved
+is_ordered_arr-loop-i-preserved t c =
+    let xs = c.deref-write-items.result.now in
+    let i = c.loop-i.i in
+    let x = c.write-item.result in
+    let rest = part_to_end c.deref.result.now (i + 1) ∙ ap (drop (i + 1)) (c.deref.ensures.value ∙ sym c.deref-write-items.ensures.value) in
+    let again = c.is_written.ensures ∙ ap (λ ws. is_written (polynomial_in x.0) (writes_of (map write_in ws))) rest in
+    let rises = c.write_rises.ensures ∙ ap (λ ws. write_rises (polynomial_in x.0) (writes_of (map write_in ws))) rest in
+    holds write_test (λ ws. ordered_writes (writes_of (map write_in ws))) (λ w ws. refl) xs i x c.loop-i-test.true c.write-item.is
+    (both_hold _ _ (both_hold _ _ (both_hold _ _ (sym c.is_ordered_poly.ensures ∙ c.if-not-is_ordered_poly.false)
+    (sym c.is_ordered_poly-in-loop-i.ensures ∙ c.if-not-is_ordered_poly-2.false)) (ap not (sym again ∙ c.if-is_written.false)))
+    (sym rises ∙ c.if-not-write_rises.false))
+    ∙ c.loop-i.invariant
