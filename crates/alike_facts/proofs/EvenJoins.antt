@@ -14,7 +14,7 @@ use Rattle.sym_facts.specs.Entailment.{form_like, equation_met, literal_met, fal
 use Rattle.propagate.specs.Rebases.{value_at}
 use Rattle.propagate.specs.Joins.{Freed, symbol_like, tied_equation, with_equation, freed_with, position_joined, is_among, positions_joined, literals_kept}
 use Rattle.propagate.specs.Joins.{join}
-use Rattle.alike_terms.specs.Risen.{IsRisenVector}
+use Rattle.alike_paths.specs.Risen.{IsRisenVector}
 use Rattle.alike_facts.specs.EvenFacts.{places_of, AreEvenValues, AreEvenPositions, IsEvenFact}
 use Rattle.alike_facts.proofs.Ties.{value_like, symbol_of_sort, tied_alike, tied_to_freed}
 use Rattle.alike_facts.proofs.Failing.{FailTogether, FailEvenly, fail_evenly}

@@ -30,8 +30,8 @@ use Rattle.propagate.specs.Rebases.{value_at, is_held, number_held, form_held, b
 use Rattle.propagate.specs.Rebases.{bare_symbol, RebaseState, with_mark, unheld_symbol, symbol_found, first_by, first_pass, Split, split_off_symbol, less_rest}
 use Rattle.propagate.specs.Rebases.{Solution}
 use Rattle.propagate.specs.Rebases.{solution, second_pass_solution, second_by, second_pass}
-use Rattle.alike_terms.specs.Risen.{is_risen}
-use Rattle.alike_terms.proofs.SubstitutedWorth.{symbol_substituted}
+use Rattle.alike_paths.specs.Risen.{is_risen}
+use Rattle.alike_paths.proofs.SubstitutedWorth.{symbol_substituted}
 use Rattle.alike_facts.specs.EvenFacts.{AreEvenValues}
 use Rattle.alike_facts.proofs.Extending.{Extends, extends_self, extends_on, all_held, put_extends, put_there}
 use Rattle.alike_facts.proofs.Splits.{split_from, split_none, solved_back}

@@ -37,9 +37,9 @@ use Rattle.propagate.specs.Rebases.{rebase_tied_equation, equation_found}
 use Rattle.propagate.specs.Rebases.{freed_with, with_equation, third_pass, with_needed, conditions_over, rebase}
 use Rattle.propagate.specs.Joins as joins
 use Rattle.propagate.specs.Joins.{Freed, symbol_like, is_alike, position_joined, is_among, positions_joined, literals_kept, join}
-use Rattle.alike_terms.specs.Risen.{is_risen, is_risen_array, IsRisenVector}
-use Rattle.alike_terms.proofs.RisenOperations.{sum_rises, difference_rises}
-use Rattle.alike_terms.proofs.RisenSubstitutions.{substituted_rises, array_rises}
+use Rattle.alike_paths.specs.Risen.{is_risen, is_risen_array, IsRisenVector}
+use Rattle.alike_paths.proofs.RisenOperations.{sum_rises, difference_rises}
+use Rattle.alike_paths.proofs.RisenSubstitutions.{substituted_rises, array_rises}
 use Rattle.alike_facts.specs.RisenFacts.{IsRisenForm, IsRisenEquation, AreRisenPositions, IsRisenFact}
 
 own_rises : (s : Sort) (p : Pos) → IsRisenForm (own_symbol s p)

@@ -16,7 +16,7 @@ ghost use Rattle.sym_facts.specs.Starts.{start_fact};
 ghost use Rattle.sym_facts.specs.Entailment.{Missing, entails};
 ghost use Rattle.propagate.specs.Joins.{join};
 ghost use Rattle.propagate.specs.Rebases.{rebase};
-ghost use Rattle.alike_terms.specs.Risen.{IsRisenVector};
+ghost use Rattle.alike_paths.specs.Risen.{IsRisenVector};
 ghost use Rattle.alike_behaviour.specs.Alike.{DeclareTheSame};
 ghost use Rattle.alike_paths.specs.Evenness.{IsEven};
 ghost use Rattle.alike_facts.specs.EvenFacts.{places_of, AreEvenValues, IsEvenFact};

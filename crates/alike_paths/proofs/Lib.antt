@@ -1,3 +1,11 @@
+pub mod RisenForms
+pub mod ConstantParts
+pub mod Computing
+pub mod Opposites
+pub mod RisenOperations
+pub mod RisenSubstitutions
+pub mod SubstitutedWorth
+pub mod RisenPaths
 pub mod ExpressionTerms
 pub mod EvenPaths
 pub mod Parting

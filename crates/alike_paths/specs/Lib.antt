@@ -1,2 +1,3 @@
+pub mod Risen
 pub mod Evenness
 pub mod Clashes

@@ -1,2 +1,9 @@
+pub mod Modes
+pub mod Outputs
+pub mod OtherMoves
+pub mod EvenNodes
+pub mod NextMoves
+pub mod EvenTables
 pub mod Obstacles
 pub mod Interfaces
+pub use Rattle.alike_facts.proofs.Coupled

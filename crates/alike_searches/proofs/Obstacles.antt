@@ -12,19 +12,19 @@ use Rattle.fs_model.specs.declared.sides.Side.{Side}
 use Rattle.fs_model.specs.declared.sides.Side.TheVariants as side
 use Rattle.fs_model.specs.declared.sides.Pos.{Pos}
 use Rattle.nf_terms.specs.declared.form.Nf.{Nf}
-use Rattle.alike_tables.specs.Facts.{vector_of}
-use Rattle.alike_tables.specs.Obligations.{same_forms}
+use Rattle.alike_searches.specs.Facts.{vector_of}
+use Rattle.alike_searches.specs.Obligations.{same_forms}
 use Rattle.alike_behaviour.specs.Alike.{Alike}
-use Rattle.alike_tables.specs.Evenness.{IsEven}
+use Rattle.alike_searches.specs.Evenness.{IsEven}
 use Rattle.search_tables.specs.declared.moves.Move.{Move}
 use Rattle.search_tables.specs.SearchTables.{MachinePair, SearchNode, Table, is_at}
 use Rattle.search_tables.specs.Legal.{Difference, first_differing, output_at, stuck_from, stuck, Makes}
 use Rattle.search_tables.specs.LoneMoves.{lone_mode, Spins}
 use Rattle.search_tables.specs.Obstacles.{Stuck, Spin, IsObstacle}
-use Rattle.alike_tables.specs.Even.{IsEvenNode, IsEvenTable}
-use Rattle.alike_tables.proofs.Outputs.{outputs_same}
-use Rattle.alike_tables.proofs.EvenNodes.{vector_between, node_modes}
-use Rattle.alike_tables.proofs.EvenTables.{even_tables}
+use Rattle.alike_searches.specs.Even.{IsEvenNode, IsEvenTable}
+use Rattle.alike_searches.proofs.Outputs.{outputs_same}
+use Rattle.alike_searches.proofs.EvenNodes.{vector_between, node_modes}
+use Rattle.alike_searches.proofs.EvenTables.{even_tables}
 
 none_differing : (v : List (Pos × Nf)) (os : List OutputPair) → AllByRecursion (λ o. same_forms v o.sort o.left o.right ≡ true) os → first_differing v os ≡ None
 none_differing v [] h = refl

@@ -13,26 +13,27 @@ use Rattle.hls_shrink.specs.Given.{given_contents}
 use Rattle.cert_bisimulation.specs.Tables.{Node}
 use Rattle.sym_facts.specs.Facts.{Fact}
 use Rattle.cert_model.specs.Obligations.{Yes, verdict_on}
-use Rattle.fsmd_answers.specs.WrittenCertificates.{certificate_text}
-use Rattle.fsmd_answers.specs.SearchTables.{machines}
-use Rattle.fsmd_answers.specs.Certificates.{IsCertificate}
-use Rattle.fsmd_answers.specs.PairAnswers.{ShowsSame, IsCounterexample, IsUndecided}
+use Rattle.fsmd_commands.specs.WrittenCertificates.{certificate_text}
+use Rattle.fsmd_commands.specs.SearchTables.{machines}
+use Rattle.fsmd_commands.specs.Certificates.{IsCertificate}
+use Rattle.fsmd_commands.specs.PairAnswers.{ShowsSame, IsCounterexample, IsUndecided}
 use Rattle.fsmd_replies.specs.AskedFiles.{operand, files_of, cert_of, step_limit, shrink_limit}
 use Rattle.hls_program_laws.specs.Programs.{Program}
 use Rattle.hls_unit_counts.specs.Counts.{Units}
-use Rattle.fsmd_answers.specs.ProgramAnswers.{IsCompiledText}
-use Rattle.fsmd_answers.specs.ScheduleAnswers.{IsScheduleText}
-use Rattle.fsmd_answers.specs.BindingAnswers.{Binding, IsBoundText}
-use Rattle.fsmd_answers.specs.MachineFiles.{SpellsParts, SpellsMachine}
-use Rattle.fsmd_answers.specs.ProgramFiles.{SpellsProgram}
-use Rattle.fsmd_answers.specs.ScheduleFiles.{SpellUnits}
-use Rattle.fsmd_answers.specs.BindingFiles.{SpellsBinding}
-use Rattle.fsmd_answers.specs.Refusals.{SpellsCertificate}
-use Rattle.fsmd_answers.specs.InputFiles.{SpellsInputs}
-use Rattle.fsmd_answers.specs.Shrinks.{IsSmallText}
-use Rattle.fsmd_answers.specs.Links.{links_of}
+use Rattle.fsmd_commands.specs.ProgramAnswers.{IsCompiledText}
+use Rattle.fsmd_commands.specs.ScheduleAnswers.{IsScheduleText}
+use Rattle.fsmd_commands.specs.BindingAnswers.{Binding, IsBoundText}
+use Rattle.fsmd_commands.specs.MachineFiles.{SpellsParts, SpellsMachine}
+use Rattle.fsmd_commands.specs.ProgramFiles.{SpellsProgram}
+use Rattle.fsmd_commands.specs.ScheduleFiles.{SpellUnits}
+use Rattle.fsmd_commands.specs.BindingFiles.{SpellsBinding}
+use Rattle.fsmd_commands.specs.Refusals.{SpellsCertificate}
+use Rattle.fsmd_commands.specs.InputFiles.{SpellsInputs}
+use Rattle.fsmd_commands.specs.Shrinks.{IsSmallText}
+use Rattle.fsmd_commands.specs.Links.{links_of}
 use Rattle.fsmd_replies.specs.Replies.{equivalent_text}
-use Rattle.fsmd_tool.specs.Calls.{Call, known_at_start, FailedToRead, MayHold}
+use Rattle.fsmd_commands.specs.Calls.{Call, known_at_start, FailedToRead, MayHold}
+use Rattle.fsmd_commands.specs.HoldingLinks.{LinksHold}
 use Rattle.fsmd_tool.specs.SinkReplies.{Put}
 use Rattle.fsmd_tool.specs.Equivalent.{ArePairedMachines, HasPut}
 use Rattle.fsmd_tool.specs.CertificateStores.{file_change, IsUnchangedStore, IsStoredUnder, IsUnstored}
@@ -130,23 +131,6 @@ pub record IsShrunk (g : Call) (p : Put) : Type 0 where
   pub ends : EndsIn (ShowDifference left right (shrink_limit g.asked)) (given_contents left inputs) end
   pub told : IsSmallText (shrink_limit g.asked) left right end lines
   pub put : HasPut g p lines
-
--- the files of the link that begins with this number spell the next machine, with the same inputs and outputs as the last one,
--- and a lawful certificate of both, each where it is known what it holds; all its obligations hold, and so does Rest of the next
--- machine
-pub record LinkHolds (g : Call) (file : ℕ) (last : Fsmd) (Rest : Fsmd → Type 0) : Type 0 where
-  pub next : Fsmd
-  pub nodes : List (Node Fact)
-  pub machine : MayHold (known_at_start g (operand file)) (SpellsMachine next)
-  pub alike : interface_fault last next ≡ None
-  pub certificate : MayHold (known_at_start g (operand (file + 1))) (SpellsCertificate last next nodes)
-  pub hold : verdict_on last next nodes ≡ Yes
-  pub rest : Rest next
-
--- so many links from a file on hold, from the last machine so far to the last of the chain
-abbrev pub LinksHold : Call → (file links : ℕ) → (last end : Fsmd) → Type 0
-LinksHold g file zero last end = last ≡ end
-LinksHold g file (suc links) last end = LinkHolds g file last (λ next. LinksHold g (file + 2) links next end)
 
 -- the first file spells a machine, where it is known what it holds, and all links behind it hold; the first and the last machine
 -- have the same behaviour, and how many machines there are was put

@@ -3,12 +3,10 @@
 ghost use Rattle.std.specs.Prelude.{◌≡◌, ◌≤◌, Some, IfOk};
 ghost use Rattle.std.specs.Result.{OnErr};
 ghost use Rattle.fs_base.specs.Outside.{NoneFell};
-ghost use Rattle.fsmd_words.specs.AskedWords.{IsWithinLimits, asked_of_ask};
 ghost use Rattle.fsmd_replies.specs.declared.answer.Status.TheVariants.{Fine, Differ, Undecided, Fault};
-ghost use Rattle.fsmd_answers.specs.Follows.{FollowsFrom};
 ghost use Rattle.fsmd_tool.specs.Asking.{asked_by_words, AskToCompare, AskToVerify, AskToCompile, AskToSchedule, AskToBind};
 ghost use Rattle.fsmd_tool.specs.Asking.{AskToShrink, AskToChain};
-ghost use Rattle.fsmd_tool.specs.Calls.{call, OnlyRead, LoadsNamed, IsCorrectInOrder, AnswersBy};
+ghost use Rattle.fsmd_commands.specs.Calls.{call, LoadsNamed};
 ghost use Rattle.fsmd_tool.specs.SinkReplies.{put_between};
 ghost use Rattle.fsmd_tool.specs.CertificateStores.{file_change, IsUnwritten};
 ghost use Rattle.fsmd_tool.specs.Correct.{Answered, Outcome};
@@ -17,42 +15,14 @@ ghost use Rattle.fsmd_tool.specs.Equivalent.{AreEquivalent};
 ghost use Rattle.fsmd_tool.specs.Clauses.{SaysSame, SaysDiffer, SaysUndecided, IsChecked, IsCompiled, IsInRows, IsInRegisters};
 ghost use Rattle.fsmd_tool.specs.Clauses.{KeepsFiles, HasCause, IsShrunk, IsChained};
 
-use crate::answers::{check, cut_paths, format_text, replay_files, run_files, verify_files};
-use crate::chain::chain_files;
 use crate::put::{put_answer, put_usage};
-use crate::shrink::shrink_files;
-use crate::synthesis::{bind_files, compile_file, schedule_files};
 use fs_base::outside::{Files, Sink};
-use fsmd_answers::generated::compare_generated;
-use fsmd_answers::refused::{Refused, answer_of};
-use fsmd_replies::answer::{Answer, Status};
-use fsmd_words::asking::{Ask, AskError};
+use fsmd_commands::commands::answer_command;
+use fsmd_commands::refused::answer_of;
+use fsmd_replies::answer::Status;
+use fsmd_words::asking::AskError;
 use fsmd_words::words::ask;
 use std::alloc::{AllocError, Global};
-
-// What a command answers.
-fn answer_command<F: Files>(alloc: Global, ask: &Ask, files: &mut F) -> Result<Answer, Refused>
-    requires { IsWithinLimits (asked_of_ask ask.now) }
-    ensures answers { AnswersBy (IsCorrectInOrder (FollowsFrom (Some (asked_of_ask ask.now))) 0
-        (call (Some (asked_of_ask ask.now)) (F.told files.old) (F.told files.new))) result }
-    ensures only_read { OnlyRead (F.told files.old) (F.told files.new) }
-    ensures loads { LoadsNamed (call (Some (asked_of_ask ask.now)) (F.told files.old) (F.told files.new)) }
-{
-    match ask {
-        Ask::Check { cert, steps, .. } => check(alloc, ask, *steps, cert.is_some(), files),
-        Ask::Verify { .. } => verify_files(alloc, ask, files),
-        Ask::Run { steps, .. } => run_files(alloc, ask, *steps, files),
-        Ask::Replay { steps, .. } => replay_files(alloc, ask, *steps, files),
-        Ask::Fmt { .. } => format_text(alloc, ask, files),
-        Ask::Cuts { .. } => cut_paths(alloc, ask, files),
-        Ask::Generate { n } => Ok(compare_generated(alloc, *n)?),
-        Ask::Compile { .. } => compile_file(alloc, ask, files),
-        Ask::Schedule { .. } => schedule_files(alloc, ask, files),
-        Ask::Bind { .. } => bind_files(alloc, ask, files),
-        Ask::Shrink { steps, .. } => shrink_files(alloc, ask, *steps, files),
-        Ask::Chain { files: words } => chain_files(alloc, ask, words.as_slice(), files),
-    }
-}
 
 // Puts the reply to words.
 fn put_reply<F: Files, S: Sink>(

@@ -5,7 +5,7 @@ ghost use Rattle.std.specs.Prelude.{◌≡◌, ◌⊎◌, drop, IfOk};
 ghost use Rattle.std.specs.Result.{IfErr};
 ghost use Rattle.fsmd_replies.specs.declared.answer.Status.TheVariants.{NoMemory, Fault};
 ghost use Rattle.fsmd_tool.specs.Asking.{asked_by_words};
-ghost use Rattle.fsmd_tool.specs.Calls.{call};
+ghost use Rattle.fsmd_commands.specs.Calls.{call};
 ghost use Rattle.fsmd_tool.specs.SinkReplies.{put_between};
 ghost use Rattle.fsmd_tool.specs.Running.{IsDriven, EndsSo};
 

@@ -1,4 +1,3 @@
-pub mod BareForms
 pub mod Arriving
 pub mod Passes
 pub mod Joined
@@ -16,7 +15,4 @@ pub mod Whole
 pub mod JoinPaired
 pub mod RebaseTurns
 pub mod Stops
-pub mod Splitting
-pub mod Without
-pub mod Needed
 pub mod RebaseWhole

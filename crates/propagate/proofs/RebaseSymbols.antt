@@ -38,7 +38,8 @@ use Rattle.propagate.specs.Rebases.{solution, second_pass_solution, number_tied_
 use Rattle.propagate.specs.Rebases.{conditions_over, rebase}
 use Rattle.propagate.proofs.LiteralSymbols.{literal_form_within}
 use Rattle.propagate.proofs.Passes.{AllForms, none_all, sort_found, AllPass, FreePass, AllEquations, first_all, second_all, third_all}
-use Rattle.propagate.proofs.Rebased.{needed_pass, taken_pass, rebasing}
+use Rattle.propagate_equations.proofs.Needed.{taken_pass}
+use Rattle.propagate.proofs.Rebased.{needed_pass, rebasing}
 
 module _ (test : Pos × TermSort → Bool) where
   -- a position passes where its symbol does

@@ -45,6 +45,7 @@ use Rattle.propagate.specs.Rebases.{split_off_symbol}
 use Rattle.propagate.specs.Rebases.{less_rest, Solution, solution, second_pass_solution, second_pass, number_tied_to, number_tied, form_tied}
 use Rattle.propagate.specs.Rebases.{rebase_tied_equation, equation_found}
 use Rattle.propagate.specs.Rebases.{third_pass, is_needless, with_needed, conditions_over, rebase}
+use Rattle.propagate_equations.proofs.Needed.{last_passes, taken_pass}
 use Rattle.propagate.proofs.Arriving.{forms_equal, literal_truth}
 use Rattle.propagate.proofs.Passes.{AllForms, none_all, sort_found, AllPass, first_all, second_all, third_all, none_asked, free_asked, equations_hold}
 
@@ -348,12 +349,6 @@ module _ (w : Valuation) (v : List (Pos × Nf)) where
         by_test false i g next = next rs g
 
 -- ---- the literals that are needed
-pub last_passes : (test : NormalLiteral → Bool) (ls : List NormalLiteral) (l : NormalLiteral) → list_all test ls ≡ true → test l ≡ true
-    → list_all test (ls ++ l ∷ []) ≡ true
-last_passes test [] l h g = and_from (test l) true g refl
-last_passes test (m ∷ ls) l h g = and_from (test m) (list_all test (ls ++ l ∷ [])) (and_first (test m) (list_all test ls) h)
-    (last_passes test ls l (and_second (test m) (list_all test ls) h) g)
-
 pub needed_pass : (test : NormalLiteral → Bool) (before ls : List NormalLiteral) → list_all test before ≡ true → list_all test ls ≡ true
     → list_all test (with_needed before ls) ≡ true
 needed_pass test before [] h g = h
@@ -363,11 +358,6 @@ needed_pass test before (l ∷ ls) h g = needed_pass test (cond (is_needless bef
     by_test : (b : Bool) → list_all test (cond b before (before ++ l ∷ [])) ≡ true
     by_test true = h
     by_test false = last_passes test before l h (and_first (test l) (list_all test ls) g)
-
-pub taken_pass : (test : NormalLiteral → Bool) (n : ℕ) (ls : List NormalLiteral) → list_all test ls ≡ true → list_all test (take n ls) ≡ true
-taken_pass test zero ls h = refl
-taken_pass test (suc n) [] h = refl
-taken_pass test (suc n) (l ∷ ls) h = and_from _ _ (and_first (test l) (list_all test ls) h) (taken_pass test n ls (and_second (test l) (list_all test ls) h))
 
 -- ---- what a rebase goes through
 pub record Rebasing (post : Post) (ps : List Position) (f : Fact) : Type 0 where

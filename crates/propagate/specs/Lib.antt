@@ -7,3 +7,5 @@ pub mod Strength
 pub mod View
 pub use Rattle.nf_substitution.specs.SamePlaces
 pub use Rattle.nf_substitution.specs.Vectors
+pub use Rattle.sym_paths.specs.Execution
+pub use Rattle.sym_paths.specs.Sequences

@@ -11,9 +11,8 @@ ghost use Rattle.sym_facts.specs.View.{position_in, missing_in};
 ghost use Rattle.propagate.specs.Joins.{tied_equation, freed_with, join as joined};
 ghost use Rattle.propagate.specs.JoinSteps.{equation_joined, freed_by_join, is_first_place, left_behind, joined_from};
 ghost use Rattle.propagate.specs.JoinSteps.{literals_from};
-ghost use Rattle.propagate.specs.View.{freed_in};
+ghost use Rattle.propagate_equations.specs.View.{freed_in};
 
-use crate::ties::{Freed, tie_equation};
 use fs_pair::positions::Pairing;
 use nf_rel::literals::NLit;
 use nf_substitution::shared_form::SharedForm;
@@ -21,6 +20,7 @@ use nf_substitution::subst::Subst;
 use nf_substitution::vector::Vector;
 use nf_terms::stop::{NfStop, NoMemory};
 use nf_terms::tree::Pos;
+use propagate_equations::ties::{Freed, tie_equation};
 use std::alloc::Global;
 use sym_facts::entailment::Entail;
 use sym_facts::fact::{Fact, FactPosition, copied_equation};

@@ -7,21 +7,11 @@
 //! Rules: `specs/Modes`, `specs/Joins`, `specs/Rebases`, `src/laws`.
 //!
 //! Words:
-//! - held (of a symbol): a new meaning stands for it
 //! - join: a fact without what a post does not entail
 //! - rebase: the fact of a post at a new node
-//! - tie: an equation of one freed position by another
 #![tactic(auto)]
 
-mod bare_symbols;
-mod conditions;
-mod equations;
-mod held_symbols;
 pub mod joins;
 pub mod laws;
 pub mod modes;
 pub mod rebases;
-mod solutions;
-mod splits;
-mod ties;
-mod values;

@@ -1,12 +1,16 @@
 //! Which machines move at a node.
 
-ghost use Rattle.std.specs.Prelude.{◌≡◌, IsTrue, map};
+ghost use Rattle.std.specs.Prelude.{◌≡◌, ◌++◌, IsTrue, map, IfOk};
 ghost use Rattle.fs_cut.specs.Paths.{is_point};
 ghost use Rattle.fs_cut.specs.Paths as paths;
 ghost use Rattle.fs_cut.specs.Covers.{cover_of, same_point};
 ghost use Rattle.fs_cut.specs.View.{point_of, path_of};
 ghost use Rattle.nf_terms.specs.Computed.{Answers};
+ghost use Rattle.nf_rel.specs.Literals.{is_refuted as refuted};
+ghost use Rattle.nf_rel.specs.View.{literal_in};
 ghost use Rattle.sym_facts.specs.Facts.{vector_of};
+ghost use Rattle.fs_model.specs.declared.sides.Side.TheVariants as side;
+ghost use Rattle.propagate.specs.Modes.{traced_then, Found};
 ghost use Rattle.propagate.specs.Modes.{is_open_path as is_open_under, count_from, mode_of_counts as mode_of_numbers, mode_of};
 ghost use Rattle.propagate.specs.View.{Traces};
 
@@ -14,6 +18,7 @@ use cert_bisimulation::mode::Mode;
 use fs_ast::machine::Machine;
 use fs_cut::cover::{Cover, Path, Point};
 use nf_refutation::refutation::is_refuted;
+use nf_rel::literals::NLit;
 use nf_substitution::vector::Vector;
 use nf_terms::stop::{NfStop, NoMemory};
 use nf_terms::tree::Side;
@@ -44,8 +49,25 @@ impl From<NoMemory> for ModeStop {
     }
 }
 
-// Whether a path is not refuted under a fact with this vector.
+// The literals of a fact, and then others, which are moved. The one refusal is out of memory.
 #[tactic(auto, using(crate::proofs::Behind::literals_behind))]
+fn literals_with(alloc: Global, fact: &Fact, others: &mut Vec<NLit>) -> Result<Vec<NLit>, NoMemory>
+    ensures { IfOk result (λ ls. map literal_in ls.items ≡ fact.now.literals ++ map literal_in others.old.items) }
+{
+    let mut literals = copied_literals(alloc, fact.conds())?;
+    literals.append(others)?;
+    Ok(literals)
+}
+
+// Whether literals are refuted behind those of a fact. They are moved. The one refusal is out of memory.
+fn is_refuted_behind(alloc: Global, fact: &Fact, others: &mut Vec<NLit>) -> Result<bool, NoMemory>
+    ensures { IfOk result (λ b. b ≡ refuted (fact.now.literals ++ map literal_in others.old.items)) }
+{
+    let literals = literals_with(alloc, fact, others)?;
+    is_refuted(alloc, &literals)
+}
+
+// Whether a path is not refuted under a fact with this vector.
 fn is_open(
     alloc: Global,
     m: &Machine,
@@ -57,9 +79,8 @@ fn is_open(
     requires { v.now ≡ vector_of fact.now.positions }
     ensures { Answers result (is_open_under m.now side fact.now (path_of path.now)) }
 {
-    let mut literals = copied_literals(alloc, fact.conds())?;
-    literals.append(&mut conditions(alloc, m, path, side, v)?)?;
-    Ok(!is_refuted(alloc, &literals)?)
+    let mut others = conditions(alloc, m, path, side, v)?;
+    Ok(!is_refuted_behind(alloc, fact, &mut others)?)
 }
 
 // How many paths are not refuted under a fact with this vector.
@@ -109,6 +130,26 @@ fn is_done(p: Point) -> bool
     matches!(p, Point::Done)
 }
 
+// The mode of two points at which neither machine is done, by their paths, under a fact with this vector.
+fn mode_by_paths(
+    alloc: Global,
+    a: &Machine,
+    b: &Machine,
+    fact: &Fact,
+    v: &Vector,
+    lefts: &[Path],
+    rights: &[Path],
+) -> Result<Mode, ModeStop>
+    requires { v.now ≡ vector_of fact.now.positions }
+    ensures { Traces result
+        (traced_then (count_from a.now side.Left fact.now (map path_of lefts.now) 0)
+        (λ n. traced_then (count_from b.now side.Right fact.now (map path_of rights.now) 0) (λ k. Found (mode_of_numbers n k)))) }
+{
+    let left_count = count_open(alloc, a, Side::Left, fact, v, lefts)?;
+    let right_count = count_open(alloc, b, Side::Right, fact, v, rights)?;
+    Ok(mode_of_counts(left_count, right_count))
+}
+
 /// The mode of two points under a fact: a machine that is done does not move, and where one of the two has at most one path that
 /// is not refuted under the fact and the other has more, the one moves alone. Else both move.
 ///
@@ -137,9 +178,7 @@ pub fn mode(
         (false, true) => Ok(Mode::Left),
         (false, false) => {
             let v = fact.vector(alloc)?;
-            let left_count = count_open(alloc, a, Side::Left, fact, &v, ca.from(left))?;
-            let right_count = count_open(alloc, b, Side::Right, fact, &v, cb.from(right))?;
-            Ok(mode_of_counts(left_count, right_count))
+            mode_by_paths(alloc, a, b, fact, &v, ca.from(left), cb.from(right))
         }
     }
 }

@@ -1,20 +1,14 @@
 //! The fact that a post carries on.
 
-ghost use Rattle.std.specs.Prelude.{◌≡◌, [], map, is_some, IfOk};
+ghost use Rattle.std.specs.Prelude.{◌≡◌, [], false, map, is_some, IfOk};
 ghost use Rattle.nf_terms.specs.Computed.{Answers};
 ghost use Rattle.sym_paths.specs.View.{answer_in_data, post_in};
 ghost use Rattle.sym_facts.specs.View.{position_in};
-ghost use Rattle.propagate.specs.Rebases.{symbol_found, rebase as rebased};
+ghost use Rattle.propagate.specs.Rebases.{symbol_found, equation_found, rebase as rebased};
 ghost use Rattle.propagate.specs.RebaseSteps.{with_found, first_pass_from, second_turn, second_from, equation_given};
 ghost use Rattle.propagate.specs.RebaseSteps.{freed_by_rebase};
 ghost use Rattle.propagate.specs.RebaseSteps.{third_from};
 
-use crate::bare_symbols::bare_symbol;
-use crate::conditions::conditions_kept;
-use crate::equations::equation_found;
-use crate::held_symbols::is_held;
-use crate::solutions::solve_position;
-use crate::values::{sort_of_terms, value_at};
 use fs_pair::positions::{Pairing, Position};
 use nf_substitution::shared_form::SharedForm;
 use nf_substitution::subst::Subst;
@@ -22,6 +16,12 @@ use nf_substitution::vector::Vector;
 use nf_terms::form::Nf;
 use nf_terms::stop::{NfStop, NoMemory};
 use nf_terms::tree::Pos;
+use propagate_equations::bare_symbols::bare_symbol;
+use propagate_equations::conditions::conditions_kept;
+use propagate_equations::equations::equation_found;
+use propagate_equations::held_symbols::is_held;
+use propagate_equations::solutions::solve_position;
+use propagate_equations::values::{sort_of_terms, value_at};
 use std::alloc::Global;
 use sym_facts::fact::{Fact, FactPosition, own_symbol};
 use sym_paths::execution::Post;
@@ -145,6 +145,28 @@ fn second_pass(
     Ok(out)
 }
 
+// The equation of a position with this value. Where it gets none it is freed.
+fn equation_or_freed(
+    alloc: Global,
+    s: &mut Subst<'_>,
+    v: &Vector,
+    meanings: &Vector,
+    position: Position,
+    value: &SharedForm,
+    freed: &mut Vec<Position>,
+) -> Result<Option<SharedForm>, NfStop>
+    requires { s.old.vector ≡ meanings.now }
+    ensures answers { Answers result (equation_found v.now meanings.now value.now freed.old.items) }
+    ensures freed { IfOk result (λ o. freed.new.items ≡ freed_by_rebase false position o freed.old.items) }
+    ensures vector { s.new.vector ≡ s.old.vector }
+{
+    if let Some(equation) = equation_found(alloc, s, v, meanings, value, freed.as_slice())? {
+        return Ok(Some(equation));
+    }
+    freed.push(position)?;
+    Ok(None)
+}
+
 // The equation of a position that is not free yet. Where it gets none it is freed.
 fn equation_given(
     alloc: Global,
@@ -165,11 +187,7 @@ fn equation_given(
     }
     let position = marked.position;
     let value = value_at(alloc, v, position.sort, &position.pos)?;
-    if let Some(equation) = equation_found(alloc, s, v, meanings, &value, freed.as_slice())? {
-        return Ok(Some(equation));
-    }
-    freed.push(position)?;
-    Ok(None)
+    equation_or_freed(alloc, s, v, meanings, position, &value, freed)
 }
 
 // The third pass: the equations of the other positions.

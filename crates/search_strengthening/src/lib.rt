@@ -5,14 +5,7 @@
 //! Rules: `src/strengthening`.
 #![tactic(auto)]
 
-mod assembling;
-mod flags;
 mod modes;
 mod moves;
-mod nodes;
-mod outputs;
-mod ranks;
-mod sides;
-mod state;
 mod steps;
 pub mod strengthening;

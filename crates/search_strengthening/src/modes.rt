@@ -1,9 +1,5 @@
 //! Which machines move at a node.
 
-use crate::flags::{Flags, flags_at, keep};
-use crate::nodes::{NodeMove, SearchNode, Settled};
-use crate::sides::{Covered, Sides};
-use crate::state::{State, clear};
 use cert_bisimulation::mode::Mode;
 use fs_cut::cover::{Path, Point};
 use nf_refutation::refutation::is_refuted;
@@ -11,7 +7,11 @@ use nf_rel::literals::NLit;
 use nf_substitution::vector::Vector;
 use nf_terms::stop::NoMemory;
 use nf_terms::tree::Side;
-use search_strengthening_terms::stop::{Stop, unless_stopped};
+use search_strengthening_tables::flags::{Flags, flags_at, keep};
+use search_strengthening_tables::nodes::{NodeMove, SearchNode, Settled};
+use search_strengthening_tables::sides::{Covered, Sides};
+use search_strengthening_tables::state::{State, clear};
+use search_strengthening_terms::stop::{Stop, within_limits};
 use search_strengthening_terms::work::Work;
 use std::alloc::Global;
 use sym_facts::fact::{Fact, copied_literals};
@@ -28,10 +28,7 @@ fn path_conditions(
     v: &Vector,
     path: &Path,
 ) -> Result<Vec<NLit>, Stop> {
-    match unless_stopped(conditions(alloc, machine.machine, path, side, v))? {
-        Some(conds) => Ok(conds),
-        None => Err(Stop::Bound),
-    }
+    within_limits(conditions(alloc, machine.machine, path, side, v))
 }
 
 // The literals of a fact, and then more of them, which are moved.
@@ -57,8 +54,7 @@ fn is_open(
     v: &Vector,
     path: &Path,
 ) -> Result<bool, Stop> {
-    work.spend(fact.conds().len() as u64)?;
-    work.spend(PATH_UNITS)?;
+    work.spend((fact.conds().len() as u64).saturating_add(PATH_UNITS))?;
     let mut more = path_conditions(alloc, machine, side, v, path)?;
     Ok(!is_refuted_with(alloc, fact, &mut more)?)
 }
@@ -239,6 +235,19 @@ fn set_moves(
     Ok(())
 }
 
+// Gives the node at a place its mode, and the moves of two points in that mode.
+fn give_moves(
+    alloc: Global,
+    sides: &Sides<'_>,
+    state: &mut State,
+    place: usize,
+    mode: Mode,
+    points: (Point, Point),
+) -> Result<(), Stop> {
+    let moves = moves_in(alloc, sides, mode, points.0, points.1)?;
+    set_moves(state, place, mode, moves)
+}
+
 // Whether the points of these flags have had another mode since the table was last cleared. Keeps the mode where they had none.
 fn has_other_mode(state: &mut State, mut flags: Flags, mode: Mode) -> Result<bool, NoMemory> {
     match flags.mode {
@@ -269,7 +278,6 @@ pub fn see_mode(
         clear(state)?;
         return Ok(true);
     }
-    let moves = moves_in(alloc, sides, mode, left, right)?;
-    set_moves(state, place, mode, moves)?;
+    give_moves(alloc, sides, state, place, mode, (left, right))?;
     Ok(false)
 }

@@ -1,14 +1,14 @@
 //! Moves, tried.
 
-use crate::nodes::{NodeMove, SearchNode, Settled, find, find_version};
-use crate::sides::{Covered, Sides};
-use crate::state::{State, add, change_fact};
 use fs_cut::cover::{Path, Point};
 use nf_refutation::refutation::is_refuted;
 use search_strengthening_claims::claims::{Claims, claims_before};
-use search_strengthening_claims::facts::fact_of;
 use search_strengthening_claims::weeding::weed;
-use search_strengthening_terms::stop::{Stop, unless_stopped};
+use search_strengthening_facts::facts::fact_of;
+use search_strengthening_tables::nodes::{NodeMove, SearchNode, Settled, find, find_version};
+use search_strengthening_tables::sides::{Covered, Sides};
+use search_strengthening_tables::state::{State, add, change_fact};
+use search_strengthening_terms::stop::{Stop, within_limits};
 use search_strengthening_terms::work::Work;
 use std::alloc::Global;
 use sym_facts::arrival::arrive;
@@ -68,24 +68,25 @@ fn units_of_path(path: Option<&Path>) -> u64 {
     }
 }
 
-// What arrives by a move, and at which points. `Bound` comes where an operation meets a limit.
-fn arrival(
+// The units of work of a move of a node by these paths.
+fn units_of_move(node: &SearchNode, left: Option<&Path>, right: Option<&Path>) -> u64 {
+    node.units
+        .saturating_add(units_of_path(left))
+        .saturating_add(units_of_path(right))
+}
+
+// What arrives from a node by these paths. `Bound` comes where an operation meets a limit.
+fn post_by(
     alloc: Global,
     sides: &Sides<'_>,
     work: &mut Work,
     node: &SearchNode,
-    tried: NodeMove,
-) -> Result<(Post, Point, Point), Stop> {
-    let left = path_by(&sides.left, node.left, tried.left);
-    let right = path_by(&sides.right, node.right, tried.right);
-    work.spend(node.units)?;
-    work.spend(units_of_path(left))?;
-    work.spend(units_of_path(right))?;
+    left: Option<&Path>,
+    right: Option<&Path>,
+) -> Result<Post, Stop> {
+    work.spend(units_of_move(node, left, right))?;
     let (a, b) = (sides.left.machine, sides.right.machine);
-    match unless_stopped(arrive(alloc, a, b, &node.fact, left, right))? {
-        Some(post) => Ok((post, end_of(node.left, left), end_of(node.right, right))),
-        None => Err(Stop::Bound),
-    }
+    within_limits(arrive(alloc, a, b, &node.fact, left, right))
 }
 
 // What is claimed after the first arrival.
@@ -102,6 +103,26 @@ fn first_claims(
     Ok(claims)
 }
 
+// Adds the node of which this is claimed.
+fn add_claimed(
+    alloc: Global,
+    sides: &Sides<'_>,
+    state: &mut State,
+    left: Point,
+    right: Point,
+    claims: Claims,
+) -> Result<Step, Stop> {
+    let fact = fact_of(
+        alloc,
+        &mut state.work,
+        &sides.universe,
+        sides.pairing,
+        &claims,
+    )?;
+    let place = add(alloc, sides, state, left, right, claims, fact)?;
+    Ok(Step::Changes { place })
+}
+
 // Adds the node at which a post arrives first.
 fn add_target(
     alloc: Global,
@@ -112,14 +133,27 @@ fn add_target(
     right: Point,
 ) -> Result<Step, Stop> {
     let claims = first_claims(alloc, sides, &mut state.work, post)?;
+    add_claimed(alloc, sides, state, left, right, claims)
+}
+
+// Gives the node at a place the fact that is made of its claims.
+fn give_fact(
+    alloc: Global,
+    sides: &Sides<'_>,
+    state: &mut State,
+    place: usize,
+) -> Result<Step, Stop> {
+    let Some(node) = state.nodes.get(place) else {
+        return Ok(Step::Keeps);
+    };
     let fact = fact_of(
         alloc,
         &mut state.work,
         &sides.universe,
         sides.pairing,
-        &claims,
+        &node.claims,
     )?;
-    let place = add(alloc, sides, state, left, right, claims, fact)?;
+    change_fact(state, place, fact)?;
     Ok(Step::Changes { place })
 }
 
@@ -132,25 +166,21 @@ fn weaken(
     post: &Post,
     place: usize,
 ) -> Result<Step, Stop> {
-    let universe = &sides.universe;
-    let p = sides.pairing;
     let Some(node) = state.nodes.get_mut(place) else {
         return Ok(Step::Keeps);
     };
-    let count = p.positions().len();
+    let count = sides.pairing.positions().len();
     if !weed(
         alloc,
         &mut state.work,
-        universe,
+        &sides.universe,
         count,
         &mut node.claims,
         post,
     )? {
         return Err(Stop::Bound);
     }
-    let fact = fact_of(alloc, &mut state.work, universe, p, &node.claims)?;
-    change_fact(state, place, fact)?;
-    Ok(Step::Changes { place })
+    give_fact(alloc, sides, state, place)
 }
 
 // Whether a post entails the fact of a node. `Bound` comes where an operation meets a limit.
@@ -161,10 +191,8 @@ fn is_entailed(
     node: &SearchNode,
 ) -> Result<bool, Stop> {
     work.spend(node.units)?;
-    match unless_stopped(entails(alloc, post, &node.fact))? {
-        Some(missing) => Ok(missing.equations.is_empty() && missing.conds.is_empty()),
-        None => Err(Stop::Bound),
-    }
+    let missing = within_limits(entails(alloc, post, &node.fact))?;
+    Ok(missing.equations.is_empty() && missing.conds.is_empty())
 }
 
 // What a move does whose post is not refuted.
@@ -191,6 +219,23 @@ fn meet(
     Ok(Step::Keeps)
 }
 
+// What a move does by which a post arrives at two points.
+fn try_post(
+    alloc: Global,
+    sides: &Sides<'_>,
+    state: &mut State,
+    post: &Post,
+    from: (usize, usize),
+    left: Point,
+    right: Point,
+) -> Result<Step, Stop> {
+    if is_refuted(alloc, post.conds.as_slice())? {
+        settle(&mut state.nodes, from.0, from.1, Settled::Refuted);
+        return Ok(Step::Keeps);
+    }
+    meet(alloc, sides, state, post, from, left, right)
+}
+
 /// Tries a move of the node at a place, unless it is settled.
 pub fn try_move(
     alloc: Global,
@@ -209,10 +254,10 @@ pub fn try_move(
     if is_settled(state.nodes.as_slice(), *tried) {
         return Ok(Step::Keeps);
     }
-    let (post, left, right) = arrival(alloc, sides, &mut state.work, node, *tried)?;
-    if is_refuted(alloc, post.conds.as_slice())? {
-        settle(&mut state.nodes, place, number, Settled::Refuted);
-        return Ok(Step::Keeps);
-    }
-    meet(alloc, sides, state, &post, (place, number), left, right)
+    let left_path = path_by(&sides.left, node.left, tried.left);
+    let right_path = path_by(&sides.right, node.right, tried.right);
+    let left = end_of(node.left, left_path);
+    let right = end_of(node.right, right_path);
+    let post = post_by(alloc, sides, &mut state.work, node, left_path, right_path)?;
+    try_post(alloc, sides, state, &post, (place, number), left, right)
 }

@@ -2,9 +2,9 @@
 
 use crate::modes::see_mode;
 use crate::moves::{Step, try_move};
-use crate::outputs::outputs_differ;
-use crate::sides::Sides;
-use crate::state::{CHANGE_LIMIT, CLEARING_LIMIT, State};
+use search_strengthening_tables::outputs::outputs_differ;
+use search_strengthening_tables::sides::Sides;
+use search_strengthening_tables::state::{CHANGE_LIMIT, CLEARING_LIMIT, State};
 use search_strengthening_terms::stop::Stop;
 use std::alloc::Global;
 

@@ -7,15 +7,15 @@ ghost use Rattle.cert_model.specs.Lawful.{IsLawful};
 ghost use Rattle.cert_model.specs.View.{node_of};
 ghost use Rattle.cert_model.specs.Sizes.{units_of};
 
-use crate::assembling::assemble;
-use crate::ranks::ranks_of;
-use crate::sides::{Sides, sides_of};
-use crate::state::{State, begin};
 use crate::steps::make_steps;
 use cert_model::cert::Cert;
 use fs_ast::machine::Machine;
 use fs_pair::positions::Pairing;
 use nf_terms::stop::NoMemory;
+use search_strengthening_tables::assembling::assemble;
+use search_strengthening_tables::ranks::ranks_of;
+use search_strengthening_tables::sides::{Sides, sides_of};
+use search_strengthening_tables::state::{State, begin};
 use search_strengthening_terms::stop::Stop;
 use std::alloc::Global;
 

@@ -1,6 +1,6 @@
-//! What has held at every arrival at a pair of points, and the fact that is made of it.
+//! What has held at every arrival at a pair of points, and facts of parts of which nothing is known.
 //!
-//! Promises: `weed`, `fact_of`; `tested_fact`: a fact of the pairing, or none.
+//! Promises: `claims_before`, `weed`; `tested_fact`: a fact of the pairing, or none.
 //!
 //! Rules: `src/tested_facts`.
 //!
@@ -10,11 +10,5 @@
 #![tactic(auto)]
 
 pub mod claims;
-pub mod equating;
-pub mod facts;
-pub mod literals;
-pub mod settling;
-pub mod solution;
-pub mod solving;
 pub mod tested_facts;
 pub mod weeding;

@@ -6,7 +6,7 @@ use Rattle.std.proofs.lemmas.List.Sums.{sum_by-append, sum_by-cons, sum_by-set}
 use Rattle.std.proofs.lemmas.Option.{slice_get_within, get_or_from_slice_get}
 use Rattle.std.specs.Prelude.{is_none, sum_by, slice_get, slice_set}
 use Rattle.fs_cut.specs.Paths.{Point}
-use Rattle.sym_paths.specs.Execution.{Post, end_of, arrive}
+use Rattle.propagate.specs.Execution.{Post, end_of, arrive}
 use Rattle.sym_facts.specs.Facts.{FactPosition, vector_of, most_literals}
 use Rattle.sym_facts.specs.Starts.{start_position, start_fact}
 use Rattle.propagate.specs.Strength.{with_equation_count, strength}

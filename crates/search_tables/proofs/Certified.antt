@@ -14,7 +14,7 @@ use Rattle.cert_bisimulation.specs.declared.mode.Mode.{Mode}
 use Rattle.cert_bisimulation.specs.declared.mode.Mode.TheVariants.{Both, Left, Right, End}
 use Rattle.cert_bisimulation.specs.Tables.{Node as CertificateNode}
 use Rattle.nf_terms.specs.Computed.{Done, after}
-use Rattle.sym_paths.specs.Execution.{Post}
+use Rattle.propagate.specs.Execution.{Post}
 use Rattle.sym_facts.specs.Facts.{Fact, vector_of}
 use Rattle.sym_facts.specs.Entailment.{entails}
 use Rattle.sym_facts.specs.Starts.{start_fact}

@@ -7,7 +7,7 @@ use Rattle.fs_pair.specs.declared.positions.Position.{Position}
 use Rattle.cert_bisimulation.specs.declared.mode.Mode.{Mode}
 use Rattle.nf_terms.specs.Computed.{Computed, Done, Wide, Large}
 use Rattle.nf_rel.specs.Literals.{is_refuted}
-use Rattle.sym_paths.specs.Execution.{Post}
+use Rattle.propagate.specs.Execution.{Post}
 use Rattle.sym_facts.specs.Facts.{Fact}
 use Rattle.sym_facts.specs.Entailment.{Missing, entails, is_nothing}
 use Rattle.propagate.specs.Joins.{join}

@@ -5,7 +5,7 @@ use Rattle.std.specs.List.{AllByRecursion}
 use Rattle.fs_model.proofs.Quantifiers.{each_append, each_at}
 use Rattle.fs_cut.specs.Paths.{Point}
 use Rattle.fs_pair.specs.declared.positions.Position.{Position}
-use Rattle.sym_paths.specs.Execution.{Post, arrive, end_of}
+use Rattle.propagate.specs.Execution.{Post, arrive, end_of}
 use Rattle.sym_facts.specs.Facts.{vector_of}
 use Rattle.sym_facts.specs.Pairings.{IsFactOf}
 use Rattle.sym_facts.proofs.StartSolved.{of_the_pairing}

@@ -13,7 +13,7 @@ use Rattle.cert_bisimulation.specs.declared.mode.Mode.{Mode}
 use Rattle.cert_bisimulation.specs.Tables.{Node as CertificateNode}
 use Rattle.nf_terms.specs.Computed.{Computed, Done, after}
 use Rattle.nf_rel.specs.Literals.{is_refuted}
-use Rattle.sym_paths.specs.Execution.{Post, arrive, end_of}
+use Rattle.propagate.specs.Execution.{Post, arrive, end_of}
 use Rattle.sym_facts.specs.Facts.{Fact, vector_of}
 use Rattle.sym_facts.specs.Entailment.{Missing, entails, is_nothing}
 use Rattle.propagate.specs.Modes.{Found}

@@ -15,3 +15,6 @@ pub mod Bounded
 pub mod OneSpin
 pub mod FactsOfPairing
 pub mod Chains
+pub use Rattle.propagate.proofs.JoinPaired
+pub use Rattle.propagate.proofs.Paired
+pub use Rattle.propagate.proofs.Whole

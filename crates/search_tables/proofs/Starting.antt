@@ -11,7 +11,7 @@ use Rattle.fs_cut.specs.Covers.{same_point, state_reached, path_by, paths_of}
 use Rattle.fs_pair.specs.declared.positions.Position.{Position}
 use Rattle.cert_bisimulation.specs.declared.mode.Mode.{Mode}
 use Rattle.cert_bisimulation.specs.declared.mode.Mode.TheVariants.{Both, Left, Right, End}
-use Rattle.sym_paths.specs.Execution.{Post, end_of, arrive}
+use Rattle.propagate.specs.Execution.{Post, end_of, arrive}
 use Rattle.sym_facts.specs.Facts.{vector_of}
 use Rattle.search_tables.specs.declared.moves.Move.{Move}
 use Rattle.search_tables.specs.SearchTables.{MachinePair, positions_of, SearchNode, Table, start_node, first_table, Known, target_from, with_fact, PathPair}

@@ -1,5 +1,5 @@
 -- What leads to the answer that two machines get.
-use Rattle.std.specs.Prelude.{◌≡◌, ℕ, Bool, true, false, List, [], ◌++◌, map, Option, Some, None, is_some, codes}
+use Rattle.std.specs.Prelude.{◌≡◌, ℕ, Bool, true, false, List, [], ◌++◌, length, map, Option, Some, None, is_some, codes}
 use Rattle.fs_model.specs.Machines.{Fsmd}
 use Rattle.cert_model.specs.View.{node_of}
 use Rattle.search_tables.specs.declared.moves.Move.{Move}
@@ -10,6 +10,9 @@ use Rattle.search.specs.SearchOutcomes.{IsSearchOutcome}
 use Rattle.fsmd_pair_answers.specs.declared.answer.PairAnswer.{PairAnswer}
 use Rattle.fsmd_pair_answers.specs.declared.answer.PairAnswer.TheVariants.{Equivalent, Counterexample, Undecided}
 use Rattle.fsmd_pair_answers.specs.PairAnswers.{IsPairAnswer}
+use Rattle.fsmd_replies.specs.declared.answer.Answer.{Answer}
+use Rattle.fsmd_replies.specs.declared.answer.Answer.TheVariants as answers
+use Rattle.fsmd_replies.specs.Replies.{equivalent_text}
 use Rattle.show_move_lines.specs.MoveLines.{history_text}
 use Rattle.show_search_views.specs.CertificateLines.{certificate_lines}
 use Rattle.show_search_views.specs.declared.why.Explanation.{Explanation}
@@ -50,3 +53,9 @@ pub record IsExplanation (limit : ℕ) (a b : Fsmd) (e : Explanation) : Type 0 w
   pub searched : IsSearchOutcome (machines a b) outcome
   pub answers : IsPairAnswer limit a b e.answer
   pub told : e.lines.items ≡ why_lines (machines a b) outcome e.answer
+
+-- the answer of two machines behind the lines of what led to it
+abbrev pub answer_behind : (lines : List ℕ) → PairAnswer → Answer
+answer_behind lines (Equivalent cert) = answers.Text (lines ++ equivalent_text (length cert.nodes.items))
+answer_behind lines (Counterexample more) = answers.Differs (lines ++ more.items)
+answer_behind lines (Undecided more) = answers.Undecided (lines ++ more.items)

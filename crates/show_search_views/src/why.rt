@@ -9,7 +9,7 @@ ghost use Rattle.show_search_views.specs.Why.{moves_of, history_of, heading_of, 
 use crate::certificate_lines::certificate_lines;
 use fs_ast::machine::Machine;
 use fs_pair::positions::Pairing;
-use fsmd_pair_answers::answer::PairAnswer;
+pub use fsmd_pair_answers::answer::PairAnswer;
 use fsmd_pair_answers::compare::compare;
 use nf_terms::stop::NoMemory;
 use search::searching::search;

@@ -14,7 +14,8 @@ use Rattle.fsmd_tool.specs.SinkReplies.{Put, IsPut}
 use Rattle.fsmd_tool.specs.CertificateStores.{FileChange, file_change, IsUnchangedStore, FileToStore, file_to_store_of, to_store, Leaves, LeftAlone, LeftStored}
 use Rattle.fsmd_tool.specs.CertificateStores.{LeftUnstored}
 use Rattle.fsmd_tool.specs.Correct.{IsDone, IsDoneFor, Kept, Stored, Unstored}
-use Rattle.fsmd_tool.proofs.Later.{correct_until, leaves_since}
+use Rattle.fsmd_tool.proofs.Later.{correct_until}
+use Rattle.fsmd_tool.proofs.LaterStores.{leaves_since}
 use Rattle.show_words.specs.ViewCommandLine.{view_command_line}
 use Rattle.show_words.specs.ViewWords.{ShownView, shown_by, shown_in, shown_of, where_taken}
 use Rattle.show_words.proofs.Named.{asked_is}

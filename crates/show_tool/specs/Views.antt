@@ -4,18 +4,15 @@ use Rattle.fs_model.specs.Machines.{Fsmd}
 use Rattle.cert_bisimulation.specs.Tables.{Node}
 use Rattle.sym_facts.specs.Facts.{Fact}
 use Rattle.fsmd_tool.specs.SearchTables.{machines}
-use Rattle.fsmd_pair_answers.specs.declared.answer.PairAnswer.{PairAnswer}
-use Rattle.fsmd_pair_answers.specs.declared.answer.PairAnswer.TheVariants as pairs
 use Rattle.show_machine_pictures.specs.Pictures.{picture_of}
 use Rattle.show_search_views.specs.declared.why.Explanation.{Explanation}
-use Rattle.show_search_views.specs.Why.{IsExplanation}
+use Rattle.show_search_views.specs.Why.{IsExplanation, answer_behind}
 use Rattle.show_search_views.specs.SearchPictures.{IsPicture}
 use Rattle.show_inputs_text.specs.InputTexts.{ShowsDifferenceOf}
 use Rattle.show_search_views.specs.Demands.{obligation_lines}
 use Rattle.fsmd_replies.specs.declared.answer.Answer.{Answer}
 use Rattle.fsmd_replies.specs.declared.answer.Answer.TheVariants.{Text, Differs, Undecided}
 use Rattle.fsmd_tool.specs.LineAnswers.{HasLines}
-use Rattle.fsmd_replies.specs.Replies.{equivalent_text}
 use Rattle.fsmd_tool.specs.ComparisonAnswers.{IsOfPair}
 use Rattle.fsmd_tool.specs.Verdicts.{IsJudged}
 use Rattle.fsmd_tool.specs.Readings.{Reading}
@@ -28,12 +25,6 @@ use Rattle.show_words.specs.declared.asking.View.TheVariants.{Machine, Pair, Why
 -- the picture of the search of two machines
 abbrev pub IsOfPicture : (a b : Fsmd) → Answer → Type 0
 IsOfPicture a b answer = HasLines (IsPicture (machines a b)) Text answer
-
--- the answer of two machines behind the lines of what led to it
-abbrev pub answer_behind : (lines : List ℕ) → PairAnswer → Answer
-answer_behind lines (pairs.Equivalent cert) = Text (lines ++ equivalent_text (length cert.nodes.items))
-answer_behind lines (pairs.Counterexample more) = Differs (lines ++ more.items)
-answer_behind lines (pairs.Undecided more) = Undecided (lines ++ more.items)
 
 -- what led to the answer that two machines get, and then the lines of `check`, with its status
 pub record IsOfWhy (limit : ℕ) (a b : Fsmd) (answer : Answer) : Type 0 where

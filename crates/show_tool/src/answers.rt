@@ -8,19 +8,19 @@ ghost use Rattle.cert_model.specs.View.{node_of};
 ghost use Rattle.show_search_views.specs.Demands.{obligation_lines};
 ghost use Rattle.fsmd_tool.specs.ComparisonAnswers.{IsOfPair};
 ghost use Rattle.fsmd_replies.specs.Replies.{equivalent_text};
-ghost use Rattle.show_tool.specs.Views.{answer_behind, behind, IsOfPicture, IsOfWhy, IsOfInputs, IsOfCertificate};
+ghost use Rattle.show_search_views.specs.Why.{answer_behind};
+ghost use Rattle.show_tool.specs.Views.{behind, IsOfPicture, IsOfWhy, IsOfInputs, IsOfCertificate};
 
 use cert_model::cert::Cert;
 use fs_ast::machine::Machine;
 use fs_pair::positions::Pairing;
-use fsmd_pair_answers::answer::PairAnswer;
 use fsmd_replies::answer::{Answer, Lines};
 use fsmd_tool::compare::compare;
 use fsmd_tool::judge::judge;
 use show_inputs_text::differing::differing_inputs;
 use show_search_views::obligations::obligation_lines;
 use show_search_views::pictures::search_picture;
-use show_search_views::why::{Explanation, explain};
+use show_search_views::why::{Explanation, PairAnswer, explain};
 use std::alloc::{AllocError, Global};
 
 // The most steps of a run from a candidate, where `check` is told none.

@@ -1,11 +1,12 @@
 use Rattle.std.proofs.Common.{refl, Some}
 use Rattle.fsmd_words.specs.AskedWords.{asked_of_ask}
-use Rattle.fsmd_answers.specs.Follows.{FollowsFrom}
-use Rattle.fsmd_tool.specs.Calls.{call, IsCorrectInOrder}
+use Rattle.fsmd_commands.specs.Follows.{FollowsFrom}
+use Rattle.fsmd_commands.specs.Calls.{call, IsCorrectInOrder}
 use Rattle.fsmd_tool.specs.SinkReplies.{put_between}
 use Rattle.fsmd_tool.specs.CertificateStores.{NoneWritten}
-use Rattle.fsmd_tool.proofs.Loads.{at_most_none}
-use Rattle.fsmd_tool.proofs.Putting.{answered, keeps, unwritten, in_answer, answers_usage, to_words, keeps_to_words, unwritten_to_words, on_err}
+use Rattle.fsmd_commands.proofs.Answering.{in_answer}
+use Rattle.fsmd_commands.proofs.Loads.{at_most_none}
+use Rattle.fsmd_tool.proofs.Putting.{answered, keeps, unwritten, answers_usage, to_words, keeps_to_words, unwritten_to_words, on_err}
 use Rattle.fsmd_tool.proofs.drive.put_reply.Goals as goal
 
 pub returns-in_ok-answer-in-Ok-clause-answered : goal.returns-in_ok-answer-in-Ok-clause-answered

@@ -2,7 +2,7 @@ use Rattle.std.proofs.Common.{◌≡◌, [], map, drop}
 use Rattle.sym_paths.proofs.Loops.{followed}
 use Rattle.sym_facts.specs.View.{position_in}
 use Rattle.propagate.specs.JoinSteps.{joined_from}
-use Rattle.propagate.specs.View.{freed_in}
+use Rattle.propagate_equations.specs.View.{freed_in}
 use Rattle.propagate.proofs.joins.positions_joined.Given as goal
 
 abbrev pub invariant-loop-place : goal.invariant-loop-place

@@ -1,0 +1,46 @@
+use Rattle.std.proofs.Common.{rules, Some, arith}
+use Rattle.fsmd_words.specs.AskedWords.{asked_of_ask}
+use Rattle.fsmd_answers.specs.Refusing.{WhereAnswered}
+use Rattle.fsmd_commands.specs.Calls.{call, IsCorrectInOrder}
+use Rattle.fs_model.specs.Source.{Source}
+use Rattle.fs_model.specs.View.{source_of}
+use Rattle.fs_ast.specs.MachineOfParts.{machine_of}
+use Rattle.fsmd_answers.specs.MachineFiles.{SpellsParts}
+use Rattle.fsmd_answers.specs.Refusals.{RefusesMachine}
+use Rattle.fsmd_answers.specs.BindingFiles.{IsOfBinding}
+use Rattle.fsmd_answers.specs.Follows.{Ends, OpensBinding, OpensParts}
+use Rattle.fsmd_commands.proofs.FromFiles.{parts_held}
+use Rattle.fsmd_commands.proofs.Loads.{fewer, at_most_on}
+use Rattle.fsmd_commands.proofs.InOrder.{refused_in_order, spelled_in_order}
+use Rattle.fsmd_commands.proofs.synthesis.bind_files.Goals as goal
+
+pub returns-in_err-loaded-clause-answers : goal.returns-in_err-loaded-clause-answers
+returns-in_err-loaded-clause-answers g c =
+    let h : WhereAnswered (IsCorrectInOrder (OpensParts
+    (λ parts. OpensBinding (machine_of parts) (λ b. Ends (IsOfBinding parts b)))) 0
+    (call (Some (asked_of_ask c.args.ask.now)) (g.F.Files.told c.args.files.now) (g.F.Files.told c.load.new.files))) c.in_err-loaded.field-0.0 =
+    refused_in_order Source RefusesMachine SpellsParts (λ parts. OpensBinding (machine_of parts) (λ b. Ends (IsOfBinding parts b)))
+    0 _ _ c.load.ensures.loads c.in_err-loaded.ensures.refused in
+    search rules
+
+pub returns-clause-answers : goal.returns-clause-answers
+returns-clause-answers g c =
+    let v = source_of c.in_ok-loaded.loaded.parts in
+    spelled_in_order Source RefusesMachine SpellsParts (λ parts. OpensBinding (machine_of parts) (λ b. Ends (IsOfBinding parts b))) 0 _ _ _
+    (g.F.Files.told c.bind_from.new.files) c.load.ensures.only_read c.load.ensures.loads v
+    (parts_held _ _ _ c.in_ok-loaded.ensures.loaded) c.bind_from.result
+    c.bind_from.ensures.answers
+
+pub bind_from-requires : goal.bind_from-requires
+bind_from-requires g c = record {
+  formed = c.in_ok-loaded.ensures.well_formed;
+  lawful = c.in_ok-loaded.ensures.loaded.meet.spells.lawful;
+  spelled = c.in_ok-loaded.ensures.loaded.meet.machine;
+}
+
+pub returns-in_err-loaded-clause-at_most : goal.returns-in_err-loaded-clause-at_most
+returns-in_err-loaded-clause-at_most g c = fewer _ 0 1 2 _ _ (omega arith) c.load.ensures.at_most
+
+pub returns-clause-at_most : goal.returns-clause-at_most
+returns-clause-at_most g c =
+    at_most_on _ 0 1 1 1 2 _ _ _ (omega arith) (omega arith) c.load.ensures.loads c.bind_from.ensures.at_most

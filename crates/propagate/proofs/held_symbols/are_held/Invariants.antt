@@ -1,7 +1,0 @@
-use Rattle.std.proofs.Common.{◌≡◌, drop}
-use Rattle.std.specs.List.{list_all}
-use Rattle.propagate.specs.Rebases.{is_held}
-use Rattle.propagate.proofs.held_symbols.are_held.Given as goal
-
-abbrev pub invariant-loop-p : goal.invariant-loop-p
-invariant-loop-p l = list_all (is_held l.meanings) (drop l.p-index l.symbols) ≡ list_all (is_held l.meanings) l.symbols

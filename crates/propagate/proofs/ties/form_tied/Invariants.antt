@@ -1,7 +1,0 @@
-use Rattle.std.proofs.Common.{◌≡◌, map, drop}
-use Rattle.propagate.specs.Joins.{form_tied}
-use Rattle.propagate.specs.View.{freed_in}
-use Rattle.propagate.proofs.ties.form_tied.Given as goal
-
-abbrev pub invariant-loop-other : goal.invariant-loop-other
-invariant-loop-other l = form_tied l.v l.p l.form (map freed_in (drop l.other-index l.freed)) ≡ form_tied l.v l.p l.form (map freed_in l.freed)

@@ -1,0 +1,7 @@
+pub mod BareForms
+pub mod TieTurns
+pub mod EquationTurns
+pub mod SplitTurns
+pub mod Splitting
+pub mod Without
+pub mod Needed

@@ -1,0 +1,5 @@
+pub mod Ties
+pub mod TieSteps
+pub mod Equations
+pub mod EquationSteps
+pub mod View

@@ -1,0 +1,14 @@
+//! The table of a second search, and the certificate that a closed one makes.
+//!
+//! Promises: `assemble`: a lawful certificate of at most 4,000,000 units, or none.
+//!
+//! Rules: `src/assembling`.
+#![tactic(auto)]
+
+pub mod assembling;
+pub mod flags;
+pub mod nodes;
+pub mod outputs;
+pub mod ranks;
+pub mod sides;
+pub mod state;
