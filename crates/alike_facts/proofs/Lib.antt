@@ -1,3 +1,8 @@
+pub mod Pairs
+pub mod OwnExpressions
+pub mod SamePaths
+pub mod Names
+pub mod Cuts
 pub mod Ties
 pub mod Failing
 pub mod EvenJoins

@@ -1,3 +1,5 @@
+pub mod RenamedStates
+pub mod SplitStates
 pub mod EvenFacts
 pub mod Couples
 pub mod RisenFacts

@@ -1,3 +1,6 @@
+pub mod Putting
+pub mod Again
+pub mod Utf8
 mod Named
 mod Passing
 mod Readable

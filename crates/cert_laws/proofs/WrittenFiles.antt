@@ -28,10 +28,10 @@ use Rattle.term_text.specs.TermTexts.{symbol_text}
 use Rattle.cert_json.specs.Refusals.{IsFileOf}
 use Rattle.cert_json.specs.WrittenJson.{texts, named_texts, node_data, nodes_data}
 use Rattle.cert_json.specs.JsonTexts.{named_texts_of}
-use Rattle.cert_json_laws.specs.Orderly.{KeysRise, IsOrderly, AreOrderly, MembersAreOrderly}
-use Rattle.cert_json_laws.proofs.Putting.{rises, orderly}
-use Rattle.cert_json_laws.proofs.Again.{read_again}
-use Rattle.cert_json_laws.proofs.Utf8.{value_utf8}
+use Rattle.cert_laws.specs.Orderly.{KeysRise, IsOrderly, AreOrderly, MembersAreOrderly}
+use Rattle.cert_laws.proofs.Putting.{rises, orderly}
+use Rattle.cert_laws.proofs.Again.{read_again}
+use Rattle.cert_laws.proofs.Utf8.{value_utf8}
 use Rattle.cert_writer.specs.WrittenCertificates.{form_written, literal_bytes, with_equation_member, equations_written, point_written}
 use Rattle.cert_writer.specs.WrittenCertificates.{mode_written, node_written, file_written, certificate_text}
 use Rattle.cert_writer.proofs.Plain.{name_utf8, form_utf8, symbol_utf8, literal_utf8}

@@ -1,3 +1,4 @@
+pub mod Orderly
 pub mod Deciding
 pub use Rattle.cert_text.specs.Refusals
 pub use Rattle.cert_writer.specs.CertificateLimits

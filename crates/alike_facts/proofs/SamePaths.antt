@@ -11,8 +11,8 @@ use Rattle.fs_ast.proofs.Lifted.{branch_sound}
 use Rattle.fs_cut.specs.Paths.{Point, Start, At, Done, Path, IsPath, is_point, is_fork, state_of, end_at, branch_at, target_of, Passes, BranchStep}
 use Rattle.alike_behaviour.specs.PathExpressions.{ExpressionVector, acted_all, left_by}
 use Rattle.alike_behaviour.specs.Alike.{literals_of}
-use Rattle.alike_names.specs.RenamedStates.{DifferInNames}
-use Rattle.alike_names.proofs.OwnExpressions.{AreOwn, own_all}
+use Rattle.alike_facts.specs.RenamedStates.{DifferInNames}
+use Rattle.alike_facts.proofs.OwnExpressions.{AreOwn, own_all}
 
 -- ---- branches of a sound machine
 

@@ -3,8 +3,8 @@
 ghost use Rattle.fs_ast.specs.SoundParts.{IsSound};
 ghost use Rattle.fs_model.specs.Machines.{Fsmd};
 ghost use Rattle.alike_behaviour.specs.Alike.{Alike};
-ghost use Rattle.alike_names.specs.RenamedStates.{DifferInNames, own_pairs};
-ghost use Rattle.alike_names.specs.SplitStates.{in_one_step, in_two_steps, their_pairs};
+ghost use Rattle.alike_facts.specs.RenamedStates.{DifferInNames, own_pairs};
+ghost use Rattle.alike_facts.specs.SplitStates.{in_one_step, in_two_steps, their_pairs};
 
 /// Machines that differ only in the names of their states are alike, each point but the return by itself. So is each machine to
 /// itself.

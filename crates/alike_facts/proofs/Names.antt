@@ -12,10 +12,10 @@ use Rattle.alike_behaviour.specs.PathExpressions.{ExpressionVector, initial}
 use Rattle.alike_behaviour.specs.ExpressionSameness.{AreTwins, Same, SameArray, SameListExpression, SameLiterals, SameLeft}
 use Rattle.alike_behaviour.specs.Alike.{DeclareTheSame, literals_of, left_after, AlikePaths, AlikePoints, Alike}
 use Rattle.alike_facts.proofs.Coupled.{one_name}
-use Rattle.alike_names.specs.RenamedStates.{DifferInNames, own_pairs}
-use Rattle.alike_names.proofs.Pairs.{own, stands_once, paired}
-use Rattle.alike_names.proofs.OwnExpressions.{AreOwn, own_initial, own_literals}
-use Rattle.alike_names.proofs.SamePaths.{branch_fine, same_count, same_point, same_state, path_back, same_literals, same_left, own_left}
+use Rattle.alike_facts.specs.RenamedStates.{DifferInNames, own_pairs}
+use Rattle.alike_facts.proofs.Pairs.{own, stands_once, paired}
+use Rattle.alike_facts.proofs.OwnExpressions.{AreOwn, own_initial, own_literals}
+use Rattle.alike_facts.proofs.SamePaths.{branch_fine, same_count, same_point, same_state, path_back, same_literals, same_left, own_left}
 
 module _ (a b : Fsmd) (differ : names_differ (map (λ v. v.name) a.variables) ≡ true) (same : a.variables ≡ b.variables) where
   -- twins have one number

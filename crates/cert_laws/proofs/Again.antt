@@ -15,8 +15,8 @@ use Rattle.serde_json.specs.Read.{number_of, of_json, of_items, of_members, read
 use Rattle.serde_json.specs.Written.{number_text, outline, items_outline, members_outline, compact_text}
 use Rattle.serde_json.proofs.Numbers.{number_of-decimal}
 use Rattle.serde_json.proofs.Texts.{print-outline}
-use Rattle.cert_json_laws.specs.Orderly.{IsBefore, KeysRise, IsCount, IsOrderly, AreOrderly, MembersAreOrderly}
-use Rattle.cert_json_laws.proofs.Putting.{turned}
+use Rattle.cert_laws.specs.Orderly.{IsBefore, KeysRise, IsCount, IsOrderly, AreOrderly, MembersAreOrderly}
+use Rattle.cert_laws.proofs.Putting.{turned}
 
 -- ---- members, one after another
 

@@ -12,9 +12,9 @@ use Rattle.fs_cut.proofs.Listed.{path_unique}
 use Rattle.alike_behaviour.specs.PathExpressions.{Expression, Initial, InitialArray, InitialList, initial, expression_of_term, acted_all}
 use Rattle.alike_behaviour.specs.ExpressionSameness.{SameLeft}
 use Rattle.alike_behaviour.specs.Alike.{AlikePaths, AlikePoints, Alike, literals_of, left_after}
-use Rattle.alike_names.specs.SplitStates.{their_variables, difference, sum, product, product_at_once, goto, choice, in_one_step, in_two_steps, their_pairs}
-use Rattle.alike_names.proofs.OwnExpressions.{own_initial, own_literals, own_all}
-use Rattle.alike_names.proofs.Names.{same_to_twin, declare_the_same}
+use Rattle.alike_facts.specs.SplitStates.{their_variables, difference, sum, product, product_at_once, goto, choice, in_one_step, in_two_steps, their_pairs}
+use Rattle.alike_facts.proofs.OwnExpressions.{own_initial, own_literals, own_all}
+use Rattle.alike_facts.proofs.Names.{same_to_twin, declare_the_same}
 
 -- ---- both are sound
 

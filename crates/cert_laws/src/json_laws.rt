@@ -4,7 +4,7 @@ ghost use Rattle.std.specs.Prelude.{◌≤◌, ℕ, List, IsUtf8};
 ghost use Rattle.serde_json.specs.Data.{Data, Members as JsonMembers, depth as depth_of, put as with_member};
 ghost use Rattle.serde_json.specs.Written.{compact_text};
 ghost use Rattle.base_json_files.specs.Json.{IsJson};
-ghost use Rattle.cert_json_laws.specs.Orderly.{IsOrderly, KeysRise, MembersAreOrderly};
+ghost use Rattle.cert_laws.specs.Orderly.{IsOrderly, KeysRise, MembersAreOrderly};
 
 /// The compact text of a value is UTF-8 and is read as this value, where the texts in the value are UTF-8, its numbers are
 /// without a sign and of 64 bits, the keys of each object rise, and at most 127 brackets are open at once.

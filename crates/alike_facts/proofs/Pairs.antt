@@ -10,7 +10,7 @@ use Rattle.fs_ast.proofs.Kept.{get_mapped}
 use Rattle.fs_cut.specs.Paths.{Point, Start, At, Done, is_fork, is_point}
 use Rattle.fs_cut.proofs.Listed.{fork_state}
 use Rattle.alike_behaviour.specs.Alike.{ArePaired}
-use Rattle.alike_names.specs.RenamedStates.{own_pairs}
+use Rattle.alike_facts.specs.RenamedStates.{own_pairs}
 
 -- ---- the numbers of a range that pass a test
 

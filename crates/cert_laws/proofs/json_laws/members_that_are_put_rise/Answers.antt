@@ -1,5 +1,5 @@
-use Rattle.cert_json_laws.proofs.Putting.{rises, orderly}
-use Rattle.cert_json_laws.proofs.laws.members_that_are_put_rise.Goals as goal
+use Rattle.cert_laws.proofs.Putting.{rises, orderly}
+use Rattle.cert_laws.proofs.json_laws.members_that_are_put_rise.Goals as goal
 
 pub returns-clause-rise : goal.returns-clause-rise
 returns-clause-rise c = rises

@@ -4,7 +4,7 @@ use Rattle.std.specs.Ordering.{nat_cmp, match_ordering, ordering_reverse}
 use Rattle.std.specs.Cmp.Lexicographic.{slice_cmp}
 use Rattle.std.proofs.lemmas.Cmp.{nat_list_cmp_total}
 use Rattle.serde_json.specs.Data.{Data, Members, no_members, member, put}
-use Rattle.cert_json_laws.specs.Orderly.{IsBefore, KeysRise, IsOrderly, MembersAreOrderly}
+use Rattle.cert_laws.specs.Orderly.{IsBefore, KeysRise, IsOrderly, MembersAreOrderly}
 
 -- two keys the other way round
 pub turned : (k l : List ℕ) (o : Ordering) → slice_cmp nat_cmp k l ≡ o → slice_cmp nat_cmp l k ≡ ordering_reverse o

@@ -1,2 +1,0 @@
-pub mod RenamedStates
-pub mod SplitStates

@@ -1,5 +1,0 @@
-//! Machines that differ only in the names of their states are alike, and so is a pair of which one does in two steps what
-//! the other does in one.
-#![tactic(auto)]
-
-pub mod laws;

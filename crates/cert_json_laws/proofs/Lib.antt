@@ -1,3 +1,0 @@
-pub mod Putting
-pub mod Again
-pub mod Utf8
