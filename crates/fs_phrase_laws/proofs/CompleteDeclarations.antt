@@ -11,7 +11,7 @@ use Rattle.fs_grammar_laws.specs.Spelling.{Word, at, AreNames, one_name, more_na
 use Rattle.fs_grammar_laws.specs.WordWalks.{and_then}
 use Rattle.fs_grammar_laws.specs.Beginnings as rules
 use Rattle.fs_grammar_laws.proofs.Alternatives.{completed}
-use Rattle.fs_declaration_text.specs.Declaring.{Declaring, at_sort, at_name, after_name, Lead, inside, whole, declaration_step}
+use Rattle.fs_phrase_text.specs.Declaring.{Declaring, at_sort, at_name, after_name, Lead, inside, whole, declaration_step}
 use Rattle.fs_phrase_laws.specs.Declarations.{Opening, of_role, of_port, opening_word, declaration_start, BeginsOne}
 use Rattle.fs_phrase_laws.proofs.SoundDeclarations.{walk}
 

@@ -18,8 +18,8 @@ use Rattle.fs_grammar_laws.specs.Beginnings as rules
 use Rattle.fs_grammar_laws.specs.Beginnings.{SpellsWhole}
 use Rattle.fs_grammar_laws.specs.Faults.{word_of, AreClear, IsLast, AreEndedTokens}
 use Rattle.fs_grammar_laws.proofs.Exact.{words_append, clear_more}
-use Rattle.fs_declaration_text.specs.Declaring.{Declaring, at_sort, at_name, after_name, Lead, inside, whole, declaration_step, take_declaration_token}
-use Rattle.fs_declaration_text.specs.Declaring.{parse_declaration}
+use Rattle.fs_phrase_text.specs.Declaring.{Declaring, at_sort, at_name, after_name, Lead, inside, whole, declaration_step, take_declaration_token}
+use Rattle.fs_phrase_text.specs.Declaring.{parse_declaration}
 use Rattle.fs_phrase_laws.specs.Declarations.{Opening, opening_word, declaration_start, IsOf, BeginsOne, DeclarationGoesOn, DeclarationStandsFirst}
 use Rattle.fs_phrase_laws.specs.Declarations.{IsWrongInDeclaration, over_limit, cannot_follow, DeclarationStopsAt}
 use Rattle.fs_phrase_laws.proofs.SoundDeclarations.{walk, sound, leads}

@@ -18,7 +18,7 @@ use Rattle.fs_grammar_laws.proofs.Reached as before
 use Rattle.fs_grammar_laws.proofs.Reached.{Declares, Declared}
 use Rattle.fs_grammar_laws.proofs.Beginning.{declares_in, before_name}
 use Rattle.fs_grammar_laws.proofs.Sound.{names_more, snoc}
-use Rattle.fs_declaration_text.specs.Declaring.{Declaring, at_sort, at_name, after_name, Lead, inside, whole, declaration_step}
+use Rattle.fs_phrase_text.specs.Declaring.{Declaring, at_sort, at_name, after_name, Lead, inside, whole, declaration_step}
 use Rattle.fs_phrase_laws.specs.Declarations.{Opening, of_role, of_port, opening_word, declaration_start, IsOf, BeginsOne}
 
 -- where words lead, or none where one of them cannot follow

@@ -17,7 +17,7 @@ use Rattle.fs_grammar_laws.specs.WordWalks.{words}
 use Rattle.fs_grammar_laws.specs.Beginnings as rules
 use Rattle.fs_grammar_laws.specs.Beginnings.{SpellsWhole, Begins}
 use Rattle.fs_grammar_laws.specs.Faults.{word_of, AreClear}
-use Rattle.fs_declaration_text.specs.Declaring.{Declaring, at_sort, at_name}
+use Rattle.fs_phrase_text.specs.Declaring.{Declaring, at_sort, at_name}
 
 -- the first word of a declaration and its line: a role, or `port`
 pub data Opening : Type 0 where

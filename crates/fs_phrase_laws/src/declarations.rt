@@ -1,6 +1,6 @@
 //! What the reading of declarations by themselves means by the grammar alone.
 //!
-//! `fs_declaration_text` says token by token how a declaration is read, behind its first word. Here what is
+//! `fs_phrase_text` says token by token how a declaration is read, behind its first word. Here what is
 //! read is tied to the grammar, which has no order of reading. Each function is a law, stated by its
 //! contract over all lists of tokens; it does nothing.
 
@@ -10,7 +10,7 @@ ghost use Rattle.fs_grammar.specs.declared.fault.TextFault.{TextFault};
 ghost use Rattle.fs_grammar.specs.declared.format.Format.{Format};
 ghost use Rattle.fs_grammar.specs.declared.token.Token.{Token};
 ghost use Rattle.fs_grammar_laws.specs.Faults.{AreEndedTokens};
-ghost use Rattle.fs_declaration_text.specs.Declaring.{parse_declaration};
+ghost use Rattle.fs_phrase_text.specs.Declaring.{parse_declaration};
 ghost use Rattle.fs_phrase_laws.specs.Declarations.{Opening, declaration_start, IsOf, DeclarationStandsFirst, DeclarationStopsAt};
 
 /// A declaration that is read stands first in the tokens behind its first word: those up to the rest

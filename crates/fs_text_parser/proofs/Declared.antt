@@ -9,8 +9,8 @@ use Rattle.fs_grammar.specs.declared.token.TokenKind.TheVariants.{Array, Name, C
 use Rattle.fs_grammar.specs.declared.token.Token.{Token}
 use Rattle.fs_grammar.specs.Tokens.{refusal}
 use Rattle.fs_grammar.specs.Grammar.{ParseState, at_declaration, at_sort, at_declared, after_declared, step, stop_source, take_token, finish_source, reading}
-use Rattle.fs_declaration_text.specs.Declaring.{Declaring, at_name, after_name, Lead, inside, whole, HostsDeclarations}
-use Rattle.fs_declaration_text.specs.Declaring as inner
+use Rattle.fs_phrase_text.specs.Declaring.{Declaring, at_name, after_name, Lead, inside, whole, HostsDeclarations}
+use Rattle.fs_phrase_text.specs.Declaring as inner
 
 -- a place inside a declaration, as a place of the whole text
 abbrev pub placed : Format → List Declaration → Declaring → ParseState

@@ -13,12 +13,12 @@ ghost use Rattle.fs_grammar.specs.Grammar.{with_names, reading, at_declaration, 
 ghost use Rattle.fs_text_parser.specs.DeclarationStarts.{begins_declaration};
 
 use crate::words::semicolon;
-use fs_declaration_text::name;
 use fs_grammar::fault::ReadError;
 use fs_grammar::format::Format;
 use fs_grammar::token::{Token, TokenKind, accept, front, line_of, refuse};
 use fs_model::name::Name;
 use fs_model::parts::{Decl, Role, Sort};
+use fs_phrase_text::declarations::name;
 use std::alloc::Global;
 
 // The sort that a declaration says.
@@ -28,7 +28,7 @@ fn sort(tokens: &[Token]) -> Result<(Sort, &[Token]), ReadError>
         (λ x. reading x.1.now (at_declared f ds (record { line = n; role = r; sort = x.0; names = [] }))) }
     ensures shorter { IfOk result (λ x. length x.1.now ≤ length tokens.now) }
 {
-    fs_declaration_text::sort(tokens)
+    fs_phrase_text::declarations::sort(tokens)
 }
 
 // Names up to the end of their declaration.
@@ -38,7 +38,7 @@ fn names(alloc: Global, tokens: &[Token]) -> Result<(Vec<Name>, &[Token]), ReadE
         (λ x. reading x.1.now (at_declaration f (ds ++ with_names d x.0.items ∷ []))) }
     ensures shorter { IfOk result (λ x. length x.1.now < length tokens.now) }
 {
-    fs_declaration_text::names(alloc, tokens)
+    fs_phrase_text::declarations::names(alloc, tokens)
 }
 
 fn begins_declaration(tokens: &[Token]) -> bool

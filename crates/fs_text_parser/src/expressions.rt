@@ -29,5 +29,5 @@ pub fn guard(alloc: Global, tokens: &[Token]) -> Result<(Guard, &[Token]), ReadE
     ensures shorter { IfOk result (λ x. length x.1.now < length tokens.now) }
     ensures ends { IfOk result (λ x. EndsGuard x.1.now) }
 {
-    fs_guard_text::guards::guard(alloc, tokens)
+    fs_phrase_text::guards::guard(alloc, tokens)
 }

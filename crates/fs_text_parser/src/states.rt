@@ -9,12 +9,12 @@ ghost use Rattle.fs_grammar.specs.Grammar.{with_states, reading, at_state, at_st
 
 use crate::transitions::transitions;
 use crate::words::colon;
-use fs_declaration_text::name;
 use fs_grammar::fault::ReadError;
 use fs_grammar::format::Format;
 use fs_grammar::token::{Token, TokenKind, accept, front, line_of, refuse};
 use fs_model::name::Name;
 use fs_model::parts::RawState;
+use fs_phrase_text::declarations::name;
 use std::alloc::Global;
 
 // The rest of the header of a state, after the word `state`.

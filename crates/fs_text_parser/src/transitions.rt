@@ -17,12 +17,12 @@ ghost use Rattle.fs_text_parser.specs.DeclarationStarts.{IsNoEmit};
 ghost use Rattle.fs_text_parser.specs.Destinations.{destination_of};
 
 use crate::expressions::{guard, sum};
-use fs_declaration_text::name;
 use fs_grammar::fault::ReadError;
 use fs_grammar::format::Format;
 use fs_grammar::token::{Token, TokenKind, accept, front, line_of, refuse};
 use fs_model::name::Name;
 use fs_model::parts::{Assign, Expr, Guard, RawLine};
+use fs_phrase_text::declarations::name;
 use std::alloc::Global;
 
 /// Where a value goes: to a scalar, to an array at an index, or to a port.

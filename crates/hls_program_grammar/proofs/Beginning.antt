@@ -16,8 +16,8 @@ use Rattle.fs_grammar_laws.proofs.Reached.{Cut}
 use Rattle.fs_grammar_laws.proofs.Alternatives.{completed}
 use Rattle.fs_phrase_laws.specs.Expressions.{rule_of}
 use Rattle.fs_phrase_laws.proofs.Beginning.{leads as expression_begins}
-use Rattle.fs_declaration_text.specs.Declaring.{Declaring}
-use Rattle.fs_declaration_text.specs.Declaring as declaring
+use Rattle.fs_phrase_text.specs.Declaring.{Declaring}
+use Rattle.fs_phrase_text.specs.Declaring as declaring
 use Rattle.fs_phrase_laws.specs.Declarations.{of_role}
 use Rattle.fs_phrase_laws.proofs.SoundDeclarations.{leads as declaration_begins}
 use Rattle.hls_program_laws.specs.Programs.{End, Do, If, While, Program, join_blocks}

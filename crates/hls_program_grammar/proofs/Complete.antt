@@ -18,8 +18,8 @@ use Rattle.fs_expression_text.specs.Inside as inner
 use Rattle.fs_phrase_laws.specs.Expressions.{Expression, a_sum, a_guard, expression_start, SpellsExpression}
 use Rattle.fs_phrase_laws.proofs.SoundExpressions.{walk as walk_inside}
 use Rattle.fs_phrase_laws.proofs.CompleteExpressions.{complete as complete_expression}
-use Rattle.fs_declaration_text.specs.Declaring.{Lead}
-use Rattle.fs_declaration_text.specs.Declaring as declaring
+use Rattle.fs_phrase_text.specs.Declaring.{Lead}
+use Rattle.fs_phrase_text.specs.Declaring as declaring
 use Rattle.fs_phrase_laws.specs.Declarations.{of_role}
 use Rattle.fs_phrase_laws.proofs.SoundDeclarations.{walk as walk_declaring}
 use Rattle.fs_phrase_laws.proofs.CompleteDeclarations.{complete as complete_declaration}

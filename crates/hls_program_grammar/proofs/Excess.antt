@@ -19,8 +19,8 @@ use Rattle.fs_expression_text.specs.Inside as inner
 use Rattle.fs_phrase_laws.specs.Expressions.{rule_of, SpellsExpression}
 use Rattle.fs_phrase_laws.proofs.SoundExpressions.{sound as sound_expression}
 use Rattle.fs_phrase_laws.proofs.Beginning.{leads as expression_begins}
-use Rattle.fs_declaration_text.specs.Declaring.{Declaring}
-use Rattle.fs_declaration_text.specs.Declaring as declaring
+use Rattle.fs_phrase_text.specs.Declaring.{Declaring}
+use Rattle.fs_phrase_text.specs.Declaring as declaring
 use Rattle.hls_program_laws.specs.Programs.{End, If, join_blocks}
 use Rattle.hls_program_grammar.specs.Marks.{is_counted, is_past_program_limit}
 use Rattle.hls_program_grammar.specs.ProgramGrammar.{Named, Open, depth_of, Hole, for_if, for_while, for_index, for_value, ProgramParseState, at_prog}

@@ -11,8 +11,8 @@ use Rattle.fs_grammar_laws.proofs.Reached.{Cut, Is}
 use Rattle.fs_expression_text.specs.Inside.{Inside}
 use Rattle.fs_phrase_laws.specs.Expressions.{Expression, a_sum, a_guard, expression_start}
 use Rattle.fs_phrase_laws.proofs.SoundExpressions.{walk as walk_inside}
-use Rattle.fs_declaration_text.specs.Declaring.{Declaring}
-use Rattle.fs_declaration_text.specs.Declaring as declaring
+use Rattle.fs_phrase_text.specs.Declaring.{Declaring}
+use Rattle.fs_phrase_text.specs.Declaring as declaring
 use Rattle.fs_phrase_laws.proofs.SoundDeclarations.{walk as walk_declaring}
 use Rattle.hls_program_grammar.specs.ProgramGrammar as machine
 use Rattle.hls_program_grammar.specs.ProgramGrammar.{Named, Open, Hole, for_if, for_while, for_index, for_value, ProgramParseState, at_prog, after_prog}

@@ -18,8 +18,8 @@ use Rattle.fs_expression_text.specs.Inside as inner
 use Rattle.fs_phrase_laws.specs.Expressions.{expression_start, SpellsExpression}
 use Rattle.fs_phrase_laws.proofs.SoundExpressions.{sound as sound_expression}
 use Rattle.fs_phrase_laws.proofs.Beginning.{walk_append as walk_append_inside}
-use Rattle.fs_declaration_text.specs.Declaring.{Declaring, Lead}
-use Rattle.fs_declaration_text.specs.Declaring as declaring
+use Rattle.fs_phrase_text.specs.Declaring.{Declaring, Lead}
+use Rattle.fs_phrase_text.specs.Declaring as declaring
 use Rattle.fs_phrase_laws.specs.Declarations.{of_role}
 use Rattle.fs_phrase_laws.proofs.SoundDeclarations.{walk as walk_declaring, sound as sound_declaration}
 use Rattle.fs_phrase_laws.proofs.CompleteDeclarations.{walk_append as walk_append_declaring}

@@ -12,8 +12,8 @@ use Rattle.fs_expression_text.specs.Inside.{parens, index, left, right, sum_alon
 use Rattle.fs_expression_text.specs.Inside.{after_product, after_sum, factor_done, unit_done, step_factor, step_unit, step_guard, step_conjunction, step_joined}
 use Rattle.fs_expression_text.specs.Inside.{step_closed, step_sum, step_product, step_multiplied, Whole, whole}
 use Rattle.fs_expression_text.specs.Inside as inner
-use Rattle.fs_declaration_text.specs.Declaring.{Declaring}
-use Rattle.fs_declaration_text.specs.Declaring as declaring
+use Rattle.fs_phrase_text.specs.Declaring.{Declaring}
+use Rattle.fs_phrase_text.specs.Declaring as declaring
 use Rattle.hls_program_grammar.specs.ProgramGrammar.{Hole, ProgramParseState, in_declaration, inside, step_after, step_inside, program_step}
 use Rattle.hls_program_grammar.proofs.Closers.{Closes}
 

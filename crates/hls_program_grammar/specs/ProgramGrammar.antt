@@ -16,8 +16,8 @@ use Rattle.hls_program_laws.specs.WellFormedPrograms.{most_depth}
 use Rattle.fs_expression_text.specs.Inside.{Inside, Whole, whole_sum, whole_guard, whole, at_sum, at_guard, sum_alone}
 use Rattle.fs_expression_text.specs.Inside.{guard_alone}
 use Rattle.fs_expression_text.specs.Inside as inner
-use Rattle.fs_declaration_text.specs.Declaring.{Declaring, Lead}
-use Rattle.fs_declaration_text.specs.Declaring as declaring
+use Rattle.fs_phrase_text.specs.Declaring.{Declaring, Lead}
+use Rattle.fs_phrase_text.specs.Declaring as declaring
 
 abbrev pub Named : Type 0
 Named = Block (List ℕ)

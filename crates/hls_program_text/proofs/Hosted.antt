@@ -15,8 +15,8 @@ use Rattle.fs_expression_text.specs.Inside.{parse_expression}
 use Rattle.fs_expression_text.specs.Inside as inner
 use Rattle.fs_expression_text.specs.Hosts as sums
 use Rattle.fs_expression_text.proofs.Hosted.{carried}
-use Rattle.fs_declaration_text.specs.Declaring.{Lead}
-use Rattle.fs_declaration_text.specs.Declaring as declaring
+use Rattle.fs_phrase_text.specs.Declaring.{Lead}
+use Rattle.fs_phrase_text.specs.Declaring as declaring
 use Rattle.hls_program_grammar.specs.ProgramGrammar.{Hole, inside, after, at_declaration, in_declaration, with_declaration, step_inside, step_declaring}
 use Rattle.hls_program_grammar.specs.ProgramGrammar.{take_program_token, program_reading}
 use Rattle.hls_program_grammar.proofs.Exact.{stop_none}

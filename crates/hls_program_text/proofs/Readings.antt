@@ -15,7 +15,7 @@ use Rattle.fs_grammar.specs.Tokens.{kind_at, line_at, fault_at, tokens_after, â—
 use Rattle.fs_grammar.specs.PartEnds.{IsNoIndex, EndsName, name_in}
 use Rattle.fs_grammar.specs.Grammar.{scalar}
 use Rattle.fs_expression_text.specs.Inside.{whole_guard, at_sum, at_guard, sum_alone, guard_alone}
-use Rattle.fs_declaration_text.specs.Declaring as declaring
+use Rattle.fs_phrase_text.specs.Declaring as declaring
 use Rattle.hls_program_laws.specs.Programs.{End, If, join_blocks}
 use Rattle.hls_program_laws.specs.WellFormedPrograms.{most_depth}
 use Rattle.hls_program_parts.specs.declared.program.Stmt.{Stmt}

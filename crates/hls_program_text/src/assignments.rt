@@ -12,11 +12,11 @@ ghost use Rattle.hls_program_grammar.specs.ProgramGrammar.{after_name, at_equals
 ghost use Rattle.hls_program_text.specs.Fronts.{IsNoKeyword, destination};
 
 use crate::expressions::sum;
-use fs_declaration_text::name;
 use fs_grammar::fault::ReadError;
 use fs_grammar::token::{Token, TokenKind, accept, front, refuse};
 use fs_model::name::Name;
 use fs_model::parts::{Assign, Expr};
+use fs_phrase_text::declarations::name;
 use std::alloc::Global;
 
 // The bracket that closes the index of a destination.

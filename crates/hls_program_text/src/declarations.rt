@@ -6,7 +6,7 @@ ghost use Rattle.fs_model.specs.Source.{Declaration};
 ghost use Rattle.fs_model.specs.View.{declaration_of};
 ghost use Rattle.fs_grammar.specs.Tokens.{ParsesOn, line_at};
 ghost use Rattle.fs_grammar.specs.Grammar.{with_names};
-ghost use Rattle.fs_declaration_text.specs.Declaring as declaring;
+ghost use Rattle.fs_phrase_text.specs.Declaring as declaring;
 ghost use Rattle.hls_program_grammar.specs.ProgramGrammar.{program_reading, at_declaration, in_declaration, with_declaration};
 ghost use Rattle.hls_program_text.specs.Fronts.{role_at};
 
@@ -24,7 +24,7 @@ fn sort(tokens: &[Token]) -> Result<(Sort, &[Token]), ReadError>
         (in_declaration ds (declaring.at_name (record { line = n; role = r; sort = x.0; names = [] })))) }
     ensures shorter { IfOk result (λ x. length x.1.now ≤ length tokens.now) }
 {
-    fs_declaration_text::sort(tokens)
+    fs_phrase_text::declarations::sort(tokens)
 }
 
 // Names up to the end of their declaration.
@@ -34,7 +34,7 @@ fn names(alloc: Global, tokens: &[Token]) -> Result<(Vec<Name>, &[Token]), ReadE
         (λ x. program_reading x.1.now (at_declaration (with_declaration ds (with_names d x.0.items)))) }
     ensures shorter { IfOk result (λ x. length x.1.now < length tokens.now) }
 {
-    fs_declaration_text::names(alloc, tokens)
+    fs_phrase_text::declarations::names(alloc, tokens)
 }
 
 // The role with which a declaration begins, if the first token is one.

@@ -27,5 +27,5 @@ pub fn guard(alloc: Global, tokens: &[Token]) -> Result<(Guard, &[Token]), ReadE
         (λ x. program_reading x.1.now (after h (whole_guard (named_guard x.0)))) }
     ensures shorter { IfOk result (λ x. length x.1.now < length tokens.now) }
 {
-    fs_guard_text::guards::guard(alloc, tokens)
+    fs_phrase_text::guards::guard(alloc, tokens)
 }

@@ -1,3 +1,5 @@
+pub mod Noting
+pub mod Tracing
 pub mod Rows
 pub mod ByStates
 pub mod Gathered

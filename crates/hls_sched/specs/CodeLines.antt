@@ -6,7 +6,7 @@ use Rattle.fs_model.specs.Source.{Source}
 use Rattle.hls_line_rows.specs.ItemUnits.{Units}
 use Rattle.hls_line_machines.specs.StraightLines.{is_first_of_line, straight_line_at, exit_of}
 use Rattle.hls_line_machines.specs.RowMachines.{MoveOver, moves}
-use Rattle.hls_line_tracing.specs.declared.lines.Line.{Line}
+use Rattle.hls_sched.specs.declared.lines.Line.{Line}
 use Rattle.hls_line_schedules.specs.SourceRows.{named_rows}
 
 -- the line of a machine from a first state on

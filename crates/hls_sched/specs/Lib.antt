@@ -1,3 +1,4 @@
+pub mod Arrivals
 pub mod RowMoves
 pub mod CodeLines
 pub mod Reports

@@ -11,10 +11,10 @@ ghost use Rattle.hls_line_filling.specs.WaitingItems.{rows_in};
 ghost use Rattle.hls_line_schedules.specs.SourceRows.{row_of, rows_in_line};
 ghost use Rattle.hls_sched.specs.RowMoves.{joined_items, move_of, target_of_row, row_in_state, IsMoveAmong, IsPlanFor};
 
+use crate::lines::Line;
 use fs_model::name::NoMemory;
 use fs_model::parts::StateId;
 use hls_line_filling::plan::Plan;
-use hls_line_tracing::lines::Line;
 use std::alloc::Global;
 
 /// What a state does by a row of its line: the states whose items it does, in their order in the line, and the

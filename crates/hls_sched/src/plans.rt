@@ -14,13 +14,13 @@ ghost use Rattle.hls_line_filling.specs.Plans.{filled_in};
 ghost use Rattle.hls_sched.specs.RowMoves.{IsPlanFor};
 ghost use Rattle.hls_sched.specs.CodeLines.{IsLineFrom};
 
+use crate::lines::{Line, item};
 use fs_ast::machine::Machine;
 use fs_model::name::NoMemory;
 use fs_model::parts::StateId;
 use hls_line_filling::effects::Effects;
 use hls_line_filling::plan::{Plan, make_plan};
 use hls_line_filling::uses::{Uses, uses_of};
-use hls_line_tracing::lines::{Line, item};
 use hls_unit_counts::Units;
 use hls_unit_limits::laws::items_within_the_units_are_counted;
 use hls_unit_limits::over::see_counts;

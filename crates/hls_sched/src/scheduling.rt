@@ -19,6 +19,8 @@ ghost use Rattle.hls_sched.specs.CodeLines.{IsLineFrom, moves_from};
 ghost use Rattle.hls_sched.specs.Reports.{report_of, report_at, reports, KeepsLengths, IsNotScheduled};
 ghost use Rattle.hls_sched.specs.declared.scheduling.SchedError.TheVariants as errors;
 
+use crate::arrivals::count_arrivals;
+use crate::lines::{Line, firsts, trace_line};
 use crate::moves::{Move, add_moves};
 use crate::parts::moved_parts;
 use crate::plans::plan_line;
@@ -29,8 +31,6 @@ use fs_model::parts::{Parts, StateId};
 use hls_line_schedules::source_laws::{
     a_scheduled_text_is_lawful, a_scheduled_text_spells_the_schedule,
 };
-use hls_line_tracing::arrivals::count_arrivals;
-use hls_line_tracing::lines::{Line, firsts, trace_line};
 use hls_unit_counts::{Unit, Units};
 use hls_unit_limits::laws::machines_within_the_units;
 use hls_unit_limits::over::over_in;

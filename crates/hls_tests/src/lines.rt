@@ -4,8 +4,8 @@ use fs_ast::machine::Machine;
 use fs_model::parts::StateId;
 use fs_sample_machines::reading::machine;
 use fs_sample_machines::samples::SOLVER;
-use hls_line_tracing::arrivals::count_arrivals;
-use hls_line_tracing::lines::{Line, firsts, is_straight, item, trace_line};
+use hls_sched::arrivals::count_arrivals;
+use hls_sched::lines::{Line, firsts, is_straight, item, trace_line};
 use std::alloc::Global;
 use std::test::Fail;
 

@@ -1,6 +1,6 @@
 use Rattle.fs_grammar.specs.Grammar.{reading, with_names}
-use Rattle.fs_declaration_text.specs.Declaring.{at_name}
-use Rattle.fs_declaration_text.proofs.Hosted.{carried_whole}
+use Rattle.fs_phrase_text.specs.Declaring.{at_name}
+use Rattle.fs_phrase_text.proofs.Hosted.{carried_whole}
 use Rattle.fs_text_parser.proofs.Declared.{placed, behind, hosts}
 use Rattle.fs_text_parser.proofs.declarations.names.Goals as goal
 

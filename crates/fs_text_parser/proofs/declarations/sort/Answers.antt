@@ -1,7 +1,7 @@
 use Rattle.std.proofs.Common.{[]}
 use Rattle.fs_grammar.specs.Grammar.{reading}
-use Rattle.fs_declaration_text.specs.Declaring.{at_sort, at_name}
-use Rattle.fs_declaration_text.proofs.Hosted.{carried}
+use Rattle.fs_phrase_text.specs.Declaring.{at_sort, at_name}
+use Rattle.fs_phrase_text.proofs.Hosted.{carried}
 use Rattle.fs_text_parser.proofs.Declared.{placed, behind, hosts}
 use Rattle.fs_text_parser.proofs.declarations.sort.Goals as goal
 
