@@ -18,6 +18,9 @@ use std::alloc::Global;
 
 /// What a command answers: a correct answer, from the files that its words name, which are loaded in order; none behind the one
 /// that settles it, and each once.
+///
+/// `Answered` comes where a file is refused or cannot be loaded, with the answer that is then given; it is correct too.
+/// `NoMemory`: out of memory.
 pub fn answer_command<F: Files>(alloc: Global, ask: &Ask, files: &mut F) -> Result<Answer, Refused>
     requires { IsWithinLimits (asked_of_ask ask.now) }
     ensures answers { AnswersBy (IsCorrectInOrder (FollowsFrom (Some (asked_of_ask ask.now))) 0
