@@ -25,7 +25,7 @@ pub fn cover(alloc: Global, m: &Machine) -> Result<Cover, NoMemory>
     Ok(Cover::of(points, start, forks))
 }
 
-/// The points of a machine, in the order of its cover.
+/// The points of a machine, in the order of its cover. The one refusal is out of memory.
 pub fn points(alloc: Global, m: &Machine) -> Result<Vec<Point>, NoMemory>
     ensures { IfOk result (λ out. map point_of out.items ≡ points_of m.now) }
 {

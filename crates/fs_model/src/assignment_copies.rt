@@ -10,7 +10,7 @@ use crate::name::{Name, NoMemory};
 use crate::parts::{Assign, Guard};
 use std::alloc::Global;
 
-/// A copy of a guard.
+/// A copy of a guard. The one refusal is out of memory.
 #[tactic(auto, using(crate::proofs::SameCopies::guard_same))]
 pub fn copied_guard(alloc: Global, guard: &Guard) -> Result<Guard, NoMemory>
     ensures { IfOk result (λ g. named_guard g ≡ named_guard guard.now) }
@@ -18,7 +18,7 @@ pub fn copied_guard(alloc: Global, guard: &Guard) -> Result<Guard, NoMemory>
     guard.copy_renamed(alloc, &Unrenamed)
 }
 
-/// A copy of a guard, where there is one.
+/// A copy of a guard, where there is one. The one refusal is out of memory.
 pub fn copied_condition(alloc: Global, guard: &Option<Guard>) -> Result<Option<Guard>, NoMemory>
     ensures { IfOk result (λ g. option_map named_guard g ≡ option_map named_guard guard.now) }
 {
@@ -28,7 +28,7 @@ pub fn copied_condition(alloc: Global, guard: &Option<Guard>) -> Result<Option<G
     }
 }
 
-/// A copy of an assignment.
+/// A copy of an assignment. The one refusal is out of memory.
 #[tactic(auto, using(crate::proofs::SameCopies::assignment_same))]
 pub fn copied_assignment(alloc: Global, assign: &Assign<Name>) -> Result<Assign<Name>, NoMemory>
     ensures { IfOk result (λ a. named_assignment a ≡ named_assignment assign.now) }
@@ -36,7 +36,7 @@ pub fn copied_assignment(alloc: Global, assign: &Assign<Name>) -> Result<Assign<
     assign.copy_renamed(alloc, &Unrenamed)
 }
 
-/// Adds copies of assignments.
+/// Adds copies of assignments. The one refusal is out of memory.
 pub fn add_assignments(
     alloc: Global,
     assigns: &[Assign<Name>],
@@ -51,7 +51,7 @@ pub fn add_assignments(
     Ok(())
 }
 
-/// Copies of assignments.
+/// Copies of assignments. The one refusal is out of memory.
 pub fn copied_assignments(
     alloc: Global,
     assigns: &[Assign<Name>],

@@ -137,7 +137,7 @@ fn rename_with_value<V, R: Rename<V>>(
 }
 
 impl<V> Expr<V> {
-    /// A copy with its variables renamed.
+    /// A copy with its variables renamed. The one refusal is out of memory.
     pub fn copy_renamed<R: Rename<V>>(&self, alloc: Global, by: &R) -> Result<Expr<R::To>, NoMemory>
         requires { R.can_rename by.now }
         ensures { IfOk result (λ e. term_by (λ x. x) e ≡ term_over (R.renamed by.now) (term_by (λ x. x) self.now)) }
@@ -160,7 +160,7 @@ impl<V> Expr<V> {
 }
 
 impl<V> Lit<V> {
-    /// A copy with its variables renamed.
+    /// A copy with its variables renamed. The one refusal is out of memory.
     pub fn copy_renamed<R: Rename<V>>(&self, alloc: Global, by: &R) -> Result<Lit<R::To>, NoMemory>
         requires { R.can_rename by.now }
         ensures { IfOk result (λ l. literal_by (λ x. x) l ≡ literal_over (R.renamed by.now) (literal_by (λ x. x) self.now)) }
@@ -174,7 +174,7 @@ impl<V> Lit<V> {
 }
 
 impl<V> Guard<V> {
-    /// A copy with its variables renamed.
+    /// A copy with its variables renamed. The one refusal is out of memory.
     pub fn copy_renamed<R: Rename<V>>(
         &self,
         alloc: Global,
@@ -212,7 +212,7 @@ fn renamed_write<V, R: Rename<V>>(
 }
 
 impl<V> Assign<V> {
-    /// A copy with its variables renamed.
+    /// A copy with its variables renamed. The one refusal is out of memory.
     pub fn copy_renamed<R: Rename<V>>(
         &self,
         alloc: Global,
@@ -239,7 +239,7 @@ impl<V> Assign<V> {
     }
 }
 
-/// Copies of assignments with their variables renamed.
+/// Copies of assignments with their variables renamed. The one refusal is out of memory.
 pub fn renamed_assignments<V, R: Rename<V>>(
     alloc: Global,
     assigns: &[Assign<V>],
@@ -258,7 +258,7 @@ pub fn renamed_assignments<V, R: Rename<V>>(
 }
 
 impl Expr<VarId> {
-    /// A copy.
+    /// A copy. The one refusal is out of memory.
     #[tactic(auto, using(crate::proofs::Renamed::term_copied))]
     pub fn try_clone(&self, alloc: Global) -> Result<Expr<VarId>, NoMemory>
         ensures { IfOk result (λ e. term_of e ≡ term_of self.now) }
@@ -268,7 +268,7 @@ impl Expr<VarId> {
 }
 
 impl Lit<VarId> {
-    /// A copy.
+    /// A copy. The one refusal is out of memory.
     #[tactic(auto, using(crate::proofs::Renamed::literal_copied))]
     pub fn try_clone(&self, alloc: Global) -> Result<Lit<VarId>, NoMemory>
         ensures { IfOk result (λ l. literal_of l ≡ literal_of self.now) }
@@ -276,7 +276,7 @@ impl Lit<VarId> {
         self.copy_renamed(alloc, &Unrenamed)
     }
 
-    /// A literal that holds exactly when this one does not.
+    /// A literal that holds exactly when this one does not. The one refusal is out of memory.
     pub fn negation(&self, alloc: Global) -> Result<Lit<VarId>, NoMemory>
         ensures { IfOk result (λ l. literal_of l ≡ negated_literal (literal_of self.now)) }
     {
@@ -289,7 +289,7 @@ impl Lit<VarId> {
 }
 
 impl Guard<VarId> {
-    /// A copy.
+    /// A copy. The one refusal is out of memory.
     #[tactic(auto, using(crate::proofs::Renamed::guard_copied))]
     pub fn try_clone(&self, alloc: Global) -> Result<Guard<VarId>, NoMemory>
         ensures { IfOk result (λ g. guard_of g ≡ guard_of self.now) }
@@ -299,7 +299,7 @@ impl Guard<VarId> {
 }
 
 impl Assign<VarId> {
-    /// A copy.
+    /// A copy. The one refusal is out of memory.
     #[tactic(auto, using(crate::proofs::Renamed::assignment_copied))]
     pub fn try_clone(&self, alloc: Global) -> Result<Assign<VarId>, NoMemory>
         ensures { IfOk result (λ a. assignment_of a ≡ assignment_of self.now) }
@@ -308,7 +308,7 @@ impl Assign<VarId> {
     }
 }
 
-/// Copies of names.
+/// Copies of names. The one refusal is out of memory.
 pub fn copied_names(alloc: Global, names: &[Name]) -> Result<Vec<Name>, NoMemory>
     ensures { IfOk result (λ out. out.items ≡ names.now) }
 {
@@ -320,7 +320,7 @@ pub fn copied_names(alloc: Global, names: &[Name]) -> Result<Vec<Name>, NoMemory
 }
 
 impl Decl {
-    /// A copy.
+    /// A copy. The one refusal is out of memory.
     pub fn try_clone(&self, alloc: Global) -> Result<Decl, NoMemory>
         ensures { IfOk result (λ d. declaration_of d ≡ declaration_of self.now) }
     {

@@ -18,21 +18,21 @@ impl<T: Drop> From<AllocFailed<T>> for NoMemory {
     }
 }
 
-/// The value in a box.
+/// The value in a box. The one refusal is out of memory.
 pub fn put_in_box<T: Drop>(alloc: Global, value: T) -> Result<Box<T>, NoMemory>
     ensures { IfOk result (λ b. b.value ≡ value) }
 {
     Ok(Box::new(alloc, value)?)
 }
 
-/// The value with one owner, of which there may be more.
+/// The value with one owner, of which there may be more. The one refusal is out of memory.
 pub fn share<T: Drop>(alloc: Global, value: T) -> Result<Rc<T>, NoMemory>
     ensures { IfOk result (λ r. r.value ≡ value) }
 {
     Ok(Rc::new(alloc, value)?)
 }
 
-/// Two values, each in a box of its own.
+/// Two values, each in a box of its own. The one refusal is out of memory.
 pub fn both_boxed<T: Drop>(alloc: Global, a: T, b: T) -> Result<(Box<T>, Box<T>), NoMemory>
     ensures left { IfOk result (λ p. p.0.value ≡ a) }
     ensures right { IfOk result (λ p. p.1.value ≡ b) }
@@ -40,7 +40,7 @@ pub fn both_boxed<T: Drop>(alloc: Global, a: T, b: T) -> Result<(Box<T>, Box<T>)
     Ok((put_in_box(alloc, a)?, put_in_box(alloc, b)?))
 }
 
-/// Adds a value behind others.
+/// Adds a value behind others. The one refusal is out of memory.
 pub fn push_value<T: Drop>(values: &mut Vec<T>, value: T) -> Result<(), NoMemory>
     ensures { OnOk result (values.new.items ≡ values.old.items ++ value ∷ []) }
 {

@@ -122,7 +122,7 @@ impl Name {
         self.bytes.as_slice()
     }
 
-    /// A copy.
+    /// A copy. The one refusal is out of memory.
     pub fn try_clone(&self, alloc: Global) -> Result<Name, NoMemory>
         ensures { IfOk result (λ n. n ≡ self.now) }
     {

@@ -9,7 +9,7 @@ use crate::name::NoMemory;
 use crate::parts::{Decl, RawLine, RawState};
 use std::alloc::Global;
 
-/// A copy of a transition.
+/// A copy of a transition. The one refusal is out of memory.
 pub fn copied_line(alloc: Global, line: &RawLine) -> Result<RawLine, NoMemory>
     ensures { IfOk result (λ l. source_transition_of l ≡ source_transition_of line.now) }
 {
@@ -23,7 +23,7 @@ pub fn copied_line(alloc: Global, line: &RawLine) -> Result<RawLine, NoMemory>
     })
 }
 
-/// Copies of transitions.
+/// Copies of transitions. The one refusal is out of memory.
 pub fn copied_lines(alloc: Global, lines: &[RawLine]) -> Result<Vec<RawLine>, NoMemory>
     ensures { IfOk result (λ out. map source_transition_of out.items ≡ map source_transition_of lines.now) }
 {
@@ -34,7 +34,7 @@ pub fn copied_lines(alloc: Global, lines: &[RawLine]) -> Result<Vec<RawLine>, No
     Ok(out)
 }
 
-/// A copy of a state.
+/// A copy of a state. The one refusal is out of memory.
 pub fn copied_state(alloc: Global, state: &RawState) -> Result<RawState, NoMemory>
     ensures { IfOk result (λ s. source_state_of s ≡ source_state_of state.now) }
 {
@@ -47,7 +47,7 @@ pub fn copied_state(alloc: Global, state: &RawState) -> Result<RawState, NoMemor
     })
 }
 
-/// Copies of declarations.
+/// Copies of declarations. The one refusal is out of memory.
 pub fn copied_declarations(alloc: Global, decls: &[Decl]) -> Result<Vec<Decl>, NoMemory>
     ensures { IfOk result (λ out. map declaration_of out.items ≡ map declaration_of decls.now) }
 {

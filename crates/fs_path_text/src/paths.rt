@@ -112,7 +112,7 @@ fn write_points(alloc: Global, machine: &Machine, points: &[Point]) -> Result<Ve
 }
 
 /// The text that lists the paths of a machine, each on a line: by the points that they begin at, in order, and
-/// then by branches. It holds the paths of one point at a time.
+/// then by branches. It holds the paths of one point at a time. The one refusal is out of memory.
 pub fn list_paths(alloc: Global, machine: &Machine) -> Result<Vec<u8>, AllocError>
     ensures { IfOk result (λ out. out.items ≡ paths_text machine.now) }
 {

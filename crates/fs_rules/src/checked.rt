@@ -33,7 +33,8 @@ struct NamedVariables {
     places: NameTable,
 }
 
-/// What parts declare, and the first broken rule but for those on branches and on endless lines.
+/// What parts declare, and the first broken rule but for those on branches and on endless lines. The one refusal is out of
+/// memory.
 pub fn check_parts(alloc: Global, parts: &Parts) -> Result<Checked<'_>, NoMemory>
     ensures scope { IfOk result
         (λ c. IsScopeOf (source_of parts.now) c.scope.vars.items (map source_state_of c.scope.states.now)) }

@@ -41,7 +41,7 @@ impl Model for NameTable {
 }
 
 impl NameTable {
-    /// The table of declared names. Each that stands a second time is noted.
+    /// The table of declared names. Each that stands a second time is noted. The one refusal is out of memory.
     pub fn of(
         alloc: Global,
         declared: &[Declared],

@@ -295,7 +295,7 @@ impl Scope<'_> {
         self.check_lines(alloc, lines, faults)
     }
 
-    /// Notes each rule that states break.
+    /// Notes each rule that states break. The one refusal is out of memory.
     pub fn check_states(
         &self,
         alloc: Global,

@@ -94,7 +94,7 @@ pub struct Variables {
     pub declared: Vec<Declared>,
 }
 
-/// The variables of declarations.
+/// The variables of declarations. The one refusal is out of memory.
 pub fn declare_variables(alloc: Global, decls: &[Decl]) -> Result<Variables, NoMemory>
     ensures vars { IfOk result (λ v. v.vars.items ≡ variables_of (map declaration_of decls.now)) }
     ensures declared { IfOk result (λ v. map declared_of v.declared.items ≡ declared_names (map declaration_of decls.now)) }
@@ -167,7 +167,7 @@ fn add_name(
     Ok(())
 }
 
-/// The names of states, with their lines.
+/// The names of states, with their lines. The one refusal is out of memory.
 pub fn declare_states(alloc: Global, states: &[RawState]) -> Result<Vec<Declared>, NoMemory>
     ensures { IfOk result (λ d. map declared_of d.items ≡ declared_states (map source_state_of states.now)) }
 {

@@ -43,7 +43,7 @@ struct Stop {
     steps: usize,
 }
 
-/// The states that lead back to themselves with no cut between. Each step is by `next`.
+/// The states that lead back to themselves with no cut between. Each step is by `next`. The one refusal is out of memory.
 pub fn find_endless(alloc: Global, next: &[usize], cut: &[bool]) -> Result<Vec<usize>, NoMemory>
     requires { IsTargetList next.now cut.now }
     ensures inside { IfOk result (λ found. list_all (λ q. nat_lt q (length next.now)) found.items ≡ true) }

@@ -20,7 +20,7 @@ use std::alloc::Global;
 
 /// The text of inputs from which runs of two machines with the same inputs and outputs ended: `counterexample`, a line
 /// `NAME = VALUE` for each input, in order of declaration, and the outputs of both sides, in the order of the left machine's
-/// outputs.
+/// outputs. The one refusal is out of memory.
 pub fn counterexample_text(
     alloc: Global,
     inputs: &Inputs,

@@ -25,7 +25,7 @@ pub enum Side {
 /// of declaration.
 ///
 /// A number is in decimal, an array as `{0: 1, 5: -9}`: its entries that are not 0, in increasing order
-/// of index, and a list as `[1, 2, -3]`.
+/// of index, and a list as `[1, 2, -3]`. The one refusal is out of memory.
 pub fn end_text(alloc: Global, m: &Machine, ended: &Ended) -> Result<Vec<u8>, NoMemory>
     requires outputs { HoldsEach (told_by m.now ended.now.outputs.items) (output_names m.now.variables) }
     ensures text { IfOk result

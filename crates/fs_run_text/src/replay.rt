@@ -27,7 +27,7 @@ pub struct Replay {
 }
 
 /// The text of two runs that ended, of machines with the same inputs and outputs: `same` or `differ`,
-/// and the outputs of both sides, in the order of the left machine's outputs.
+/// and the outputs of both sides, in the order of the left machine's outputs. The one refusal is out of memory.
 pub fn replay_text(
     alloc: Global,
     left: &Machine,
@@ -53,7 +53,7 @@ pub fn replay_text(
 }
 
 /// Whether two runs that ended, of machines with the same inputs and outputs, have the same outputs.
-/// Each is looked up by its name, up to the first that differs.
+/// Each is looked up by its name, up to the first that differs. The one refusal is out of memory.
 pub fn same_outputs(
     alloc: Global,
     left: &Machine,

@@ -30,7 +30,7 @@ pub struct Inputs {
 }
 
 impl Inputs {
-    /// A value for each input of a machine: 0, or 0 at each index.
+    /// A value for each input of a machine: 0, or 0 at each index. The one refusal is out of memory.
     pub fn zero(alloc: Global, m: &Machine) -> Result<Inputs, NoMemory>
         ensures signatures { IfOk result (λ ins. signatures_of ins ≡ input_signatures m.now.variables) }
         ensures serves { IfOk result (λ ins. Serves (signatures_of ins) m.now) }
@@ -43,7 +43,8 @@ impl Inputs {
         Ok(Inputs { items })
     }
 
-    /// Gives the input of a number, counted in order of declaration from 0, a value of its sort.
+    /// Gives the input of a number, counted in order of declaration from 0, a value of its sort. The one refusal is out of
+    /// memory.
     pub fn set(&mut self, _alloc: Global, k: u32, value: Value) -> Result<(), NoMemory>
         requires { option_map (λ f. f.1) (slice_get (signatures_of self.old) k) ≡ Some (sort_of value) }
         ensures values { OnOk result (input_values self.new ≡ slice_set (input_values self.old) k value) }
@@ -135,7 +136,7 @@ fn add_input(alloc: Global, items: &mut Vec<Input>, var: &VarInfo) -> Result<(),
 }
 
 /// The store in which a run starts: the inputs as given, every other scalar 0, every other array 0 at
-/// each index, and every port the empty list.
+/// each index, and every port the empty list. The one refusal is out of memory.
 pub fn start(alloc: Global, m: &Machine, inputs: &Inputs) -> Result<Store, NoMemory>
     requires { Serves (signatures_of inputs.now) m.now }
     ensures start { IfOk result (λ s. store_of s ≡ start m.now (inputs_of inputs.now)) }

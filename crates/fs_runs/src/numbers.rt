@@ -51,7 +51,7 @@ impl Numbers {
         self.items.push_reserved(number);
     }
 
-    /// A copy.
+    /// A copy. The one refusal is out of memory.
     pub fn try_clone(&self) -> Result<Numbers, NoMemory>
         ensures { IfOk result (λ copy. numbers_of copy ≡ numbers_of self.now) }
     {

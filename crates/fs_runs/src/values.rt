@@ -96,7 +96,7 @@ impl Entries {
         }
     }
 
-    /// A copy.
+    /// A copy. The one refusal is out of memory.
     pub fn try_clone(&self) -> Result<Entries, NoMemory>
         ensures { IfOk result (λ copy. entry_number copy ≡ entry_number self.now) }
     {
@@ -131,7 +131,7 @@ impl Value {
         }
     }
 
-    /// A copy.
+    /// A copy. The one refusal is out of memory.
     pub fn try_clone(&self) -> Result<Value, NoMemory>
         ensures content { IfOk result (λ copy. content_of copy ≡ content_of self.now) }
         ensures sort { IfOk result (λ copy. sort_of copy ≡ sort_of self.now) }

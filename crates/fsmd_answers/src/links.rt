@@ -84,7 +84,7 @@ fn verdict_at(
 }
 
 /// A chain with one machine more, where all obligations of a lawful certificate of its last machine and the next hold. Else the
-/// answer is that of `judge`, told as that of the link of this number, from 1.
+/// answer is that of `judge`, told as that of the link of this number, from 1: `Answered`. `NoMemory`: out of memory.
 pub fn add_link(
     alloc: Global,
     ask: &Ask,

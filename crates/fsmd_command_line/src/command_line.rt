@@ -82,7 +82,7 @@ fn with_last_commands<'a>(
     with_command(line, chain(alloc))
 }
 
-/// The whole command line: the words after the program's name.
+/// The whole command line: the words after the program's name. The one refusal is out of memory.
 pub fn command_line<'a>(alloc: Global) -> Result<Command<'a>, AllocError>
     ensures { IfOk result (λ command. app_of command ≡ command_line) }
 {

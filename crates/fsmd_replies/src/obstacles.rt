@@ -36,6 +36,7 @@ fn cycle_text(side: Side) -> &'static [u8]
     }
 }
 
+/// The line of a budget that is used up. The one refusal is out of memory.
 pub fn line_over(alloc: Global, budget: Budget) -> Result<Vec<u8>, NoMemory>
     ensures { IfOk result (λ line. line.items ≡ undecided_over budget) }
 {
@@ -46,7 +47,7 @@ pub fn line_over(alloc: Global, budget: Budget) -> Result<Vec<u8>, NoMemory>
     Ok(line.to_vec(alloc)?)
 }
 
-// The line of outputs that differ, after the moves that made the table.
+/// The line of outputs that differ, after the moves that made the table. The one refusal is out of memory.
 pub fn stuck_line(
     alloc: Global,
     a: &Machine,
@@ -64,7 +65,7 @@ pub fn stuck_line(
     line_at(alloc, what.as_slice(), place.as_slice())
 }
 
-// The line of a cycle.
+/// The line of a cycle in which one machine moves alone. The one refusal is out of memory.
 pub fn spin_line(
     alloc: Global,
     a: &Machine,
@@ -97,6 +98,7 @@ fn operation_line(
     line_at(alloc, what, place.as_slice())
 }
 
+/// The line of a move of which an operation is not narrow. The one refusal is out of memory.
 pub fn wide_line(
     alloc: Global,
     a: &Machine,
@@ -111,6 +113,7 @@ pub fn wide_line(
     operation_line(alloc, a, b, b"coefficient past 128 bits", points, at)
 }
 
+/// The line of a move of which an operation is narrow and not small. The one refusal is out of memory.
 pub fn large_line(
     alloc: Global,
     a: &Machine,

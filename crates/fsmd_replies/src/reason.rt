@@ -79,7 +79,7 @@ fn with_place(
     }
 }
 
-/// Why an obligation of two machines' certificate fails, in words.
+/// Why an obligation of two machines' certificate fails, in words. The one refusal is out of memory.
 pub fn reason_text(
     alloc: Global,
     a: &Machine,

@@ -96,7 +96,7 @@ impl Vector {
         Ok(())
     }
 
-    /// As `put`, of a form that is shared.
+    /// As `put`, of a form that is shared. The one refusal is out of memory.
     #[tactic(auto, using(crate::proofs::Entries::put_placed, crate::proofs::Entries::put_seen))]
     pub fn put_shared(&mut self, p: Pos, value: SharedForm) -> Result<(), NoMemory>
         ensures put { OnOk result (self.new ≡ with_form p value self.old) }

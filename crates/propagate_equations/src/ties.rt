@@ -169,6 +169,8 @@ fn form_tied(
 }
 
 /// The new equation of a position whose equation fails, where it is tied to a freed position.
+///
+/// `Wide` and `Large` come exactly at the first operation that is not narrow, or narrow and not small. `NoMemory`: out of memory.
 #[tactic(auto, using(crate::proofs::TieTurns::ties_in_turn))]
 pub fn tie_equation(
     alloc: Global,

@@ -29,7 +29,7 @@ fn spend_on_value(work: &mut Work, value: &Option<Nf>) -> Result<(), Stop> {
     }
 }
 
-/// The value of a form, or none where it meets a limit.
+/// The value of a form, or none where it meets a limit. `Bound`: the work is used up; `NoMemory`: out of memory.
 pub fn value_of(
     alloc: Global,
     work: &mut Work,

@@ -19,7 +19,7 @@ pub struct Solution {
 }
 
 impl Solution {
-    /// No position is known.
+    /// No position is known. The one refusal is out of memory.
     pub fn new(alloc: Global, positions: usize) -> Result<Solution, NoMemory> {
         Ok(Solution {
             known: vec![in alloc; false; positions]?,
@@ -49,7 +49,7 @@ impl Solution {
     }
 }
 
-/// The value of a position: its symbol where it is free.
+/// The value of a position: its symbol where it is free. The one refusal is out of memory.
 pub fn position_value(
     alloc: Global,
     solution: &Solution,

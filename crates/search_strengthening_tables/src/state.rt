@@ -59,7 +59,7 @@ fn start_node(alloc: Global, p: &Pairing) -> Result<SearchNode, NoMemory> {
     })
 }
 
-/// The start node alone.
+/// The start node alone. The one refusal is out of memory.
 pub fn begin(alloc: Global, p: &Pairing) -> Result<State, NoMemory> {
     let mut nodes = Vec::new(alloc);
     nodes.push(start_node(alloc, p)?)?;

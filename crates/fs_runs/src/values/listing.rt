@@ -11,7 +11,7 @@ use crate::values::Entries;
 use std::alloc::Global;
 
 impl Entries {
-    /// The entries that are not 0, each with its index, in increasing order of index.
+    /// The entries that are not 0, each with its index, in increasing order of index. The one refusal is out of memory.
     pub fn list(&self, alloc: Global) -> Result<Vec<(i128, i128)>, NoMemory>
         ensures listing { IfOk result (λ es. IsListing (entry_number self.now) es.items) }
     {
