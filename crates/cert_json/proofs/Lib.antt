@@ -2,6 +2,7 @@ mod Counts
 mod Turns
 mod TrimLaws
 mod ListLaws
+mod ObjectLaws
 mod WholeFiles
 mod Files
 mod Digits

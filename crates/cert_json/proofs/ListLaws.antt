@@ -1,21 +1,20 @@
 -- Lists of values that grow at their end, and what is kept of them.
-use Rattle.std.proofs.Common.{◌≡◌, ℕ, zero, suc, ◌<◌, ◌≤◌, List, [], ◌∷◌, ◌++◌, length, Bool, true, false, ◌&&◌, ◌||◌, nat_lt, Option, Some, None, Ordering}
-use Rattle.std.proofs.Common.{Less, Equal, Greater, nat_cmp, refl, sym, ap, ◌∙◌, subst, arith}
+use Rattle.std.proofs.Common.{◌≡◌, ℕ, zero, suc, ◌<◌, ◌≤◌, List, [], ◌∷◌, ◌++◌, length, Bool, true, false, ◌&&◌, ◌||◌, nat_lt, Option, Some, None}
+use Rattle.std.proofs.Common.{refl, sym, ap, ◌∙◌, subst, arith}
 use Rattle.std.specs.Prelude.{is_some, if◌then◌else◌}
-use Rattle.std.specs.Cmp.Lexicographic.{slice_cmp}
-use Rattle.std.specs.Ordering.{match_ordering}
 use Rattle.std.proofs.lemmas.Bool.{and_parts, ltb-true, ltb-false, lt-ltb, le-ltb, false≢true}
 use Rattle.base_laws.proofs.Booleans.{and_true}
 use Rattle.json.specs.Token.{Token}
 use Rattle.json.specs.Json.{parse_map}
-use Rattle.serde_json.specs.Data.{Data, null, array, Items, no_items, item, Members, no_members, member, put}
+use Rattle.serde_json.specs.Data.{Data, null, array, Items, no_items, item}
 use Rattle.serde_json.specs.Events.{items_len}
 use Rattle.serde_json.specs.Find.{as_str}
 use Rattle.serde_json.specs.View.{view, items_view}
 use Rattle.serde_json.specs.declared.value.Value.{Value}
 use Rattle.serde_json.proofs.Views.{items_len-items_view}
 use Rattle.cert_json.specs.Shape.{are_texts, is_node, are_nodes}
-use Rattle.cert_json.specs.Trim.{first_items, short_items, short_list, trim, trim_items, trim_members}
+use Rattle.cert_json.specs.Trim.{first_items, short_items, short_list, trim, trim_items}
+use Rattle.cert_json.specs.declared.level.Level.{Level}
 use Rattle.cert_json.specs.Lists.{join_items, add_item, add_below, most_items, IsShort, settled}
 use Rattle.cert_json.specs.declared.short_list.ShortList.{ShortList}
 use Rattle.cert_json.proofs.TrimLaws.{node_no_text, text_no_node}
@@ -43,18 +42,9 @@ pub items_view-push : (vs : List Value) (v : Value) → items_view (vs ++ v ∷ 
 items_view-push [] v = refl
 items_view-push (w ∷ vs) v = ap (item (view w)) (items_view-push vs v)
 
-pub trim-add_item : (ds : Items) (d : Data) → trim_items (add_item ds d) ≡ add_item (trim_items ds) (trim d)
-trim-add_item no_items d = refl
-trim-add_item (item e ds) d = ap (item (trim e)) (trim-add_item ds d)
-
-trim-choice : (o : Ordering) (a b c : Members) → trim_members (match_ordering o a b c) ≡ match_ordering o (trim_members a) (trim_members b) (trim_members c)
-trim-choice Less a b c = refl
-trim-choice Equal a b c = refl
-trim-choice Greater a b c = refl
-
-pub trim-put : (k : List ℕ) (d : Data) (ms : Members) → trim_members (put k d ms) ≡ put k (trim d) (trim_members ms)
-trim-put k d no_members = refl
-trim-put k d (member l e ms) = trim-choice (slice_cmp nat_cmp k l) (member k d (member l e ms)) (member l d ms) (member l e (put k d ms)) ∙ rw (trim-put k d ms)
+pub trim-add_item : (v : Level) (ds : Items) (d : Data) → trim_items v (add_item ds d) ≡ add_item (trim_items v ds) (trim v d)
+trim-add_item v no_items d = refl
+trim-add_item v (item e ds) d = ap (item (trim v e)) (trim-add_item v ds d)
 
 -- ---- texts and nodes behind others
 
@@ -139,9 +129,9 @@ none_below vs v most h = rw (le-ltb (items_len (items_view vs)) most (omega (ari
 
 -- ---- a list of which nothing is kept, and whatever follows
 
-pub trim-join_items : (ds rest : Items) → trim_items (join_items ds rest) ≡ join_items (trim_items ds) (trim_items rest)
-trim-join_items no_items rest = refl
-trim-join_items (item d ds) rest = ap (item (trim d)) (trim-join_items ds rest)
+pub trim-join_items : (v : Level) (ds rest : Items) → trim_items v (join_items ds rest) ≡ join_items (trim_items v ds) (trim_items v rest)
+trim-join_items v no_items rest = refl
+trim-join_items v (item d ds) rest = ap (item (trim v d)) (trim-join_items v ds rest)
 
 still_false : (a b c : Bool) → (b ≡ false → c ≡ false) → (a && b) ≡ false → (a && c) ≡ false
 still_false true b c f e = f e

@@ -4,16 +4,18 @@ use Rattle.std.proofs.Common.{Greater, nat_cmp, refl, sym, ap, ap₂, ◌∙◌,
 use Rattle.std.specs.Prelude.{option_and_then, is_some, codes, if◌then◌else◌}
 use Rattle.std.specs.Cmp.Lexicographic.{slice_cmp}
 use Rattle.std.specs.Ordering.{match_ordering}
-use Rattle.std.proofs.lemmas.Bool.{and_parts, ltb-true, ltb-false, lt-ltb}
+use Rattle.std.proofs.lemmas.Bool.{and_parts, ltb-true, ltb-false, lt-ltb, le-ltb, eqb-true, ne_eqb, false≢true}
 use Rattle.serde_json.specs.Data.{Num, Data, null, boolean, number, string, array, object, Items, no_items, item, Members, no_members, member}
 use Rattle.serde_json.specs.Events.{items_len, members_len}
 use Rattle.serde_json.specs.Find.{get, get_member, as_number, as_str, as_array, as_object, as_u64}
 use Rattle.cert_json.specs.Shape.{member_count_of, has_members, are_texts, name_texts, is_list_of_texts, is_map_of_texts, is_mode, is_within, whole_number_in}
 use Rattle.cert_json.specs.Shape.{is_node, are_nodes, is_list_of_nodes, is_format, is_file, has_more, has_many_conditions, some_has_many, some_of_file_has_many}
 use Rattle.cert_json.specs.Shape.{has_too_many}
-use Rattle.cert_json.specs.Trim.{first_items, short_items, short_list, trim, trim_items, trim_members}
+use Rattle.cert_json.specs.Trim.{first_items, short_items, short_list, below, exceeds, short_object, trim, trim_items, trim_members}
+use Rattle.cert_json.specs.declared.level.Level.{Level}
+use Rattle.cert_json.specs.declared.level.Level.TheVariants.{File, FileMember, Node, NodeMember, Deeper}
 
--- ---- what a list never is
+-- ---- what a list or an object never is
 
 not_text : (b : Bool) (ds : Items) → as_str (if b then array ds else null) ≡ None
 not_text true ds = refl
@@ -27,66 +29,83 @@ not_object : (b : Bool) (ds : Items) → as_object (if b then array ds else null
 not_object true ds = refl
 not_object false ds = refl
 
-has_none : (k : List ℕ) (b : Bool) (ds : Items) → get k (if b then array ds else null) ≡ None
-has_none k true ds = refl
-has_none k false ds = refl
+not_node : (b : Bool) (ds : Items) → is_node (if b then array ds else null) ≡ false
+not_node true ds = refl
+not_node false ds = refl
+
+not_file : (b : Bool) (ds : Items) → is_file (if b then array ds else null) ≡ false
+not_file true ds = refl
+not_file false ds = refl
+
+object_no_text : (b : Bool) (ms : Members) → as_str (if b then null else object ms) ≡ None
+object_no_text true ms = refl
+object_no_text false ms = refl
+
+object_no_number : (b : Bool) (ms : Members) → as_number (if b then null else object ms) ≡ None
+object_no_number true ms = refl
+object_no_number false ms = refl
+
+object_no_list : (b : Bool) (ms : Members) → as_array (if b then null else object ms) ≡ None
+object_no_list true ms = refl
+object_no_list false ms = refl
+
+-- ---- an object that is kept, and one that has a name too many
+
+if_false : (b : Bool) (ms : Members) → b ≡ false → (if b then null else object ms) ≡ object ms
+if_false true ms e = absurd (false≢true (sym e))
+if_false false ms e = refl
+
+if_true : (b : Bool) (ms : Members) → b ≡ true → (if b then null else object ms) ≡ null
+if_true true ms e = refl
+if_true false ms e = absurd (false≢true e)
+
+pub few_names : (v : Level) (ms : Members) → exceeds v (members_len ms) ≡ false → short_object v ms ≡ object ms
+few_names v ms e = if_false (exceeds v (members_len ms)) ms e
+
+pub many_names : (v : Level) (ms : Members) → exceeds v (members_len ms) ≡ true → short_object v ms ≡ null
+many_names v ms e = if_true (exceeds v (members_len ms)) ms e
 
 -- ---- texts, numbers and members stay
 
-trim-text : (d : Data) → as_str (trim d) ≡ as_str d
-trim-text null = refl
-trim-text (boolean b) = refl
-trim-text (number n) = refl
-trim-text (string s) = refl
-trim-text (array ds) = not_text (are_texts (trim_items ds) || are_nodes (trim_items ds)) (short_items (trim_items ds))
-trim-text (object ms) = refl
+trim-text : (v : Level) (d : Data) → as_str (trim v d) ≡ as_str d
+trim-text v null = refl
+trim-text v (boolean b) = refl
+trim-text v (number n) = refl
+trim-text v (string s) = refl
+trim-text v (array ds) = let es = trim_items (below v) ds in not_text (are_texts es || are_nodes es) (short_items es)
+trim-text v (object ms) = let ns = trim_members (below v) ms in object_no_text (exceeds v (members_len ns)) ns
 
-trim-number : (d : Data) → as_number (trim d) ≡ as_number d
-trim-number null = refl
-trim-number (boolean b) = refl
-trim-number (number n) = refl
-trim-number (string s) = refl
-trim-number (array ds) = not_number (are_texts (trim_items ds) || are_nodes (trim_items ds)) (short_items (trim_items ds))
-trim-number (object ms) = refl
+trim-number : (v : Level) (d : Data) → as_number (trim v d) ≡ as_number d
+trim-number v null = refl
+trim-number v (boolean b) = refl
+trim-number v (number n) = refl
+trim-number v (string s) = refl
+trim-number v (array ds) = let es = trim_items (below v) ds in not_number (are_texts es || are_nodes es) (short_items es)
+trim-number v (object ms) = let ns = trim_members (below v) ms in object_no_number (exceeds v (members_len ns)) ns
 
-trim-members_len : (ms : Members) → members_len (trim_members ms) ≡ members_len ms
-trim-members_len no_members = refl
-trim-members_len (member k d ms) = ap (λ n. suc n) (trim-members_len ms)
+pub trim-members_len : (v : Level) (ms : Members) → members_len (trim_members v ms) ≡ members_len ms
+trim-members_len v no_members = refl
+trim-members_len v (member k d ms) = ap (λ n. suc n) (trim-members_len v ms)
 
-trim-count : (d : Data) → member_count_of (as_object (trim d)) ≡ member_count_of (as_object d)
-trim-count null = refl
-trim-count (boolean b) = refl
-trim-count (number n) = refl
-trim-count (string s) = refl
-trim-count (array ds) = ap member_count_of (not_object (are_texts (trim_items ds) || are_nodes (trim_items ds)) (short_items (trim_items ds)))
-trim-count (object ms) = trim-members_len ms
+module _ (v : Level) where
+  chosen : (o : Ordering) (a : Option Data) (d : Data)
+      → match_ordering o (option_map (trim v) a) (Some (trim v d)) (option_map (trim v) a) ≡ option_map (trim v) (match_ordering o a (Some d) a)
+  chosen Less a d = refl
+  chosen Equal a d = refl
+  chosen Greater a d = refl
 
-chosen : (o : Ordering) (a : Option Data) (d : Data)
-    → match_ordering o (option_map trim a) (Some (trim d)) (option_map trim a) ≡ option_map trim (match_ordering o a (Some d) a)
-chosen Less a d = refl
-chosen Equal a d = refl
-chosen Greater a d = refl
+  trim-get_member : (k : List ℕ) (ms : Members) → get_member k (trim_members v ms) ≡ option_map (trim v) (get_member k ms)
+  trim-get_member k no_members = refl
+  trim-get_member k (member l d ms) = ap (λ a. match_ordering (slice_cmp nat_cmp k l) a (Some (trim v d)) a) (trim-get_member k ms)
+      ∙ chosen (slice_cmp nat_cmp k l) (get_member k ms) d
 
-trim-get_member : (k : List ℕ) (ms : Members) → get_member k (trim_members ms) ≡ option_map trim (get_member k ms)
-trim-get_member k no_members = refl
-trim-get_member k (member l d ms) = ap (λ a. match_ordering (slice_cmp nat_cmp k l) a (Some (trim d)) a) (trim-get_member k ms)
-    ∙ chosen (slice_cmp nat_cmp k l) (get_member k ms) d
+  text_under : (o : Option Data) → option_and_then as_str (option_map (trim v) o) ≡ option_and_then as_str o
+  text_under None = refl
+  text_under (Some d) = trim-text v d
 
-trim-get : (k : List ℕ) (d : Data) → get k (trim d) ≡ option_map trim (get k d)
-trim-get k null = refl
-trim-get k (boolean b) = refl
-trim-get k (number n) = refl
-trim-get k (string s) = refl
-trim-get k (array ds) = has_none k (are_texts (trim_items ds) || are_nodes (trim_items ds)) (short_items (trim_items ds))
-trim-get k (object ms) = trim-get_member k ms
-
-text_under : (o : Option Data) → option_and_then as_str (option_map trim o) ≡ option_and_then as_str o
-text_under None = refl
-text_under (Some d) = trim-text d
-
-number_under : (o : Option Data) → option_and_then as_number (option_map trim o) ≡ option_and_then as_number o
-number_under None = refl
-number_under (Some d) = trim-number d
+  number_under : (o : Option Data) → option_and_then as_number (option_map (trim v) o) ≡ option_and_then as_number o
+  number_under None = refl
+  number_under (Some d) = trim-number v d
 
 -- ---- first items
 
@@ -110,9 +129,9 @@ more_at n ds false e = ap (λ es. nat_lt n (items_len es)) (first_all (suc n) ds
 more : (n : ℕ) (ds : Items) → nat_lt n (items_len (first_items (suc n) ds)) ≡ nat_lt n (items_len ds)
 more n ds = more_at n ds (nat_lt n (items_len ds)) refl
 
-trim-items_len : (ds : Items) → items_len (trim_items ds) ≡ items_len ds
-trim-items_len no_items = refl
-trim-items_len (item d ds) = ap (λ n. suc n) (trim-items_len ds)
+trim-items_len : (v : Level) (ds : Items) → items_len (trim_items v ds) ≡ items_len ds
+trim-items_len v no_items = refl
+trim-items_len v (item d ds) = ap (λ n. suc n) (trim-items_len v ds)
 
 first_texts : (n : ℕ) (ds : Items) → are_texts ds ≡ true → are_texts (first_items n ds) ≡ true
 first_texts zero ds e = refl
@@ -162,31 +181,45 @@ short_nodes ds true n e f = rw e (texts_no_nodes 64 ds e ∙ f)
 short_nodes ds false true e f = rw (e, f) (first_nodes 4097 ds f)
 short_nodes ds false false e f = rw (e, f)
 
-pub trim-are_texts : (ds : Items) → are_texts (trim_items ds) ≡ are_texts ds
-trim-are_texts no_items = refl
-trim-are_texts (item d ds) = ap₂ (λ (s : Option (List ℕ)) (b : Bool). is_some s && b) (trim-text d) (trim-are_texts ds)
+pub trim-are_texts : (v : Level) (ds : Items) → are_texts (trim_items v ds) ≡ are_texts ds
+trim-are_texts v no_items = refl
+trim-are_texts v (item d ds) = ap₂ (λ (s : Option (List ℕ)) (b : Bool). is_some s && b) (trim-text v d) (trim-are_texts v ds)
 
-texts_under : (o : Option Data) → is_list_of_texts (option_and_then as_array (option_map trim o)) ≡ is_list_of_texts (option_and_then as_array o)
+texts_under : (o : Option Data) → is_list_of_texts (option_and_then as_array (option_map (trim NodeMember) o)) ≡ is_list_of_texts (option_and_then as_array o)
 texts_under None = refl
 texts_under (Some null) = refl
 texts_under (Some (boolean b)) = refl
 texts_under (Some (number n)) = refl
 texts_under (Some (string s)) = refl
-texts_under (Some (array ds)) = short_texts (trim_items ds) (are_texts (trim_items ds)) (are_nodes (trim_items ds)) refl refl ∙ trim-are_texts ds
+texts_under (Some (array ds)) =
+    let es = trim_items Deeper ds in short_texts es (are_texts es) (are_nodes es) refl refl ∙ trim-are_texts Deeper ds
 texts_under (Some (object ms)) = refl
 
-trim-name_texts : (ms : Members) → name_texts (trim_members ms) ≡ name_texts ms
-trim-name_texts no_members = refl
-trim-name_texts (member k d ms) = ap₂ (λ (s : Option (List ℕ)) (b : Bool). is_some s && b) (trim-text d) (trim-name_texts ms)
+trim-name_texts : (v : Level) (ms : Members) → name_texts (trim_members v ms) ≡ name_texts ms
+trim-name_texts v no_members = refl
+trim-name_texts v (member k d ms) = ap₂ (λ (s : Option (List ℕ)) (b : Bool). is_some s && b) (trim-text v d) (trim-name_texts v ms)
 
-names_under : (o : Option Data) → is_map_of_texts (option_and_then as_object (option_map trim o)) ≡ is_map_of_texts (option_and_then as_object o)
+names_under : (o : Option Data) → is_map_of_texts (option_and_then as_object (option_map (trim NodeMember) o)) ≡ is_map_of_texts (option_and_then as_object o)
 names_under None = refl
 names_under (Some null) = refl
 names_under (Some (boolean b)) = refl
 names_under (Some (number n)) = refl
 names_under (Some (string s)) = refl
-names_under (Some (array ds)) = ap is_map_of_texts (not_object (are_texts (trim_items ds) || are_nodes (trim_items ds)) (short_items (trim_items ds)))
-names_under (Some (object ms)) = trim-name_texts ms
+names_under (Some (array ds)) =
+    let es = trim_items Deeper ds in ap is_map_of_texts (not_object (are_texts es || are_nodes es) (short_items es))
+names_under (Some (object ms)) = trim-name_texts Deeper ms
+
+-- ---- objects
+
+-- a test that null does not pass, nor an object with one name too many
+object_if : (test : Data → Bool) (b : Bool) (ms ns : Members) → test null ≡ false → test (object ns) ≡ test (object ms)
+    → (b ≡ true → test (object ms) ≡ false)
+    → test (if b then null else object ns) ≡ test (object ms)
+object_if test true ms ns none same many = none ∙ sym (many refl)
+object_if test false ms ns none same many = same
+
+not_so_many : (n limit : ℕ) → nat_lt limit n ≡ true → (n == limit) ≡ false
+not_so_many n limit e = ne_eqb n limit (λ z. omega (arith, z, ltb-true limit n e))
 
 -- ---- nodes
 
@@ -194,42 +227,60 @@ abbrev node_by : ℕ → Bool → Bool → Option (List ℕ) → Option (List �
 node_by n conds equations left mode rank right =
     n == 6 && conds && equations && is_some left && is_mode mode && is_within 4096 (option_and_then as_u64 rank) && is_some right
 
-module _ (d : Data) where
-  trim-texts_at : (k : List ℕ) → is_list_of_texts (option_and_then as_array (get k (trim d))) ≡ is_list_of_texts (option_and_then as_array (get k d))
-  trim-texts_at k = ap (λ o. is_list_of_texts (option_and_then as_array o)) (trim-get k d) ∙ texts_under (get k d)
+module _ (ms : Members) (k : List ℕ) where
+  trim-texts_at : is_list_of_texts (option_and_then as_array (get_member k (trim_members NodeMember ms)))
+      ≡ is_list_of_texts (option_and_then as_array (get_member k ms))
+  trim-texts_at = ap (λ o. is_list_of_texts (option_and_then as_array o)) (trim-get_member NodeMember k ms) ∙ texts_under (get_member k ms)
 
-  trim-names_at : (k : List ℕ) → is_map_of_texts (option_and_then as_object (get k (trim d))) ≡ is_map_of_texts (option_and_then as_object (get k d))
-  trim-names_at k = ap (λ o. is_map_of_texts (option_and_then as_object o)) (trim-get k d) ∙ names_under (get k d)
+  trim-names_at : is_map_of_texts (option_and_then as_object (get_member k (trim_members NodeMember ms)))
+      ≡ is_map_of_texts (option_and_then as_object (get_member k ms))
+  trim-names_at = ap (λ o. is_map_of_texts (option_and_then as_object o)) (trim-get_member NodeMember k ms) ∙ names_under (get_member k ms)
 
-  trim-text_at : (k : List ℕ) → option_and_then as_str (get k (trim d)) ≡ option_and_then as_str (get k d)
-  trim-text_at k = ap (option_and_then as_str) (trim-get k d) ∙ text_under (get k d)
+  trim-text_at : option_and_then as_str (get_member k (trim_members NodeMember ms)) ≡ option_and_then as_str (get_member k ms)
+  trim-text_at = ap (option_and_then as_str) (trim-get_member NodeMember k ms) ∙ text_under NodeMember (get_member k ms)
 
-  trim-number_at : (k : List ℕ) → option_and_then as_number (get k (trim d)) ≡ option_and_then as_number (get k d)
-  trim-number_at k = ap (option_and_then as_number) (trim-get k d) ∙ number_under (get k d)
+  trim-number_at : (v : Level) → option_and_then as_number (get_member k (trim_members v ms)) ≡ option_and_then as_number (get_member k ms)
+  trim-number_at v = ap (option_and_then as_number) (trim-get_member v k ms) ∙ number_under v (get_member k ms)
 
 same_node : (n m : ℕ) (a b : Bool) (e f : Bool) (k l : Option (List ℕ)) (o p : Option (List ℕ)) (r s : Option Num) (u v : Option (List ℕ)) → n ≡ m → a ≡ b
     → e ≡ f → k ≡ l → o ≡ p → r ≡ s → u ≡ v
     → node_by n a e k o r u ≡ node_by m b f l p s v
 same_node n m a b e f k l o p r s u v h0 h1 h2 h3 h4 h5 h6 = rw (h0, h1, h2, h3, h4, h5, h6)
 
-trim-is_node : (d : Data) → is_node (trim d) ≡ is_node d
-trim-is_node d =
-    same_node _ _ _ _ _ _ _ _ _ _ _ _ _ _ (trim-count d) (trim-texts_at d (codes "conds")) (trim-names_at d (codes "equations")) (trim-text_at d (codes "left"))
-    (trim-text_at d (codes "mode"))
-    (trim-number_at d (codes "rank")) (trim-text_at d (codes "right"))
+node_members : (ms : Members) → is_node (object (trim_members NodeMember ms)) ≡ is_node (object ms)
+node_members ms =
+    same_node _ _ _ _ _ _ _ _ _ _ _ _ _ _ (trim-members_len NodeMember ms) (trim-texts_at ms (codes "conds")) (trim-names_at ms (codes "equations"))
+    (trim-text_at ms (codes "left"))
+    (trim-text_at ms (codes "mode"))
+    (trim-number_at ms (codes "rank") NodeMember) (trim-text_at ms (codes "right"))
 
-trim-are_nodes : (ds : Items) → are_nodes (trim_items ds) ≡ are_nodes ds
+many_no_node : (ms : Members) → exceeds Node (members_len (trim_members NodeMember ms)) ≡ true → is_node (object ms) ≡ false
+many_no_node ms e =
+    let apart : (members_len ms == 6) ≡ false = not_so_many (members_len ms) 6 (ap (λ n. nat_lt 6 n) (sym (trim-members_len NodeMember ms)) ∙ e) in
+    rw apart
+
+trim-is_node : (d : Data) → is_node (trim Node d) ≡ is_node d
+trim-is_node null = refl
+trim-is_node (boolean b) = refl
+trim-is_node (number n) = refl
+trim-is_node (string s) = refl
+trim-is_node (array ds) = let es = trim_items NodeMember ds in not_node (are_texts es || are_nodes es) (short_items es)
+trim-is_node (object ms) =
+    let ns = trim_members NodeMember ms in
+    object_if is_node (exceeds Node (members_len ns)) ms ns refl (node_members ms) (many_no_node ms)
+
+trim-are_nodes : (ds : Items) → are_nodes (trim_items Node ds) ≡ are_nodes ds
 trim-are_nodes no_items = refl
 trim-are_nodes (item d ds) = ap₂ (λ a b. a && b) (trim-is_node d) (trim-are_nodes ds)
 
-nodes_under : (o : Option Data) → is_list_of_nodes (option_and_then as_array (option_map trim o)) ≡ is_list_of_nodes (option_and_then as_array o)
+nodes_under : (o : Option Data) → is_list_of_nodes (option_and_then as_array (option_map (trim FileMember) o)) ≡ is_list_of_nodes (option_and_then as_array o)
 nodes_under None = refl
 nodes_under (Some null) = refl
 nodes_under (Some (boolean b)) = refl
 nodes_under (Some (number n)) = refl
 nodes_under (Some (string s)) = refl
-nodes_under (Some (array ds)) = short_nodes (trim_items ds) (are_texts (trim_items ds)) (are_nodes (trim_items ds)) refl refl ∙ trim-are_nodes ds
-nodes_under (Some (object ms)) = refl
+nodes_under (Some (array ds)) = let es = trim_items Node ds in short_nodes es (are_texts es) (are_nodes es) refl refl ∙ trim-are_nodes ds
+nodes_under (Some (object ms)) = let ns = trim_members Node ms in ap is_list_of_nodes (object_no_list (exceeds FileMember (members_len ns)) ns)
 
 -- ---- files
 
@@ -239,10 +290,52 @@ file_by n format nodes = n == 2 && is_format (option_and_then as_u64 format) && 
 same_file : (n m : ℕ) (r s : Option Num) (a b : Bool) → n ≡ m → r ≡ s → a ≡ b → file_by n r a ≡ file_by m s b
 same_file n m r s a b h0 h1 h2 = rw (h0, h1, h2)
 
-pub trim-is_file : (d : Data) → is_file (trim d) ≡ is_file d
-trim-is_file d =
-    same_file _ _ _ _ _ _ (trim-count d) (trim-number_at d (codes "format"))
-    (ap (λ o. is_list_of_nodes (option_and_then as_array o)) (trim-get (codes "nodes") d) ∙ nodes_under (get (codes "nodes") d))
+file_members : (ms : Members) → is_file (object (trim_members FileMember ms)) ≡ is_file (object ms)
+file_members ms =
+    same_file _ _ _ _ _ _ (trim-members_len FileMember ms) (trim-number_at ms (codes "format") FileMember)
+    (ap (λ o. is_list_of_nodes (option_and_then as_array o)) (trim-get_member FileMember (codes "nodes") ms) ∙ nodes_under (get_member (codes "nodes") ms))
+
+many_no_file : (ms : Members) → exceeds File (members_len (trim_members FileMember ms)) ≡ true → is_file (object ms) ≡ false
+many_no_file ms e =
+    let apart : (members_len ms == 2) ≡ false = not_so_many (members_len ms) 2 (ap (λ n. nat_lt 2 n) (sym (trim-members_len FileMember ms)) ∙ e) in
+    rw apart
+
+pub trim-is_file : (d : Data) → is_file (trim File d) ≡ is_file d
+trim-is_file null = refl
+trim-is_file (boolean b) = refl
+trim-is_file (number n) = refl
+trim-is_file (string s) = refl
+trim-is_file (array ds) = let es = trim_items FileMember ds in not_file (are_texts es || are_nodes es) (short_items es)
+trim-is_file (object ms) =
+    let ns = trim_members FileMember ms in
+    object_if is_file (exceeds File (members_len ns)) ms ns refl (file_members ms) (many_no_file ms)
+
+-- ---- a node and a file have few names
+
+names_of_node : (a b c d e f g : Bool) → (a && b && c && d && e && f && g) ≡ true → a ≡ true
+names_of_node true b c d e f g h = refl
+names_of_node false b c d e f g h = absurd (cc h)
+
+pub few_in_node : (ms : Members) → is_node (object ms) ≡ true → exceeds Node (members_len ms) ≡ false
+few_in_node ms e =
+    let six : members_len ms ≡ 6 = eqb-true (members_len ms) 6 (names_of_node _ _ _ _ _ _ _ e) in
+    le-ltb 6 (members_len ms) (omega (arith, six))
+
+names_of_file : (a b c : Bool) → (a && b && c) ≡ true → a ≡ true
+names_of_file true b c h = refl
+names_of_file false b c h = absurd (cc h)
+
+pub few_in_file : (ms : Members) → is_file (object ms) ≡ true → exceeds File (members_len ms) ≡ false
+few_in_file ms e =
+    let two : members_len ms ≡ 2 = eqb-true (members_len ms) 2 (names_of_file _ _ _ e) in
+    le-ltb 2 (members_len ms) (omega (arith, two))
+
+-- the names of a node or of a file stay
+kept_node : (ms : Members) → is_node (object ms) ≡ true → trim Node (object ms) ≡ object (trim_members NodeMember ms)
+kept_node ms e = few_names Node (trim_members NodeMember ms) (ap (exceeds Node) (trim-members_len NodeMember ms) ∙ few_in_node ms e)
+
+kept_file : (ms : Members) → is_file (object ms) ≡ true → trim File (object ms) ≡ object (trim_members FileMember ms)
+kept_file ms e = few_names File (trim_members FileMember ms) (ap (exceeds File) (trim-members_len FileMember ms) ∙ few_in_file ms e)
 
 -- ---- too many nodes or conditions
 
@@ -250,13 +343,14 @@ short_more : (ds : Items) → are_texts ds ≡ true → has_more 64 (as_array (s
 short_more ds e = rw e (more 64 ds)
 
 conds_under : (o : Option Data) → is_list_of_texts (option_and_then as_array o) ≡ true
-    → has_more 64 (option_and_then as_array (option_map trim o)) ≡ has_more 64 (option_and_then as_array o)
+    → has_more 64 (option_and_then as_array (option_map (trim NodeMember) o)) ≡ has_more 64 (option_and_then as_array o)
 conds_under None e = refl
 conds_under (Some null) e = refl
 conds_under (Some (boolean b)) e = refl
 conds_under (Some (number n)) e = refl
 conds_under (Some (string s)) e = refl
-conds_under (Some (array ds)) e = short_more (trim_items ds) (trim-are_texts ds ∙ e) ∙ ap (λ n. nat_lt 64 n) (trim-items_len ds)
+conds_under (Some (array ds)) e =
+    short_more (trim_items Deeper ds) (trim-are_texts Deeper ds ∙ e) ∙ ap (λ n. nat_lt 64 n) (trim-items_len Deeper ds)
 conds_under (Some (object ms)) e = refl
 
 conds_of : (a b c d e f g : Bool) → (a && b && c && d && e && f && g) ≡ true → b ≡ true
@@ -264,12 +358,19 @@ conds_of a true c d e f g h = refl
 conds_of true false c d e f g h = absurd (cc h)
 conds_of false false c d e f g h = absurd (cc h)
 
-trim-conditions : (d : Data) → is_node d ≡ true → has_many_conditions (trim d) ≡ has_many_conditions d
-trim-conditions d e =
-    let texts : is_list_of_texts (option_and_then as_array (get (codes "conds") d)) ≡ true = conds_of _ _ _ _ _ _ _ e in
-    ap (λ o. has_more 64 (option_and_then as_array o)) (trim-get (codes "conds") d) ∙ conds_under (get (codes "conds") d) texts
+trim-conditions : (d : Data) → is_node d ≡ true → has_many_conditions (trim Node d) ≡ has_many_conditions d
+trim-conditions null e = refl
+trim-conditions (boolean b) e = refl
+trim-conditions (number n) e = refl
+trim-conditions (string s) e = refl
+trim-conditions (array ds) e = absurd (false≢true e)
+trim-conditions (object ms) e =
+    let conds : Option Data = get_member (codes "conds") ms in
+    let texts : is_list_of_texts (option_and_then as_array conds) ≡ true = conds_of _ _ _ _ _ _ _ e in
+    ap has_many_conditions (kept_node ms e)
+    ∙ ap (λ o. has_more 64 (option_and_then as_array o)) (trim-get_member NodeMember (codes "conds") ms) ∙ conds_under conds texts
 
-trim-some_has_many : (ds : Items) → are_nodes ds ≡ true → some_has_many (trim_items ds) ≡ some_has_many ds
+trim-some_has_many : (ds : Items) → are_nodes ds ≡ true → some_has_many (trim_items Node ds) ≡ some_has_many ds
 trim-some_has_many no_items e = refl
 trim-some_has_many (item d ds) e =
     let p = and_parts (is_node d) (are_nodes ds) e in
@@ -293,19 +394,26 @@ short_too_many (item d ds) b e f =
     rw (apart, f) (first_too_many (item d ds) (nat_lt 4096 (items_len (item d ds))) refl)
 
 too_many_under : (o : Option Data) → is_list_of_nodes (option_and_then as_array o) ≡ true
-    → too_many_in (option_and_then as_array (option_map trim o)) ≡ too_many_in (option_and_then as_array o)
+    → too_many_in (option_and_then as_array (option_map (trim FileMember) o)) ≡ too_many_in (option_and_then as_array o)
 too_many_under None e = refl
 too_many_under (Some null) e = refl
 too_many_under (Some (boolean b)) e = refl
 too_many_under (Some (number n)) e = refl
 too_many_under (Some (string s)) e = refl
 too_many_under (Some (array ds)) e =
-    short_too_many (trim_items ds) (are_texts (trim_items ds)) refl (trim-are_nodes ds ∙ e)
-    ∙ ap₂ (λ n b. nat_lt 4096 n || b) (trim-items_len ds) (trim-some_has_many ds e)
-too_many_under (Some (object ms)) e = refl
+    short_too_many (trim_items Node ds) (are_texts (trim_items Node ds)) refl (trim-are_nodes ds ∙ e)
+    ∙ ap₂ (λ n b. nat_lt 4096 n || b) (trim-items_len Node ds) (trim-some_has_many ds e)
+too_many_under (Some (object ms)) e = absurd (false≢true e)
 
-pub trim-has_too_many : (d : Data) → is_file d ≡ true → has_too_many (trim d) ≡ has_too_many d
-trim-has_too_many d e =
-    let nodes : Option Data = get (codes "nodes") d in
-    let p = and_parts (has_members 2 d && is_format (whole_number_in (get (codes "format") d))) (is_list_of_nodes (option_and_then as_array nodes)) e in
-    ap (λ o. too_many_in (option_and_then as_array o)) (trim-get (codes "nodes") d) ∙ too_many_under nodes p.1
+pub trim-has_too_many : (d : Data) → is_file d ≡ true → has_too_many (trim File d) ≡ has_too_many d
+trim-has_too_many null e = refl
+trim-has_too_many (boolean b) e = refl
+trim-has_too_many (number n) e = refl
+trim-has_too_many (string s) e = refl
+trim-has_too_many (array ds) e = absurd (false≢true e)
+trim-has_too_many (object ms) e =
+    let nodes : Option Data = get_member (codes "nodes") ms in
+    let p = and_parts (has_members 2 (object ms) && is_format (whole_number_in (get_member (codes "format") ms)))
+    (is_list_of_nodes (option_and_then as_array nodes)) e in
+    ap has_too_many (kept_file ms e)
+    ∙ ap (λ o. too_many_in (option_and_then as_array o)) (trim-get_member FileMember (codes "nodes") ms) ∙ too_many_under nodes p.1

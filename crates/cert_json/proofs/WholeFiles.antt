@@ -12,8 +12,10 @@ use Rattle.serde_json.specs.Find.{get_member, as_array, as_object}
 use Rattle.cert_json.specs.Shape.{are_texts, name_texts, is_text, is_list_of_texts, is_map_of_texts, is_mode, is_within, whole_number_in}
 use Rattle.cert_json.specs.Shape.{is_node, are_nodes, is_list_of_nodes, is_format, is_file, has_more, has_many_conditions, some_has_many, some_of_file_has_many}
 use Rattle.cert_json.specs.Shape.{has_too_many}
-use Rattle.cert_json.specs.Trim.{short_list, trim, trim_items, trim_members}
-use Rattle.cert_json.proofs.TrimLaws.{first_all}
+use Rattle.cert_json.specs.Trim.{short_list, short_object, trim, trim_items, trim_members}
+use Rattle.cert_json.specs.declared.level.Level.{Level}
+use Rattle.cert_json.specs.declared.level.Level.TheVariants.{File, FileMember, Node, NodeMember, Deeper}
+use Rattle.cert_json.proofs.TrimLaws.{first_all, few_names, few_in_node, few_in_file}
 use Rattle.cert_json.proofs.ListLaws.{none_are}
 
 -- ---- members, without the first one of a name
@@ -38,20 +40,20 @@ first_in e no_members = e
 first_in e (member k d ms) = d
 
 -- trimming keeps the members, where it keeps one of them and the others
-module _ (k : List ℕ) (d : Data) (same : trim d ≡ d) where
+module _ (v : Level) (k : List ℕ) (d : Data) (same : trim v d ≡ d) where
   kept_at : (l : List ℕ) (e : Data) (ms : Members) (o : Ordering)
-      → (get_member k ms ≡ Some d → trim_members (without k ms) ≡ without k ms → trim_members ms ≡ ms)
+      → (get_member k ms ≡ Some d → trim_members v (without k ms) ≡ without k ms → trim_members v ms ≡ ms)
       → match_ordering o (get_member k ms) (Some e) (get_member k ms) ≡ Some d
-      → trim_members (match_ordering o (member l e (without k ms)) ms (member l e (without k ms)))
+      → trim_members v (match_ordering o (member l e (without k ms)) ms (member l e (without k ms)))
       ≡ match_ordering o (member l e (without k ms)) ms (member l e (without k ms))
-      → trim_members (member l e ms) ≡ member l e ms
+      → trim_members v (member l e ms) ≡ member l e ms
   kept_at l e ms Less more found others = ap₂ (member l) (ap (first_in e) others) (more found (ap rest_in others))
   kept_at l e ms Equal more found others =
       let is : e ≡ d = ap (value_in e) found in
-      ap₂ (member l) (ap trim is ∙ same ∙ sym is) others
+      ap₂ (member l) (ap (trim v) is ∙ same ∙ sym is) others
   kept_at l e ms Greater more found others = ap₂ (member l) (ap (first_in e) others) (more found (ap rest_in others))
 
-  kept : (ms : Members) → get_member k ms ≡ Some d → trim_members (without k ms) ≡ without k ms → trim_members ms ≡ ms
+  kept : (ms : Members) → get_member k ms ≡ Some d → trim_members v (without k ms) ≡ without k ms → trim_members v ms ≡ ms
   kept no_members found others = not_none d found
   kept (member l e ms) found others = kept_at l e ms (slice_cmp nat_cmp k l) (kept ms) found others
 
@@ -96,72 +98,72 @@ abbrev all_apart : List (List ℕ) → Bool
 all_apart [] = true
 all_apart (k ∷ ks) = apart_from k ks && all_apart ks
 
-record IsKept (o : Option Data) : Type 0 where
+record IsKept (v : Level) (o : Option Data) : Type 0 where
   value : Data
   found : o ≡ Some value
-  same : trim value ≡ value
+  same : trim v value ≡ value
 
-abbrev AreKept : List (List ℕ) → Members → Type 0
-AreKept [] ms = ⊤
-AreKept (k ∷ ks) ms = IsKept (get_member k ms) × AreKept ks ms
+abbrev AreKept : Level → List (List ℕ) → Members → Type 0
+AreKept v [] ms = ⊤
+AreKept v (k ∷ ks) ms = IsKept v (get_member k ms) × AreKept v ks ms
 
-all_stay : (k : List ℕ) (ks : List (List ℕ)) (ms : Members) → apart_from k ks ≡ true → AreKept ks ms → AreKept ks (without k ms)
-all_stay k [] ms a h = tt
-all_stay k (j ∷ js) ms a h =
+all_stay : (v : Level) (k : List ℕ) (ks : List (List ℕ)) (ms : Members) → apart_from k ks ≡ true → AreKept v ks ms → AreKept v ks (without k ms)
+all_stay v k [] ms a h = tt
+all_stay v k (j ∷ js) ms a h =
     let p = and_parts (not (is_eq (slice_cmp nat_cmp j k))) (apart_from k js) a in
-    (subst IsKept (sym (stays k j (not-true _ p.0) ms)) h.0, all_stay k js ms p.1 h.1)
+    (subst (IsKept v) (sym (stays k j (not-true _ p.0) ms)) h.0, all_stay v k js ms p.1 h.1)
 
-all_kept : (ks : List (List ℕ)) (ms : Members) → all_apart ks ≡ true → AreKept ks ms → members_len ms ≡ length ks → trim_members ms ≡ ms
-all_kept [] no_members a h e = refl
-all_kept [] (member k d ms) a h e = absurd (omega (arith, e))
-all_kept (k ∷ ks) ms a h e =
+all_kept : (v : Level) (ks : List (List ℕ)) (ms : Members) → all_apart ks ≡ true → AreKept v ks ms → members_len ms ≡ length ks → trim_members v ms ≡ ms
+all_kept v [] no_members a h e = refl
+all_kept v [] (member k d ms) a h e = absurd (omega (arith, e))
+all_kept v (k ∷ ks) ms a h e =
     let p = and_parts (apart_from k ks) (all_apart ks) a in
     let f = h.0 in
-    let less : suc (members_len (without k ms)) ≡ suc (length ks) = sym (fewer k f.value f.same ms f.found) ∙ e in
-    kept k f.value f.same ms f.found (all_kept ks (without k ms) p.1 (all_stay k ks ms p.0 h.1) (omega (arith, less)))
+    let less : suc (members_len (without k ms)) ≡ suc (length ks) = sym (fewer v k f.value f.same ms f.found) ∙ e in
+    kept v k f.value f.same ms f.found (all_kept v ks (without k ms) p.1 (all_stay v k ks ms p.0 h.1) (omega (arith, less)))
 
 -- ---- what stands in a node
 
-texts_same : (ds : Items) → are_texts ds ≡ true → trim_items ds ≡ ds
-texts_same no_items e = refl
-texts_same (item (string s) ds) e = ap (item (string s)) (texts_same ds e)
-texts_same (item null ds) e = absurd (false≢true e)
-texts_same (item (boolean b) ds) e = absurd (false≢true e)
-texts_same (item (number n) ds) e = absurd (false≢true e)
-texts_same (item (array es) ds) e = absurd (false≢true e)
-texts_same (item (object ms) ds) e = absurd (false≢true e)
+texts_same : (v : Level) (ds : Items) → are_texts ds ≡ true → trim_items v ds ≡ ds
+texts_same v no_items e = refl
+texts_same v (item (string s) ds) e = ap (item (string s)) (texts_same v ds e)
+texts_same v (item null ds) e = absurd (false≢true e)
+texts_same v (item (boolean b) ds) e = absurd (false≢true e)
+texts_same v (item (number n) ds) e = absurd (false≢true e)
+texts_same v (item (array es) ds) e = absurd (false≢true e)
+texts_same v (item (object ms) ds) e = absurd (false≢true e)
 
-names_same : (ms : Members) → name_texts ms ≡ true → trim_members ms ≡ ms
-names_same no_members e = refl
-names_same (member k (string s) ms) e = ap (member k (string s)) (names_same ms e)
-names_same (member k null ms) e = absurd (false≢true e)
-names_same (member k (boolean b) ms) e = absurd (false≢true e)
-names_same (member k (number n) ms) e = absurd (false≢true e)
-names_same (member k (array es) ms) e = absurd (false≢true e)
-names_same (member k (object es) ms) e = absurd (false≢true e)
+names_same : (v : Level) (ms : Members) → name_texts ms ≡ true → trim_members v ms ≡ ms
+names_same v no_members e = refl
+names_same v (member k (string s) ms) e = ap (member k (string s)) (names_same v ms e)
+names_same v (member k null ms) e = absurd (false≢true e)
+names_same v (member k (boolean b) ms) e = absurd (false≢true e)
+names_same v (member k (number n) ms) e = absurd (false≢true e)
+names_same v (member k (array es) ms) e = absurd (false≢true e)
+names_same v (member k (object es) ms) e = absurd (false≢true e)
 
 few_texts : (ds : Items) → are_texts ds ≡ true → nat_lt 64 (items_len ds) ≡ false → short_list ds ≡ array ds
 few_texts ds e few = rw e (ap array (first_all 65 ds (omega (arith, ltb-false 64 (items_len ds) few))))
 
-list_kept : (o : Option Data) → is_list_of_texts (option_and_then as_array o) ≡ true → has_more 64 (option_and_then as_array o) ≡ false → IsKept o
+list_kept : (o : Option Data) → is_list_of_texts (option_and_then as_array o) ≡ true → has_more 64 (option_and_then as_array o) ≡ false → IsKept NodeMember o
 list_kept None e few = absurd (false≢true e)
 list_kept (Some null) e few = absurd (false≢true e)
 list_kept (Some (boolean b)) e few = absurd (false≢true e)
 list_kept (Some (number n)) e few = absurd (false≢true e)
 list_kept (Some (string s)) e few = absurd (false≢true e)
-list_kept (Some (array ds)) e few = record { value = array ds; found = refl; same = ap short_list (texts_same ds e) ∙ few_texts ds e few }
+list_kept (Some (array ds)) e few = record { value = array ds; found = refl; same = ap short_list (texts_same Deeper ds e) ∙ few_texts ds e few }
 list_kept (Some (object ms)) e few = absurd (false≢true e)
 
-map_kept : (o : Option Data) → is_map_of_texts (option_and_then as_object o) ≡ true → IsKept o
+map_kept : (o : Option Data) → is_map_of_texts (option_and_then as_object o) ≡ true → IsKept NodeMember o
 map_kept None e = absurd (false≢true e)
 map_kept (Some null) e = absurd (false≢true e)
 map_kept (Some (boolean b)) e = absurd (false≢true e)
 map_kept (Some (number n)) e = absurd (false≢true e)
 map_kept (Some (string s)) e = absurd (false≢true e)
 map_kept (Some (array ds)) e = absurd (false≢true e)
-map_kept (Some (object ms)) e = record { value = object ms; found = refl; same = ap object (names_same ms e) }
+map_kept (Some (object ms)) e = record { value = object ms; found = refl; same = ap object (names_same Deeper ms e) }
 
-text_kept : (o : Option Data) → is_text o ≡ true → IsKept o
+text_kept : (o : Option Data) → is_text o ≡ true → IsKept NodeMember o
 text_kept None e = absurd (false≢true e)
 text_kept (Some null) e = absurd (false≢true e)
 text_kept (Some (boolean b)) e = absurd (false≢true e)
@@ -174,14 +176,14 @@ mode_text : (o : Option (List ℕ)) → is_mode o ≡ true → is_some o ≡ tru
 mode_text None e = e
 mode_text (Some s) e = refl
 
-number_kept : (o : Option Data) → is_some (whole_number_in o) ≡ true → IsKept o
-number_kept None e = absurd (false≢true e)
-number_kept (Some null) e = absurd (false≢true e)
-number_kept (Some (boolean b)) e = absurd (false≢true e)
-number_kept (Some (number n)) e = record { value = number n; found = refl; same = refl }
-number_kept (Some (string s)) e = absurd (false≢true e)
-number_kept (Some (array ds)) e = absurd (false≢true e)
-number_kept (Some (object ms)) e = absurd (false≢true e)
+number_kept : (v : Level) (o : Option Data) → is_some (whole_number_in o) ≡ true → IsKept v o
+number_kept v None e = absurd (false≢true e)
+number_kept v (Some null) e = absurd (false≢true e)
+number_kept v (Some (boolean b)) e = absurd (false≢true e)
+number_kept v (Some (number n)) e = record { value = number n; found = refl; same = refl }
+number_kept v (Some (string s)) e = absurd (false≢true e)
+number_kept v (Some (array ds)) e = absurd (false≢true e)
+number_kept v (Some (object ms)) e = absurd (false≢true e)
 
 some_within : (limit : ℕ) (o : Option ℕ) → is_within limit o ≡ true → is_some o ≡ true
 some_within limit None e = e
@@ -196,7 +198,7 @@ some_format (Some n) e = refl
 abbrev node_names : List (List ℕ)
 node_names = codes "conds" ∷ codes "equations" ∷ codes "left" ∷ codes "mode" ∷ codes "rank" ∷ codes "right" ∷ []
 
-members_same : (ms : Members) → is_node (object ms) ≡ true → has_many_conditions (object ms) ≡ false → trim_members ms ≡ ms
+members_same : (ms : Members) → is_node (object ms) ≡ true → has_many_conditions (object ms) ≡ false → trim_members NodeMember ms ≡ ms
 members_same ms e few =
     let right = and_parts _ _ e in
     let rank = and_parts _ _ right.0 in
@@ -208,23 +210,23 @@ members_same ms e few =
     let at_equations = map_kept (get_member (codes "equations") ms) equations.1 in
     let at_left = text_kept (get_member (codes "left") ms) left.1 in
     let at_mode = text_kept (get_member (codes "mode") ms) (mode_text _ mode.1) in
-    let at_rank = number_kept (get_member (codes "rank") ms) (some_within 4096 _ rank.1) in
+    let at_rank = number_kept NodeMember (get_member (codes "rank") ms) (some_within 4096 _ rank.1) in
     let at_right = text_kept (get_member (codes "right") ms) right.1 in
-    all_kept node_names ms refl (at_conds, (at_equations, (at_left, (at_mode, (at_rank, (at_right, tt)))))) (eqb-true _ _ conds.0)
+    all_kept NodeMember node_names ms refl (at_conds, (at_equations, (at_left, (at_mode, (at_rank, (at_right, tt)))))) (eqb-true _ _ conds.0)
 
-node_same : (d : Data) → is_node d ≡ true → has_many_conditions d ≡ false → trim d ≡ d
+node_same : (d : Data) → is_node d ≡ true → has_many_conditions d ≡ false → trim Node d ≡ d
 node_same null e few = refl
 node_same (boolean b) e few = refl
 node_same (number n) e few = refl
 node_same (string s) e few = refl
 node_same (array ds) e few = absurd (false≢true e)
-node_same (object ms) e few = ap object (members_same ms e few)
+node_same (object ms) e few = ap (short_object Node) (members_same ms e few) ∙ few_names Node ms (few_in_node ms e)
 
 or_parts : (a b : Bool) → (a || b) ≡ false → (a ≡ false) × (b ≡ false)
 or_parts true b e = absurd (false≢true (sym e))
 or_parts false b e = (refl, e)
 
-nodes_same : (ds : Items) → are_nodes ds ≡ true → some_has_many ds ≡ false → trim_items ds ≡ ds
+nodes_same : (ds : Items) → are_nodes ds ≡ true → some_has_many ds ≡ false → trim_items Node ds ≡ ds
 nodes_same no_items e few = refl
 nodes_same (item d ds) e few =
     let p = and_parts (is_node d) (are_nodes ds) e in
@@ -236,7 +238,7 @@ few_nodes ds false e f few = rw (e, f) (ap array (first_all 4097 ds (omega (arit
 few_nodes ds true e f few = let none = none_are ds e f in rw none refl
 
 nodes_kept : (o : Option Data) → is_list_of_nodes (option_and_then as_array o) ≡ true
-    → (has_more 4096 (option_and_then as_array o) || some_of_file_has_many (option_and_then as_array o)) ≡ false → IsKept o
+    → (has_more 4096 (option_and_then as_array o) || some_of_file_has_many (option_and_then as_array o)) ≡ false → IsKept FileMember o
 nodes_kept None e few = absurd (false≢true e)
 nodes_kept (Some null) e few = absurd (false≢true e)
 nodes_kept (Some (boolean b)) e few = absurd (false≢true e)
@@ -252,18 +254,18 @@ nodes_kept (Some (object ms)) e few = absurd (false≢true e)
 abbrev file_names : List (List ℕ)
 file_names = codes "format" ∷ codes "nodes" ∷ []
 
-file_members_same : (ms : Members) → is_file (object ms) ≡ true → has_too_many (object ms) ≡ false → trim_members ms ≡ ms
+file_members_same : (ms : Members) → is_file (object ms) ≡ true → has_too_many (object ms) ≡ false → trim_members FileMember ms ≡ ms
 file_members_same ms e few =
     let nodes = and_parts _ _ e in
     let format = and_parts _ _ nodes.0 in
-    let at_format = number_kept (get_member (codes "format") ms) (some_format _ format.1) in
+    let at_format = number_kept FileMember (get_member (codes "format") ms) (some_format _ format.1) in
     let at_nodes = nodes_kept (get_member (codes "nodes") ms) nodes.1 few in
-    all_kept file_names ms refl (at_format, (at_nodes, tt)) (eqb-true _ _ format.0)
+    all_kept FileMember file_names ms refl (at_format, (at_nodes, tt)) (eqb-true _ _ format.0)
 
-pub file_same : (d : Data) → is_file d ≡ true → has_too_many d ≡ false → trim d ≡ d
+pub file_same : (d : Data) → is_file d ≡ true → has_too_many d ≡ false → trim File d ≡ d
 file_same null e few = refl
 file_same (boolean b) e few = refl
 file_same (number n) e few = refl
 file_same (string s) e few = refl
 file_same (array ds) e few = absurd (false≢true e)
-file_same (object ms) e few = ap object (file_members_same ms e few)
+file_same (object ms) e few = ap (short_object File) (file_members_same ms e few) ∙ few_names File ms (few_in_file ms e)

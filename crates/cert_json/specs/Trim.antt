@@ -1,8 +1,11 @@
--- A value without what no certificate has in a list.
-use Rattle.std.specs.Prelude.{ℕ, zero, suc, ◌||◌, if◌then◌else◌}
+-- A value without what no certificate has in a list or an object.
+use Rattle.std.specs.Prelude.{ℕ, zero, suc, Bool, false, ◌||◌, nat_lt, if◌then◌else◌}
 use Rattle.serde_json.specs.Data.{Data, null, boolean, number, string, array, object, Items, no_items, item, Members, no_members}
 use Rattle.serde_json.specs.Data.{member}
+use Rattle.serde_json.specs.Events.{members_len}
 use Rattle.cert_json.specs.Shape.{are_texts, are_nodes}
+use Rattle.cert_json.specs.declared.level.Level.{Level}
+use Rattle.cert_json.specs.declared.level.Level.TheVariants.{File, FileMember, Node, NodeMember, Deeper}
 
 -- the first items, up to a number
 abbrev pub first_items : ℕ → Items → Items
@@ -18,19 +21,40 @@ short_items ds = if are_texts ds then first_items 65 ds else (if are_nodes ds th
 abbrev pub short_list : Items → Data
 short_list ds = if are_texts ds || are_nodes ds then array (short_items ds) else null
 
+-- the level of what stands in a value
+abbrev pub below : Level → Level
+below File = FileMember
+below FileMember = Node
+below Node = NodeMember
+below NodeMember = Deeper
+below Deeper = Deeper
+
+-- whether no object of a certificate has so many names at this level: a file has 2, a node has 6, and the equations of a
+-- node, which are a member of it, have any number
+abbrev pub exceeds : Level → ℕ → Bool
+exceeds File n = nat_lt 2 n
+exceeds FileMember n = nat_lt 0 n
+exceeds Node n = nat_lt 6 n
+exceeds NodeMember n = false
+exceeds Deeper n = nat_lt 0 n
+
+-- an object, and null in place of one that has more names than any of a certificate has at its level
+abbrev pub short_object : Level → Members → Data
+short_object v ms = if exceeds v (members_len ms) then null else object ms
+
 abbrev mutual
-  pub trim : Data → Data
-  trim null = null
-  trim (boolean b) = boolean b
-  trim (number n) = number n
-  trim (string s) = string s
-  trim (array ds) = short_list (trim_items ds)
-  trim (object ms) = object (trim_members ms)
+  pub trim : Level → Data → Data
+  trim v null = null
+  trim v (boolean b) = boolean b
+  trim v (number n) = number n
+  trim v (string s) = string s
+  trim v (array ds) = short_list (trim_items (below v) ds)
+  trim v (object ms) = short_object v (trim_members (below v) ms)
 
-  pub trim_items : Items → Items
-  trim_items no_items = no_items
-  trim_items (item d ds) = item (trim d) (trim_items ds)
+  pub trim_items : Level → Items → Items
+  trim_items v no_items = no_items
+  trim_items v (item d ds) = item (trim v d) (trim_items v ds)
 
-  pub trim_members : Members → Members
-  trim_members no_members = no_members
-  trim_members (member k d ms) = member k (trim d) (trim_members ms)
+  pub trim_members : Level → Members → Members
+  trim_members v no_members = no_members
+  trim_members v (member k d ms) = member k (trim v d) (trim_members v ms)

@@ -9,6 +9,7 @@
 #![tactic(auto)]
 
 pub mod faults;
+mod level;
 mod numbers;
 pub mod reader;
 mod shape;

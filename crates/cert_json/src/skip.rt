@@ -3,7 +3,8 @@
 ghost use Rattle.std.specs.Prelude.{◌≡◌, ◌<◌, ◌≤◌, ◌∷◌, ℕ, [], length, false, Some, None, IfOk, OnOk, is_ok, is_some};
 ghost use Rattle.json.specs.Json.{after_end_array, value, items, members};
 ghost use Rattle.json.specs.Reads.{token_of};
-ghost use Rattle.serde_json.specs.Data.{Data, Items, Members, no_members};
+ghost use Rattle.serde_json.specs.Data.{Data, Items, Members};
+ghost use Rattle.serde_json.specs.Events.{members_len};
 ghost use Rattle.serde_json.specs.Find.{as_str};
 ghost use Rattle.serde_json.specs.Read.{of_json, of_items, of_members, converted};
 ghost use Rattle.cert_json.specs.Shape.{are_texts};
@@ -83,16 +84,18 @@ pub fn skip_items(reader: &mut Reader<'_>, depth: usize) -> Result<bool, Invalid
     }
 }
 
+/// Passes over the members that are left of an object. It refuses what `serde_json` does not read.
 #[cycle(skip)]
 #[inline(never)]
-fn skip_members(reader: &mut Reader<'_>, depth: usize) -> Result<(), Invalid>
+pub fn skip_members(reader: &mut Reader<'_>, depth: usize) -> Result<(), Invalid>
     ensures ok { OnOk result
-        ((ms : Members)
-        × (converted (λ es. of_members es no_members) (members (value depth) (length reader.old) reader.old)
-        ≡ Some (ms, reader.new))) }
+        ((old : Members) (n : ℕ) → length reader.old ≤ n
+        → (ms : Members) × (converted (λ es. of_members es old) (members (value depth) n reader.old) ≡ Some (ms, reader.new))
+        × (members_len old ≤ members_len ms)) }
     ensures shorter { OnOk result (length reader.new < length reader.old) }
     ensures err { is_ok result ≡ false
-        → converted (λ es. of_members es no_members) (members (value depth) (length reader.old) reader.old) ≡ None }
+        → (old : Members) (n : ℕ) → length reader.old ≤ n
+        → converted (λ es. of_members es old) (members (value depth) n reader.old) ≡ None }
 {
     'members: while let Some(_) = reader.next_key()? {
         let token = reader.next().ok_or(Invalid)?;

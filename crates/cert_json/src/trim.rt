@@ -1,15 +1,17 @@
-//! Reading JSON without what no certificate has in a list.
+//! Reading JSON without what no certificate has in a list or an object.
 
 ghost use Rattle.std.specs.Prelude.{◌≡◌, ◌<◌, length, Some, None, Err, IfOk, OnOk};
 ghost use Rattle.json.specs.Json.{value, items, members};
 ghost use Rattle.serde_json.specs.Data.{Data, Items, Members, no_members, put};
 ghost use Rattle.serde_json.specs.Read.{of_json, of_items, of_members, converted, read as read_text};
 ghost use Rattle.serde_json.specs.View.{view, members_view};
-ghost use Rattle.cert_json.specs.Trim.{trim, trim_items, trim_members, short_list};
+ghost use Rattle.cert_json.specs.Trim.{trim, trim_items, trim_members, short_list, short_object, below};
+ghost use Rattle.cert_json.specs.declared.level.Level.TheVariants.{File};
 
+use crate::level::Level;
 use crate::numbers::number_of;
 use crate::short_list::{add_to_list, empty_list, is_settled, value_of_list, value_of_settled};
-use crate::skip::skip_items;
+use crate::skip::{skip_items, skip_members};
 use json::{Invalid, Reader, Scratch, Token};
 use serde_json::{Map, Value};
 use std::alloc::{AllocError, Global};
@@ -69,9 +71,9 @@ fn put_member(
 
 #[cycle(read)]
 #[inline(always)]
-fn read(alloc: Global, reader: &mut Reader<'_>, depth: usize) -> Result<Value, Fault>
+fn read(alloc: Global, reader: &mut Reader<'_>, depth: usize, level: Level) -> Result<Value, Fault>
     ensures ok { IfOk result
-        (λ v. (d : Data) × (converted of_json (value depth reader.old) ≡ Some (d, reader.new)) × (view v ≡ trim d)) }
+        (λ v. (d : Data) × (converted of_json (value depth reader.old) ≡ Some (d, reader.new)) × (view v ≡ trim level d)) }
     ensures shorter { OnOk result (length reader.new < length reader.old) }
     ensures err { result ≡ Err Fault.NotJson → converted of_json (value depth reader.old) ≡ None }
 {
@@ -89,29 +91,35 @@ fn read(alloc: Global, reader: &mut Reader<'_>, depth: usize) -> Result<Value, F
             if depth == 0 {
                 return Err(Fault::NotJson);
             }
-            Ok(read_items(alloc, reader, depth - 1)?)
+            Ok(read_items(alloc, reader, depth - 1, level.below())?)
         }
         Token::BeginObject => {
             if depth == 0 {
                 return Err(Fault::NotJson);
             }
-            Ok(Value::Object(read_members(alloc, reader, depth - 1)?))
+            Ok(read_members(alloc, reader, depth - 1, level)?)
         }
     }
 }
 
+// Reads the items of a list, which stand at a level.
 #[cycle(read)]
 #[inline(never)]
-fn read_items(alloc: Global, reader: &mut Reader<'_>, depth: usize) -> Result<Value, Fault>
+fn read_items(
+    alloc: Global,
+    reader: &mut Reader<'_>,
+    depth: usize,
+    level: Level,
+) -> Result<Value, Fault>
     ensures ok { IfOk result
         (λ v. (ds : Items) × (converted of_items (items (value depth) (length reader.old) reader.old) ≡ Some (ds, reader.new))
-        × (view v ≡ short_list (trim_items ds))) }
+        × (view v ≡ short_list (trim_items level ds))) }
     ensures shorter { OnOk result (length reader.new < length reader.old) }
     ensures err { result ≡ Err Fault.NotJson → converted of_items (items (value depth) (length reader.old) reader.old) ≡ None }
 {
     let mut found = empty_list(alloc);
     'items: while !reader.take_end_array() {
-        let item = read(alloc, reader, depth)?;
+        let item = read(alloc, reader, depth, level)?;
         add_to_list(&mut found, item)?;
         if is_settled(&found) {
             let texts = skip_items(reader, depth)?;
@@ -121,39 +129,46 @@ fn read_items(alloc: Global, reader: &mut Reader<'_>, depth: usize) -> Result<Va
     Ok(value_of_list(found))
 }
 
+// Reads the members of an object that stands at a level. Names only get more, so after one too many the rest is passed
+// over.
 #[cycle(read)]
 #[inline(never)]
 fn read_members(
     alloc: Global,
     reader: &mut Reader<'_>,
     depth: usize,
-) -> Result<Map<String, Value>, Fault>
+    level: Level,
+) -> Result<Value, Fault>
     ensures ok { IfOk result
-        (λ m. (ms : Members)
+        (λ v. (ms : Members)
         × (converted (λ es. of_members es no_members) (members (value depth) (length reader.old) reader.old)
-        ≡ Some (ms, reader.new)) × (members_view m.entries ≡ trim_members ms)) }
+        ≡ Some (ms, reader.new)) × (view v ≡ short_object level (trim_members (below level) ms))) }
     ensures shorter { OnOk result (length reader.new < length reader.old) }
     ensures err { result ≡ Err Fault.NotJson
         → converted (λ es. of_members es no_members) (members (value depth) (length reader.old) reader.old) ≡ None }
 {
     let mut found = Map::new(alloc);
     'members: while let Some(name) = reader.next_key()? {
-        let member = read(alloc, reader, depth)?;
+        let member = read(alloc, reader, depth, level.below())?;
         put_member(alloc, &mut found, name, member)?;
+        if level.exceeds(found.len()) {
+            skip_members(reader, depth)?;
+            return Ok(Value::Null);
+        }
     }
-    Ok(found)
+    Ok(Value::Object(found))
 }
 
-/// The value of a text without what no certificate has in a list.
+/// The value of a text without what no certificate has in a list or an object.
 ///
 /// `NotJson` comes only where the text is not JSON, and `NoMemory` may come at any time.
 pub fn read_trimmed(alloc: Global, text: &str) -> Result<Value, Fault>
-    ensures ok { IfOk result (λ v. (d : Data) × (read_text text.now ≡ Some d) × (view v ≡ trim d)) }
+    ensures ok { IfOk result (λ v. (d : Data) × (read_text text.now ≡ Some d) × (view v ≡ trim File d)) }
     ensures err { result ≡ Err Fault.NotJson → read_text text.now ≡ None }
 {
     let mut scratch = Scratch::new(alloc);
     let mut reader = Reader::new(text, &mut scratch)?;
-    let value = read(alloc, &mut reader, 127)?;
+    let value = read(alloc, &mut reader, 127, Level::File)?;
     if reader.next().is_some() {
         return Err(Fault::NotJson);
     }

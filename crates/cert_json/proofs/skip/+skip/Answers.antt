@@ -9,6 +9,7 @@ use Rattle.cert_json.specs.Lists.{join_items, add_item}
 use Rattle.cert_json.proofs.Turns.{converted-array, converted-object, item_read, item_refused, items_over, member_read, member_refused, key_refused}
 use Rattle.cert_json.proofs.Turns.{members_over, number_in_range, number_past_range, list_ends, list_goes_on}
 use Rattle.cert_json.proofs.ListLaws.{join-no_items, none_before, one_more_item, texts_on}
+use Rattle.cert_json.proofs.ObjectLaws.{put-members_len}
 use Rattle.cert_json.proofs.skip.+skip.Goals as goal
 
 pub skip_from-returns-then-depth-eq0-clause-err : goal.skip_from-returns-then-depth-eq0-clause-err
@@ -77,7 +78,7 @@ skip_from-returns-in_ok-skip_members-in-BeginObject-clause-ok t c =
     let opened = ap (converted of_json)
     (ap (value c.args.depth) (ap (λ k. token_of k ∷ ts) c.in-BeginObject.is) ∙ value-begin_object c.args.depth ts (omega arith))
     ∙ converted-object (members (value (c.args.depth - 1)) (length ts) ts) in
-    let found = c.in_ok-skip_members-in-BeginObject.ensures.ok in
+    let found = c.in_ok-skip_members-in-BeginObject.ensures.ok no_members (length ts) (omega arith) in
     (object found.0, opened ∙ ap (parse_map object) found.1, refl)
 
 pub skip_from-returns-in_err-skip_members-in-BeginObject-clause-err : goal.skip_from-returns-in_err-skip_members-in-BeginObject-clause-err
@@ -86,12 +87,13 @@ skip_from-returns-in_err-skip_members-in-BeginObject-clause-err t c refused =
     let opened = ap (converted of_json)
     (ap (value c.args.depth) (ap (λ k. token_of k ∷ ts) c.in-BeginObject.is) ∙ value-begin_object c.args.depth ts (omega arith))
     ∙ converted-object (members (value (c.args.depth - 1)) (length ts) ts) in
-    opened ∙ ap (parse_map object) (c.skip_members.ensures.err (grind arith))
+    opened ∙ ap (parse_map object) (c.skip_members.ensures.err (grind arith) no_members (length ts) (omega arith))
 
 pub skip_members-returns-in_err-next_key-clause-err : goal.skip_members-returns-in_err-next_key-clause-err
-skip_members-returns-in_err-next_key-clause-err t c refused =
+skip_members-returns-in_err-next_key-clause-err t c refused old n enough =
     let l = c.members in
-    l.invariant.3 ∙ key_refused (value c.args.depth) l.invariant.2 l.invariant.0 l.reader c.in_err-next_key.ensures.value
+    let i = l.invariant.0 old n enough in
+    i.3 ∙ key_refused (value c.args.depth) i.2 i.0 l.reader c.in_err-next_key.ensures.value
 
 pub skip_from-returns-then-is_in_range-clause-ok : goal.skip_from-returns-then-is_in_range-clause-ok
 skip_from-returns-then-is_in_range-clause-ok t c =
@@ -162,34 +164,33 @@ skip_items-returns-then-is_end-clause-ok t c =
     )
 
 pub skip_members-members-init : goal.skip_members-members-init
-skip_members-members-init t c = (length c.args.reader.now, omega arith, no_members, refl, omega arith)
+skip_members-members-init t c = (λ old n enough. (n, enough, old, refl, omega arith), omega arith)
 
 pub skip_members-returns-in_err-token-clause-err : goal.skip_members-returns-in_err-token-clause-err
-skip_members-returns-in_err-token-clause-err t c refused =
+skip_members-returns-in_err-token-clause-err t c refused old n enough =
     let p = value c.args.depth in
     let l = c.members in
+    let i = l.invariant.0 old n enough in
     let s = c.next_key.new.self in
     let named : read_key l.reader ≡ Some (Some c.in-Some.field-0.now, s) = grind arith in
     let empty : s ≡ [] = grind arith in
-    l.invariant.3 ∙ member_refused p l.invariant.2 l.invariant.0 c.in-Some.field-0.now l.reader s named
-    (ap (converted of_json) (ap p empty ∙ value_is c.args.depth []))
+    i.3 ∙ member_refused p i.2 i.0 c.in-Some.field-0.now l.reader s named (ap (converted of_json) (ap p empty ∙ value_is c.args.depth []))
 
 pub skip_members-returns-in_err-skip_from-clause-err : goal.skip_members-returns-in_err-skip_from-clause-err
-skip_members-returns-in_err-skip_from-clause-err t c refused =
+skip_members-returns-in_err-skip_from-clause-err t c refused old n enough =
     let p = value c.args.depth in
     let l = c.members in
+    let i = l.invariant.0 old n enough in
     let s = c.next_key.new.self in
     let named : read_key l.reader ≡ Some (Some c.in-Some.field-0.now, s) = grind arith in
     let first : s ≡ token_of c.in_ok-token.token ∷ c.next.new.self = grind arith in
     let none : converted of_json (p s) ≡ None = ap (λ k. converted of_json (p k)) first ∙ c.skip_from.ensures.err (grind arith) in
-    l.invariant.3 ∙ member_refused p l.invariant.2 l.invariant.0 c.in-Some.field-0.now l.reader s named none
+    i.3 ∙ member_refused p i.2 i.0 c.in-Some.field-0.now l.reader s named none
 
 pub skip_members-members-preserved : goal.skip_members-members-preserved
 skip_members-members-preserved t c =
     let p = value c.args.depth in
     let l = c.members in
-    let n = l.invariant.0 in
-    let old = l.invariant.2 in
     let k = c.in-Some.field-0.now in
     let s = c.next_key.new.self in
     let named : read_key l.reader ≡ Some (Some k, s) = grind arith in
@@ -200,17 +201,19 @@ skip_members-members-preserved t c =
     let read : converted of_json (p s) ≡ Some (d, r) = ap (λ k. converted of_json (p k)) first ∙ done.ok.1 in
     let less = read_key-shorter l.reader (Some k) s named in
     let lesser : length r < length s = omega (arith, ap length first, done.shorter) in (
-      n - 1,
+      λ old n enough.
+          let i = l.invariant.0 old n enough in (
+            i.0 - 1,
+            omega (arith, i.1, less, lesser),
+            put k d i.2,
+            i.3 ∙ member_read p i.2 i.0 k l.reader s r d (omega (arith, i.1, less, lesser)) named read,
+            omega (arith, i.4, put-members_len k d i.2),
+          ),
       omega (arith, l.invariant.1, less, lesser),
-      put k d old,
-      l.invariant.3 ∙ member_read p old n k l.reader s r d (omega (arith, l.invariant.1, less, lesser)) named read,
-      omega (arith, l.invariant.4, less, lesser),
     )
 
 pub skip_members-returns-clause-ok : goal.skip_members-returns-clause-ok
-skip_members-returns-clause-ok t c =
-    let p = value c.args.depth in
+skip_members-returns-clause-ok t c old n enough =
     let l = c.members in
-    let n = l.invariant.0 in
-    let old = l.invariant.2 in
-    (old, l.invariant.3 ∙ members_over p old n l.reader c.next_key.new.self l.invariant.1 (grind arith))
+    let i = l.invariant.0 old n enough in
+    (i.2, i.3 ∙ members_over (value c.args.depth) i.2 i.0 l.reader c.next_key.new.self i.1 (grind arith), i.4)

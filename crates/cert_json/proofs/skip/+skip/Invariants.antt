@@ -1,6 +1,7 @@
 use Rattle.std.proofs.Common.{◌≡◌, ℕ, ◌+◌, ◌*◌, ◌≤◌, length}
 use Rattle.json.specs.Json.{items, members, value, parse_map}
-use Rattle.serde_json.specs.Data.{Items, Members, no_members}
+use Rattle.serde_json.specs.Data.{Items, Members}
+use Rattle.serde_json.specs.Events.{members_len}
 use Rattle.serde_json.specs.Read.{of_items, of_members, converted}
 use Rattle.cert_json.specs.Shape.{are_texts}
 use Rattle.cert_json.specs.Lists.{join_items}
@@ -29,9 +30,11 @@ decreases-skip_items-items l = length l.reader
 
 abbrev pub invariant-skip_members-members : goal.invariant-skip_members-members
 invariant-skip_members-members l =
-    (n : ℕ) × (length l.reader ≤ n) × (ms : Members)
-    × (converted (λ es. of_members es no_members) (members (value l.depth) (length l.initial.reader) l.initial.reader)
-    ≡ converted (λ es. of_members es ms) (members (value l.depth) n l.reader))
+    ((old : Members) (n : ℕ) → length l.initial.reader ≤ n
+    → (m : ℕ) × (length l.reader ≤ m) × (ms : Members)
+    × (converted (λ es. of_members es old) (members (value l.depth) n l.initial.reader)
+    ≡ converted (λ es. of_members es ms) (members (value l.depth) m l.reader))
+    × (members_len old ≤ members_len ms))
     × (length l.reader ≤ length l.initial.reader)
 
 abbrev pub decreases-skip_members-members : goal.decreases-skip_members-members

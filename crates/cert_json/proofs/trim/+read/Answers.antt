@@ -1,4 +1,4 @@
-use Rattle.std.proofs.Common.{◌≡◌, ◌-◌, ◌<◌, ◌≤◌, [], subst, refl, ◌∷◌, length, Some, None, sym, ap, ap₂, ◌∙◌, arith, rules}
+use Rattle.std.proofs.Common.{◌≡◌, ◌-◌, ◌<◌, ◌≤◌, [], true, subst, refl, ◌∷◌, length, Some, None, sym, ap, ap₂, ◌∙◌, arith, rules}
 use Rattle.json.specs.Token.{Token}
 use Rattle.json.specs.Json.{parse_map, after_end_array, read_key, items, members, value}
 use Rattle.json.specs.Reads.{token_of}
@@ -9,13 +9,14 @@ use Rattle.serde_json.specs.View.{view, number_view, members_view}
 use Rattle.serde_json.specs.declared.value.Value.{String, Number, Bool, Null, the_lemmas}
 use Rattle.serde_json.proofs.Views.{view-Object}
 use Rattle.serde_json.specs.Data.{no_members}
-use Rattle.cert_json.specs.Trim.{trim_items, short_list}
+use Rattle.cert_json.specs.Trim.{trim, trim_items, short_list, below, exceeds}
 use Rattle.cert_json.specs.Lists.{join_items, add_item, IsShort, settled}
 use Rattle.cert_json.specs.Shape.{are_texts}
 use Rattle.cert_json.proofs.TrimLaws.{trim-are_texts}
 use Rattle.cert_json.proofs.Turns.{converted-array, converted-object, item_read, item_refused, items_over, member_read, member_refused, key_refused}
 use Rattle.cert_json.proofs.Turns.{members_over}
-use Rattle.cert_json.proofs.ListLaws.{join-no_items, none_before, one_more_item, trim-add_item, trim-put, trim-join_items}
+use Rattle.cert_json.proofs.ListLaws.{join-no_items, none_before, one_more_item, trim-add_item, trim-join_items}
+use Rattle.cert_json.proofs.ObjectLaws.{trim-put, put-members_len, none_exceed, kept_object, settled_object}
 use Rattle.cert_json.proofs.trim.+read.Goals as goal
 
 pub read-returns-in_err-token-clause-err : goal.read-returns-in_err-token-clause-err
@@ -104,7 +105,7 @@ read-returns-in_ok-read_items-in-BeginArray-clause-ok t c =
     (ap (value c.args.depth) (first ∙ ap (λ k. token_of k ∷ c.next.new.self) c.in-BeginArray.is) ∙ value-begin_array c.args.depth c.next.new.self (omega arith))
     ∙ converted-array (items (value (c.args.depth - 1)) (length c.next.new.self) c.next.new.self) in
     let found = c.in_ok-read_items-in-BeginArray.ensures.ok in
-    (array found.0, opened ∙ ap (parse_map array) found.1, found.2)
+    (array found.0, opened ∙ ap (parse_map array) found.1, found.2 ∙ ap (λ v. short_list (trim_items v found.0)) c.below.ensures)
 
 pub read-returns-in_ok-read_members-in-BeginObject-clause-ok : goal.read-returns-in_ok-read_members-in-BeginObject-clause-ok
 read-returns-in_ok-read_members-in-BeginObject-clause-ok t c =
@@ -113,9 +114,8 @@ read-returns-in_ok-read_members-in-BeginObject-clause-ok t c =
     (ap (value c.args.depth) (first ∙ ap (λ k. token_of k ∷ c.next.new.self) c.in-BeginObject.is)
     ∙ value-begin_object c.args.depth c.next.new.self (omega arith))
     ∙ converted-object (members (value (c.args.depth - 1)) (length c.next.new.self) c.next.new.self) in
-    let m = c.in_ok-read_members-in-BeginObject.field-0 in
     let found = c.in_ok-read_members-in-BeginObject.ensures.ok in
-    (object found.0, opened ∙ ap (parse_map object) found.1, view-Object m ∙ ap object found.2)
+    (object found.0, opened ∙ ap (parse_map object) found.1, found.2)
 
 pub read_items-items-init : goal.read_items-items-init
 read_items-items-init t c =
@@ -144,17 +144,19 @@ read_items-items-preserved t c =
     let ds = l.invariant.2 in
     let going : (after_end_array l.reader ≡ None) × (c.take_end_array.new.self ≡ l.reader) = grind arith in
     let done = c.in_ok-item.ensures in
+    let level = c.args.level in
     let v = c.in_ok-item.item in
     let r = c.read.new.reader in
     let d = done.ok.0 in
     let less : length r < length l.reader = rw (← going.1) done.shorter in
     let turn = item_read p n l.reader r d (omega (arith, l.invariant.1)) going.0 (rw (← going.1) done.ok.1) in
-    let same : add_item (trim_items ds) (view v) ≡ trim_items (add_item ds d) = ap (add_item (trim_items ds)) done.ok.2 ∙ sym (trim-add_item ds d) in (
+    let same : add_item (trim_items level ds) (view v) ≡ trim_items level (add_item ds d) =
+    ap (add_item (trim_items level ds)) done.ok.2 ∙ sym (trim-add_item level ds d) in (
       n - 1,
       omega (arith, l.invariant.1),
       add_item ds d,
       l.invariant.3 ∙ ap (parse_map (join_items ds)) turn ∙ one_more_item ds d (converted of_items (items p (n - 1) r)),
-      subst (λ es. IsShort es c.add_to_list.new.list) same (c.in_ok-add_to_list.ensures (trim_items ds) l.invariant.4),
+      subst (λ es. IsShort es c.add_to_list.new.list) same (c.in_ok-add_to_list.ensures (trim_items level ds) l.invariant.4),
       omega (arith, l.invariant.5),
     )
 
@@ -187,15 +189,17 @@ read_items-returns-then-is_settled-clause-ok t c =
     let less : length r < length l.reader = rw (← going.1) done.shorter in
     let turn = item_read p n l.reader r d (omega (arith, l.invariant.1)) going.0 (rw (← going.1) done.ok.1) in
     let enough : length r ≤ n - 1 = omega (arith, l.invariant.1) in
-    let same : add_item (trim_items ds) (view c.in_ok-item.item) ≡ trim_items more = ap (add_item (trim_items ds)) done.ok.2 ∙ sym (trim-add_item ds d) in
-    let short = subst (λ es. IsShort es c.add_to_list.new.list) same (c.in_ok-add_to_list.ensures (trim_items ds) l.invariant.4) in
+    let level = c.args.level in
+    let same : add_item (trim_items level ds) (view c.in_ok-item.item) ≡ trim_items level more =
+    ap (add_item (trim_items level ds)) done.ok.2 ∙ sym (trim-add_item level ds d) in
+    let short = subst (λ es. IsShort es c.add_to_list.new.list) same (c.in_ok-add_to_list.ensures (trim_items level ds) l.invariant.4) in
     let left = c.in_ok-texts.ensures.ok in
-    let texts : c.in_ok-texts.texts ≡ are_texts (trim_items left.0) = left.2 ∙ sym (trim-are_texts left.0) in (
+    let texts : c.in_ok-texts.texts ≡ are_texts (trim_items level left.0) = left.2 ∙ sym (trim-are_texts level left.0) in (
       join_items more left.0,
       l.invariant.3 ∙ ap (parse_map (join_items ds)) turn ∙ one_more_item ds d (converted of_items (items p (n - 1) r))
           ∙ ap (parse_map (join_items more)) (left.1 (n - 1) enough),
-      c.value_of_settled.ensures ∙ ap (settled c.add_to_list.new.list) texts ∙ c.if-is_settled.ensures refl (trim_items more) (trim_items left.0) short
-          ∙ ap short_list (sym (trim-join_items more left.0)),
+      c.value_of_settled.ensures ∙ ap (settled c.add_to_list.new.list) texts ∙ c.if-is_settled.ensures refl (trim_items level more) (trim_items level left.0) short
+          ∙ ap short_list (sym (trim-join_items level more left.0)),
     )
 
 pub read_items-returns-clause-ok : goal.read_items-returns-clause-ok
@@ -207,13 +211,14 @@ read_items-returns-clause-ok t c =
     let r = c.take_end_array.new.self in (
       ds,
       l.invariant.3 ∙ ap (parse_map (join_items ds)) (items_over p n l.reader r l.invariant.1 (grind arith)) ∙ ap (λ es. Some (es, r)) (join-no_items ds),
-      c.value_of_list.ensures (trim_items ds) l.invariant.4,
+      c.value_of_list.ensures (trim_items c.args.level ds) l.invariant.4,
     )
 
 pub read_members-members-init : goal.read_members-members-init
 read_members-members-init t c =
     let none = ap members_view c.new-found.ensures.empty in
-    (length c.args.reader.now, omega arith, no_members, refl, none, omega arith)
+    let few = ap (λ es. exceeds c.args.level (length es)) c.new-found.ensures.empty ∙ none_exceed c.args.level in
+    (length c.args.reader.now, omega arith, no_members, refl, none, few, omega arith)
 
 pub read_members-returns-in_err-name-clause-err : goal.read_members-returns-in_err-name-clause-err
 read_members-returns-in_err-name-clause-err t c refused =
@@ -254,8 +259,54 @@ read_members-members-preserved t c =
       omega (arith, l.invariant.1),
       put k d old,
       l.invariant.3 ∙ member_read p old n k l.reader s r d (omega (arith, l.invariant.1)) named done.ok.1,
-      inserted ∙ ap₂ (λ x ms. put k x ms) done.ok.2 l.invariant.4 ∙ sym (trim-put k d old),
-      omega (arith, l.invariant.5),
+      inserted ∙ ap₂ (λ x ms. put k x ms) (done.ok.2 ∙ ap (λ w. trim w d) c.below.ensures) l.invariant.4 ∙ sym (trim-put (below c.args.level) k d old),
+      ap (exceeds c.args.level) (sym c.len.ensures.len) ∙ sym c.if-exceeds.ensures,
+      omega (arith, l.invariant.6),
+    )
+
+pub read_members-returns-in_err-skip_members-clause-err : goal.read_members-returns-in_err-skip_members-clause-err
+read_members-returns-in_err-skip_members-clause-err t c refused =
+    let p = value c.args.depth in
+    let l = c.members in
+    let n = l.invariant.0 in
+    let old = l.invariant.2 in
+    let k = c.in-Some.name.now in
+    let s = c.next_key.new.self in
+    let named : read_key l.reader ≡ Some (Some k, s) = grind arith in
+    let done = c.in_ok-member.ensures in
+    let r = c.read.new.reader in
+    let d = done.ok.0 in
+    let less = read_key-shorter l.reader (Some k) s named in
+    let lesser = done.shorter in
+    let enough : length r ≤ n - 1 = omega (arith, l.invariant.1, less, lesser) in
+    l.invariant.3 ∙ member_read p old n k l.reader s r d (omega (arith, l.invariant.1, less, lesser)) named done.ok.1
+    ∙ c.skip_members.ensures.err (grind arith) (put k d old) (n - 1) enough
+
+pub read_members-returns-then-exceeds-clause-ok : goal.read_members-returns-then-exceeds-clause-ok
+read_members-returns-then-exceeds-clause-ok t c =
+    let p = value c.args.depth in
+    let l = c.members in
+    let n = l.invariant.0 in
+    let old = l.invariant.2 in
+    let k = c.in-Some.name.now in
+    let s = c.next_key.new.self in
+    let named : read_key l.reader ≡ Some (Some k, s) = grind arith in
+    let done = c.in_ok-member.ensures in
+    let v = c.in_ok-member.member in
+    let r = c.read.new.reader in
+    let d = done.ok.0 in
+    let less = read_key-shorter l.reader (Some k) s named in
+    let lesser = done.shorter in
+    let enough : length r ≤ n - 1 = omega (arith, l.invariant.1, less, lesser) in
+    let inserted : members_view c.put_member.new.found.entries ≡ put k (view v) (members_view l.found.entries) = c.in_ok-put_member.ensures in
+    let same = inserted ∙ ap₂ (λ x ms. put k x ms) (done.ok.2 ∙ ap (λ w. trim w d) c.below.ensures) l.invariant.4
+    ∙ sym (trim-put (below c.args.level) k d old) in
+    let left = c.in_ok-skip_members.ensures.ok (put k d old) (n - 1) enough in
+    let many : exceeds c.args.level (length c.put_member.new.found.entries) ≡ true = ap (exceeds c.args.level) (sym c.len.ensures.len) ∙ sym c.if-exceeds.ensures in
+    let seen : view Null ≡ null = search (rules, the_lemmas) in (
+      left.0,
+      l.invariant.3 ∙ member_read p old n k l.reader s r d (omega (arith, l.invariant.1, less, lesser)) named done.ok.1 ∙ left.1,
+      seen ∙ settled_object c.args.level c.put_member.new.found.entries (put k d old) left.0 same many left.2,
     )
 
 pub read_members-returns-clause-ok : goal.read_members-returns-clause-ok
@@ -263,5 +314,8 @@ read_members-returns-clause-ok t c =
     let p = value c.args.depth in
     let l = c.members in
     let n = l.invariant.0 in
-    let old = l.invariant.2 in
-    (old, l.invariant.3 ∙ members_over p old n l.reader c.next_key.new.self l.invariant.1 (grind arith), l.invariant.4)
+    let old = l.invariant.2 in (
+      old,
+      l.invariant.3 ∙ members_over p old n l.reader c.next_key.new.self l.invariant.1 (grind arith),
+      view-Object l.found ∙ kept_object c.args.level l.found.entries old l.invariant.4 l.invariant.5,
+    )
