@@ -13,12 +13,14 @@ use Rattle.cert_json.proofs.WholeFiles.{file_same}
 pub other_shape : (bytes : List ℕ) (d v : Data) → IsUtf8 bytes → read bytes ≡ Some d → v ≡ trim File d → is_file v ≡ false → HasOtherShape bytes
 other_shape bytes d v text is e h = record { value = d; json = record { text = text; value = is }; shape = sym (trim-is_file d) ∙ ap is_file (sym e) ∙ h }
 
-pub too_many : (bytes : List ℕ) (d v : Data) → IsUtf8 bytes → read bytes ≡ Some d → v ≡ trim File d → is_file v ≡ true → has_too_many v ≡ true → HasTooMany bytes
+pub too_many : (bytes : List ℕ) (d v : Data) → IsUtf8 bytes → read bytes ≡ Some d → v ≡ trim File d → is_file v ≡ true → has_too_many v ≡ true
+    → HasTooMany bytes
 too_many bytes d v text is e h many =
     let shape : is_file d ≡ true = sym (trim-is_file d) ∙ ap is_file (sym e) ∙ h in
     record { value = d; json = record { text = text; value = is }; shape = shape; many = sym (trim-has_too_many d shape) ∙ ap has_too_many (sym e) ∙ many }
 
-pub whole_file : (bytes : List ℕ) (d v : Data) → IsUtf8 bytes → read bytes ≡ Some d → v ≡ trim File d → is_file v ≡ true → has_too_many v ≡ false → IsFileOf bytes v
+pub whole_file : (bytes : List ℕ) (d v : Data) → IsUtf8 bytes → read bytes ≡ Some d → v ≡ trim File d → is_file v ≡ true → has_too_many v ≡ false
+    → IsFileOf bytes v
 whole_file bytes d v text is e h few =
     let shape : is_file d ≡ true = sym (trim-is_file d) ∙ ap is_file (sym e) ∙ h in
     let small : has_too_many d ≡ false = sym (trim-has_too_many d shape) ∙ ap has_too_many (sym e) ∙ few in

@@ -6,6 +6,7 @@
 //!
 //! Words:
 //! - format (of a certificate): 1 or 2, the value of `format`; where ports are named it is 2
+//! - level (of a value): how deep it stands: the file, a member of it, a node, a member of a node, or deeper
 #![tactic(auto)]
 
 pub mod faults;

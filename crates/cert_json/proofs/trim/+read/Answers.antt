@@ -7,16 +7,15 @@ use Rattle.serde_json.specs.Data.{null, boolean, number, string, array, object, 
 use Rattle.serde_json.specs.Read.{of_json, of_items, converted}
 use Rattle.serde_json.specs.View.{view, number_view, members_view}
 use Rattle.serde_json.specs.declared.value.Value.{String, Number, Bool, Null, the_lemmas}
-use Rattle.serde_json.proofs.Views.{view-Object}
 use Rattle.serde_json.specs.Data.{no_members}
-use Rattle.cert_json.specs.Trim.{trim, trim_items, short_list, below, exceeds}
+use Rattle.cert_json.specs.Trim.{trim_items, trim_members, short_list, below, exceeds}
 use Rattle.cert_json.specs.Lists.{join_items, add_item, IsShort, settled}
 use Rattle.cert_json.specs.Shape.{are_texts}
 use Rattle.cert_json.proofs.TrimLaws.{trim-are_texts}
 use Rattle.cert_json.proofs.Turns.{converted-array, converted-object, item_read, item_refused, items_over, member_read, member_refused, key_refused}
 use Rattle.cert_json.proofs.Turns.{members_over}
 use Rattle.cert_json.proofs.ListLaws.{join-no_items, none_before, one_more_item, trim-add_item, trim-join_items}
-use Rattle.cert_json.proofs.ObjectLaws.{trim-put, put-members_len, none_exceed, kept_object, settled_object}
+use Rattle.cert_json.proofs.ObjectLaws.{none_exceed, kept_put, kept_object, settled_members}
 use Rattle.cert_json.proofs.trim.+read.Goals as goal
 
 pub read-returns-in_err-token-clause-err : goal.read-returns-in_err-token-clause-err
@@ -198,7 +197,8 @@ read_items-returns-then-is_settled-clause-ok t c =
       join_items more left.0,
       l.invariant.3 ∙ ap (parse_map (join_items ds)) turn ∙ one_more_item ds d (converted of_items (items p (n - 1) r))
           ∙ ap (parse_map (join_items more)) (left.1 (n - 1) enough),
-      c.value_of_settled.ensures ∙ ap (settled c.add_to_list.new.list) texts ∙ c.if-is_settled.ensures refl (trim_items level more) (trim_items level left.0) short
+      c.value_of_settled.ensures ∙ ap (settled c.add_to_list.new.list) texts
+          ∙ c.if-is_settled.ensures refl (trim_items level more) (trim_items level left.0) short
           ∙ ap short_list (sym (trim-join_items level more left.0)),
     )
 
@@ -253,13 +253,12 @@ read_members-members-preserved t c =
     let r = c.read.new.reader in
     let d = done.ok.0 in
     let less = read_key-shorter l.reader (Some k) s named in
-    let lesser = done.shorter in
-    let inserted : members_view c.put_member.new.found.entries ≡ put k (view v) (members_view l.found.entries) = c.in_ok-put_member.ensures in (
+    let lesser = done.shorter in (
       n - 1,
       omega (arith, l.invariant.1),
       put k d old,
       l.invariant.3 ∙ member_read p old n k l.reader s r d (omega (arith, l.invariant.1)) named done.ok.1,
-      inserted ∙ ap₂ (λ x ms. put k x ms) (done.ok.2 ∙ ap (λ w. trim w d) c.below.ensures) l.invariant.4 ∙ sym (trim-put (below c.args.level) k d old),
+      kept_put c.args.level c.below.result k d (view v) _ _ old c.below.ensures done.ok.2 l.invariant.4 c.in_ok-put_member.ensures,
       ap (exceeds c.args.level) (sym c.len.ensures.len) ∙ sym c.if-exceeds.ensures,
       omega (arith, l.invariant.6),
     )
@@ -298,16 +297,13 @@ read_members-returns-then-exceeds-clause-ok t c =
     let less = read_key-shorter l.reader (Some k) s named in
     let lesser = done.shorter in
     let enough : length r ≤ n - 1 = omega (arith, l.invariant.1, less, lesser) in
-    let inserted : members_view c.put_member.new.found.entries ≡ put k (view v) (members_view l.found.entries) = c.in_ok-put_member.ensures in
-    let same = inserted ∙ ap₂ (λ x ms. put k x ms) (done.ok.2 ∙ ap (λ w. trim w d) c.below.ensures) l.invariant.4
-    ∙ sym (trim-put (below c.args.level) k d old) in
-    let left = c.in_ok-skip_members.ensures.ok (put k d old) (n - 1) enough in
-    let many : exceeds c.args.level (length c.put_member.new.found.entries) ≡ true = ap (exceeds c.args.level) (sym c.len.ensures.len) ∙ sym c.if-exceeds.ensures in
-    let seen : view Null ≡ null = search (rules, the_lemmas) in (
-      left.0,
-      l.invariant.3 ∙ member_read p old n k l.reader s r d (omega (arith, l.invariant.1, less, lesser)) named done.ok.1 ∙ left.1,
-      seen ∙ settled_object c.args.level c.put_member.new.found.entries (put k d old) left.0 same many left.2,
-    )
+    let level = c.args.level in
+    let names = c.put_member.new.found.entries in
+    let same : members_view names ≡ trim_members (below level) (put k d old) =
+    kept_put level c.below.result k d (view v) _ _ old c.below.ensures done.ok.2 l.invariant.4 c.in_ok-put_member.ensures in
+    let many : exceeds level (length names) ≡ true = ap (exceeds level) (sym c.len.ensures.len) ∙ sym c.if-exceeds.ensures in
+    let read = l.invariant.3 ∙ member_read p old n k l.reader s r d (omega (arith, l.invariant.1, less, lesser)) named done.ok.1 in
+    settled_members level names (put k d old) _ _ _ read same many (c.in_ok-skip_members.ensures.ok (put k d old) (n - 1) enough)
 
 pub read_members-returns-clause-ok : goal.read_members-returns-clause-ok
 read_members-returns-clause-ok t c =
@@ -317,5 +313,5 @@ read_members-returns-clause-ok t c =
     let old = l.invariant.2 in (
       old,
       l.invariant.3 ∙ members_over p old n l.reader c.next_key.new.self l.invariant.1 (grind arith),
-      view-Object l.found ∙ kept_object c.args.level l.found.entries old l.invariant.4 l.invariant.5,
+      kept_object c.args.level l.found old l.invariant.4 l.invariant.5,
     )
