@@ -1,6 +1,6 @@
 #!/usr/bin/env bash
 # Times certificates near the limit of a file: bench/certificates.sh [FOLDER]. It writes machines and certificates into a folder (about
-# 1.6 GB), and prints processor seconds and memory.
+# 0.9 GB), and prints processor seconds and memory.
 set -eu
 cd "$(dirname "$0")/.."
 program=$PWD/crates/fsmd/out/fsmd
@@ -65,19 +65,35 @@ timed "verify, refused at once" verify "$folder/left.fsmd" "$folder/right.fsmd" 
 timed "the same, no equation twice" verify "$folder/left.fsmd" "$folder/right.fsmd" "$folder/read_anew.json"
 timed "refused at once, $(wc -c < "$folder/read_more.json") bytes" verify "$folder/larger_left.fsmd" "$folder/larger_right.fsmd" "$folder/read_more.json"
 
-# Files that are refused, near the limit.
-python3 - "$folder" <<'END'
+# Files that are refused, near the limit, one after another. Each is a certificate's JSON but for what its name says.
+refused() { # NAME
+  python3 - "$1" "$folder/refused.json" <<'END'
 import sys
-folder, size = sys.argv[1], 268_435_456
-def put(name, text):
-    open(f"{folder}/{name}.json", "w").write(text)
-put("brackets", "[" * size)
-put("zeros", "[" + "0," * (size // 2 - 2) + "0]")
-term = "(" * (size - 200)
-put("term", '{"format":1,"nodes":[{"conds":[],"equations":{"L.x":"' + term + '"},"left":"start","mode":"both","rank":0,"right":"start"}]}')
-sums = "L.x" + " + L.x" * (size // 6 - 60)
-put("sum", '{"format":1,"nodes":[{"conds":[],"equations":{"L.x":"' + sums + '"},"left":"start","mode":"both","rank":0,"right":"start"}]}')
+name, path, size = sys.argv[1], sys.argv[2], 268_435_456
+def node(equations):
+    return '{"format":1,"nodes":[{"conds":[],"equations":' + equations + ',"left":"start","mode":"both","rank":0,"right":"start"}]}'
+def repeated(part, room=300):
+    return ",".join([part] * ((size - room) // (len(part) + 1)))
+def names(room=300):
+    return "{" + ",".join(f'"{k:x}":""' for k in range((size - room) // 13)) + "}"
+texts = {
+    "brackets": lambda: "[" * size,
+    "zeros": lambda: "[" + repeated("0") + "]",
+    "texts": lambda: "[" + repeated('"x"') + "]",
+    "lists": lambda: "[" + repeated("[]") + "]",
+    "objects": lambda: "[" + repeated("{}") + "]",
+    "one name": lambda: "{" + repeated('"a":0') + "}",
+    "names": lambda: names(),
+    "a node of names": lambda: '{"format":1,"nodes":[' + names() + "]}",
+    "equations of names": lambda: node(names()),
+    "one term": lambda: node('{"L.x":"' + "(" * (size - 200) + '"}'),
+    "one sum": lambda: node('{"L.x":"L.x' + " + L.x" * (size // 6 - 60) + '"}'),
+}
+open(path, "w").write(texts[name]())
 END
-for name in brackets zeros term sum; do
-  timed "verify, a file of $name" verify "$folder/left.fsmd" "$folder/right.fsmd" "$folder/$name.json"
+  timed "verify, a file of $1" verify "$folder/left.fsmd" "$folder/right.fsmd" "$folder/refused.json"
+  rm "$folder/refused.json"
+}
+for name in brackets zeros texts lists objects "one name" names "a node of names" "equations of names" "one term" "one sum"; do
+  refused "$name"
 done
