@@ -1,5 +1,5 @@
 pub mod Putting
-pub mod Again
+pub mod TextsAgain
 pub mod Utf8
 mod Named
 mod Passing

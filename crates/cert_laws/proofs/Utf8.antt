@@ -9,7 +9,7 @@ use Rattle.serde_json.specs.Data.{no_members, member, depth}
 use Rattle.serde_json.specs.Written.{number_text, comma_if, compact_text, items_text, members_text}
 use Rattle.base_json_files.specs.Json.{IsJson}
 use Rattle.cert_laws.specs.Orderly.{IsCount, IsOrderly, AreOrderly, MembersAreOrderly}
-use Rattle.cert_laws.proofs.Again.{read_again}
+use Rattle.cert_laws.proofs.TextsAgain.{read_again}
 
 comma_utf8 : (later : Bool) → IsUtf8 (comma_if later)
 comma_utf8 true = IsUtf8-are_ascii (44 ∷ []) refl

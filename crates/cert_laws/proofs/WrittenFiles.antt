@@ -30,7 +30,7 @@ use Rattle.cert_json.specs.WrittenJson.{texts, named_texts, node_data, nodes_dat
 use Rattle.cert_json.specs.JsonTexts.{named_texts_of}
 use Rattle.cert_laws.specs.Orderly.{KeysRise, IsOrderly, AreOrderly, MembersAreOrderly}
 use Rattle.cert_laws.proofs.Putting.{rises, orderly}
-use Rattle.cert_laws.proofs.Again.{read_again}
+use Rattle.cert_laws.proofs.TextsAgain.{read_again}
 use Rattle.cert_laws.proofs.Utf8.{value_utf8}
 use Rattle.cert_writer.specs.WrittenCertificates.{form_written, literal_bytes, with_equation_member, equations_written, point_written}
 use Rattle.cert_writer.specs.WrittenCertificates.{mode_written, node_written, file_written, certificate_text}
