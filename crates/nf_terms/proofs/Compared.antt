@@ -105,7 +105,7 @@ module _ {X : Type 0} (item : X → X → Ordering) (all : List X → List X →
       → all (drop (i + 1) ls) (drop (i + 1) rs) ≡ all (drop i ls) (drop i rs)
   tied x y r h e s q t = sym (split x y h e s ∙ ap (λ a. ordering_then a (all (drop (i + 1) ls) (drop (i + 1) rs))) (sym q ∙ t))
 
-polynomial_in-is : (p : PolyTree) → polynomial_in p ≡ polynomial_of (map term_in (out-PolyTree p).monos.items)
+pub polynomial_in-is : (p : PolyTree) → polynomial_in p ≡ polynomial_of (map term_in (out-PolyTree p).monos.items)
 polynomial_in-is = fold_out-PolyTree AtomTerm ArrayTerm Monomial Polynomial atom_step arr_step mono_step poly_step
 
 -- two polynomials compare as their lists of terms

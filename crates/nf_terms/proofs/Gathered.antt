@@ -1,5 +1,5 @@
 -- Symbols behind others are joined to them.
-use Rattle.std.proofs.Common.{◌≡◌, List, ◌++◌, refl, ap, sym, ◌∙◌, append_assoc}
+use Rattle.std.proofs.Common.{◌≡◌, Box, Global, List, ◌++◌, ◌⊎◌, inl, inr, refl, ap, sym, ◌∙◌, append_assoc}
 use Rattle.std.proofs.lemmas.List.{append-nil}
 use Rattle.nf_terms.specs.NormalTerms.{Atom, Monomial, Polynomial, ArrayTerm, Writes, Symbol, Read, Quotient, Remainder, One}
 use Rattle.nf_terms.specs.NormalTerms.{Times, Zero, Plus, Over, NoWrites, Write}
@@ -7,6 +7,11 @@ use Rattle.nf_terms.specs.Symbols.{symbols_of_base, symbols_of_atom, symbols_of_
 use Rattle.nf_terms.specs.GatheredSymbols.{with_atom, with_monomial, with_polynomial, with_writes, with_array}
 use Rattle.fs_model.specs.declared.sides.Pos.{Pos}
 use Rattle.nf_terms.specs.declared.symbols.Sort.{Sort}
+use Rattle.nf_terms.specs.declared.tree.Atom.{Atom as AtomTree}
+use Rattle.nf_terms.specs.declared.tree.Atom.TheVariants as tree
+use Rattle.nf_terms.specs.declared.tree.PolyTree.{PolyTree}
+use Rattle.nf_terms.specs.View.{atom_in, polynomial_in}
+use Rattle.nf_terms.proofs.TreeParts.{atom_of_quotient, atom_of_remainder}
 
 -- two parts, one behind the other
 both : (old mid new xs ys : List (Pos × Sort)) → mid ≡ old ++ xs → new ≡ mid ++ ys → new ≡ old ++ (xs ++ ys)
@@ -43,3 +48,9 @@ mutual
   pub array_joined : (l : List (Pos × Sort)) (a : ArrayTerm) → with_array l a ≡ l ++ symbols_of_array a
   array_joined l (Over b ws) = both l (l ++ symbols_of_base b) (with_writes (l ++ symbols_of_base b) ws) (symbols_of_base b) (symbols_of_writes ws) refl
       (writes_joined (l ++ symbols_of_base b) ws)
+
+-- a quotient or a remainder: the symbols of both parts
+pub with_pair : (l : List (Pos × Sort)) (t : AtomTree) (a b : Box PolyTree Global) → (t ≡ tree.Div a b) ⊎ (t ≡ tree.Rem a b)
+    → with_atom l (atom_in t) ≡ with_polynomial (with_polynomial l (polynomial_in a.value)) (polynomial_in b.value)
+with_pair l t a b (inl e) = ap (with_atom l) (atom_of_quotient t a b e)
+with_pair l t a b (inr e) = ap (with_atom l) (atom_of_remainder t a b e)

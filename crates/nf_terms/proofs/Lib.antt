@@ -15,6 +15,7 @@ pub mod Parts
 pub mod Simple
 pub mod Items
 pub mod Steps
+pub mod TreeParts
 pub mod Capped
 pub mod Compared
 pub mod Computed

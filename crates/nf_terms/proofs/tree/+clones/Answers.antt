@@ -1,8 +1,10 @@
-use Rattle.std.proofs.Common.{◌≡◌, ap, ◌∙◌, [], ◌∷◌, ◌++◌, map}
-use Rattle.nf_terms.specs.NormalTerms.{monomial_of, polynomial_of, writes_of, Over}
-use Rattle.nf_terms.specs.View.{atom_in, term_in, write_in}
+use Rattle.std.proofs.Common.{◌≡◌, IfOk, ap, subst, sym, ◌∙◌, [], ◌∷◌, ◌++◌, map}
+use Rattle.nf_terms.specs.NormalTerms.{Read, Quotient, Remainder, monomial_of, polynomial_of, writes_of, Over}
+use Rattle.nf_terms.specs.View.{atom_in, polynomial_in, array_in, term_in, write_in}
 use Rattle.nf_terms.specs.declared.tree.ArrTree.{out-ArrTree}
-use Rattle.nf_terms.proofs.Loops.{one_more}
+use Rattle.nf_terms.proofs.TreeParts.{atom_of_read, atom_of_quotient, atom_of_remainder, polynomial_of_terms, array_over_writes}
+use Rattle.nf_terms.proofs.Degrees.{monomial_in-is}
+use Rattle.nf_terms.proofs.Loops.{one_more, all_there}
 use Rattle.nf_terms.proofs.tree.+clones.Goals as goal
 
 pub MonoTree::try_clone-loop-atom-preserved : goal.MonoTree::try_clone-loop-atom-preserved
@@ -29,3 +31,43 @@ ArrTree::try_clone-loop-index-preserved t c =
     (one_more write_in old _ c.deref-index-items.result.now c.loop-index.index-index c.loop-index-item.result c.loop-index-test.true c.loop-index-item.is
     (c.in_ok-push_write.ensures ∙ (λ j. old ++ (c.in_ok-try_clone.ensures j, c.in_ok-try_clone-2.ensures j) ∷ [])))
     ∙ c.loop-index.invariant
+
+pub MonoTree::try_clone-returns : goal.MonoTree::try_clone-returns
+MonoTree::try_clone-returns t c =
+    monomial_in-is _
+    ∙ ap monomial_of (all_there atom_in (map atom_in c.loop-atom.atoms.items) c.deref-atom-items.result.now c.loop-atom.atom-index c.loop-atom-test.false)
+    ∙ c.loop-atom.invariant
+
+pub PolyTree::try_clone-returns : goal.PolyTree::try_clone-returns
+PolyTree::try_clone-returns t c =
+    polynomial_of_terms _
+    ∙ ap polynomial_of (all_there term_in (map term_in c.loop-mono.monos.items) c.deref-mono-items.result.now c.loop-mono.mono-index c.loop-mono-test.false)
+    ∙ c.loop-mono.invariant
+
+pub ArrTree::try_clone-returns : goal.ArrTree::try_clone-returns
+ArrTree::try_clone-returns t c =
+    array_over_writes _
+    ∙ ap (λ ws. Over (out-ArrTree c.args.self.now).base (writes_of ws))
+    (all_there write_in (map write_in c.loop-index.writes.items) c.deref-index-items.result.now c.loop-index.index-index c.loop-index-test.false)
+    ∙ c.loop-index.invariant
+
+pub Atom::try_clone-returns-in_ok-try_clone-in-Read-2 : goal.Atom::try_clone-returns-in_ok-try_clone-in-Read-2
+Atom::try_clone-returns-in_ok-try_clone-in-Read-2 t c =
+    let parts = (λ j. Read (c.in_ok-try_clone-in-Read.ensures j) (c.in_ok-try_clone-in-Read-2.ensures j))
+    ∙ (λ j. Read (array_in (c.deref.ensures j)) (polynomial_in (c.deref-in-Read.ensures j)))
+    ∙ sym (atom_of_read c.args.self.now c.in-Read.array c.in-Read.index c.in-Read.is) in
+    subst (λ x. IfOk c.make_read.result (λ a. atom_in a ≡ x)) parts c.make_read.ensures
+
+pub Atom::try_clone-returns-in_ok-try_clone-in-Div-2 : goal.Atom::try_clone-returns-in_ok-try_clone-in-Div-2
+Atom::try_clone-returns-in_ok-try_clone-in-Div-2 t c =
+    let parts = (λ j. Quotient (c.in_ok-try_clone-in-Div.ensures j) (c.in_ok-try_clone-in-Div-2.ensures j))
+    ∙ (λ j. Quotient (polynomial_in (c.deref-in-Div.ensures j)) (polynomial_in (c.deref-in-Div-2.ensures j)))
+    ∙ sym (atom_of_quotient c.args.self.now c.in-Div.left c.in-Div.right c.in-Div.is) in
+    subst (λ x. IfOk c.make_quotient.result (λ a. atom_in a ≡ x)) parts c.make_quotient.ensures
+
+pub Atom::try_clone-returns-in_ok-try_clone-in-Rem-2 : goal.Atom::try_clone-returns-in_ok-try_clone-in-Rem-2
+Atom::try_clone-returns-in_ok-try_clone-in-Rem-2 t c =
+    let parts = (λ j. Remainder (c.in_ok-try_clone-in-Rem.ensures j) (c.in_ok-try_clone-in-Rem-2.ensures j))
+    ∙ (λ j. Remainder (polynomial_in (c.deref-in-Rem.ensures j)) (polynomial_in (c.deref-in-Rem-2.ensures j)))
+    ∙ sym (atom_of_remainder c.args.self.now c.in-Rem.left c.in-Rem.right c.in-Rem.is) in
+    subst (λ x. IfOk c.make_remainder.result (λ a. atom_in a ≡ x)) parts c.make_remainder.ensures

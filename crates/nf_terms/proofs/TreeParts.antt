@@ -1,0 +1,36 @@
+-- What a tree that is made of its parts stands for.
+use Rattle.std.proofs.Common.{◌≡◌, Box, Global, map, ap, sym, ◌∙◌}
+use Rattle.nf_terms.specs.NormalTerms.{Atom, ArrayTerm, Monomial, Polynomial, Read, Quotient, Remainder, Over, polynomial_of, writes_of}
+use Rattle.nf_terms.specs.View.{atom_in, polynomial_in, array_in, term_in, write_in, atom_step, arr_step, mono_step, poly_step}
+use Rattle.nf_terms.specs.declared.tree.Atom.{Atom as AtomTree}
+use Rattle.nf_terms.specs.declared.tree.MonoTree.{MonoTree}
+use Rattle.nf_terms.specs.declared.tree.PolyTree.{PolyTree, roll-PolyTree}
+use Rattle.nf_terms.specs.declared.tree.ArrTree.{ArrTree, roll-ArrTree}
+use Rattle.nf_terms.specs.declared.tree.Atom.TheOpen as open_tree
+use Rattle.nf_terms.specs.declared.tree.Atom.TheVariants as tree
+use Rattle.nf_terms.specs.declared.tree.Atom.TheFolds.{fold-roll-Atom, fold-roll-PolyTree, fold-roll-ArrTree}
+
+pub atom_of_read : (t : AtomTree) (a : Box ArrTree Global) (i : Box PolyTree Global) → t ≡ tree.Read a i
+    → atom_in t ≡ Read (array_in a.value) (polynomial_in i.value)
+atom_of_read t a i e =
+    ap atom_in (e ∙ sym (tree.rolls-Read a i))
+    ∙ fold-roll-Atom Atom ArrayTerm Monomial Polynomial atom_step arr_step mono_step poly_step (open_tree.Read a i)
+
+pub atom_of_quotient : (t : AtomTree) (l r : Box PolyTree Global) → t ≡ tree.Div l r
+    → atom_in t ≡ Quotient (polynomial_in l.value) (polynomial_in r.value)
+atom_of_quotient t l r e =
+    ap atom_in (e ∙ sym (tree.rolls-Div l r))
+    ∙ fold-roll-Atom Atom ArrayTerm Monomial Polynomial atom_step arr_step mono_step poly_step (open_tree.Div l r)
+
+pub atom_of_remainder : (t : AtomTree) (l r : Box PolyTree Global) → t ≡ tree.Rem l r
+    → atom_in t ≡ Remainder (polynomial_in l.value) (polynomial_in r.value)
+atom_of_remainder t l r e =
+    ap atom_in (e ∙ sym (tree.rolls-Rem l r))
+    ∙ fold-roll-Atom Atom ArrayTerm Monomial Polynomial atom_step arr_step mono_step poly_step (open_tree.Rem l r)
+
+pub polynomial_of_terms : (d : open_tree.PolyTree-F AtomTree ArrTree MonoTree PolyTree) → polynomial_in (roll-PolyTree d) ≡ polynomial_of (map term_in d.monos.items)
+polynomial_of_terms = fold-roll-PolyTree Atom ArrayTerm Monomial Polynomial atom_step arr_step mono_step poly_step
+
+pub array_over_writes : (d : open_tree.ArrTree-F AtomTree ArrTree MonoTree PolyTree)
+    → array_in (roll-ArrTree d) ≡ Over d.base (writes_of (map write_in d.writes.items))
+array_over_writes = fold-roll-ArrTree Atom ArrayTerm Monomial Polynomial atom_step arr_step mono_step poly_step
