@@ -1,6 +1,8 @@
 -- Lists of terms that are copied with a change.
-use Rattle.std.proofs.Common.{◌≡◌, ℕ, ◌≤◌, ℤ, cond, Bool, true, false, List, [], ◌∷◌, ◌++◌, map, length, drop, refl, ap, sym, subst, ◌∙◌}
+use Rattle.std.proofs.Common.{◌≡◌, ℕ, ◌+◌, ◌<◌, ◌≤◌, ℤ, cond, Bool, true, false, List, [], ◌∷◌, ◌++◌, map, length, drop, get_or, refl, ap, sym, subst, ◌∙◌}
+use Rattle.std.proofs.Common.{append_assoc}
 use Rattle.std.proofs.lemmas.List.{drop_all, append-nil}
+use Rattle.fs_model.proofs.Lists.{drop_next}
 use Rattle.nf_terms.specs.NormalTerms.{Monomial, polynomial_of, Plus}
 use Rattle.nf_terms.specs.View.{term_in, monomial_in}
 use Rattle.nf_terms.specs.Normal.{has_atoms, part_with_atoms}
@@ -28,6 +30,20 @@ pub kept_all : (l out : List (MonoTree × ℤ)) (i : ℕ) → map term_in out ++
 kept_all l out i e h =
     let f : map term_in out ++ [] ≡ kept l = subst (λ d. map term_in out ++ kept d ≡ kept l) (drop_all i l h) e in
     ap polynomial_of (sym (append-nil (map term_in out)) ∙ f) ∙ kept_of l
+
+-- a term that is kept is put behind those before it
+pub kept_more : (old new : List (Monomial × ℤ)) (xs : List (MonoTree × ℤ)) (i : ℕ) (x : MonoTree × ℤ) → i < length xs → x ≡ get_or xs i x
+    → has_atoms (monomial_in x.0) ≡ true → new ≡ old ++ term_in x ∷ [] → new ++ kept (drop (i + 1) xs) ≡ old ++ kept (drop i xs)
+kept_more old new xs i x h e t n =
+    let rest = kept (drop (i + 1) xs) in
+    ap (λ l. l ++ rest) n ∙ append_assoc old (term_in x ∷ []) rest
+    ∙ ap (λ b. old ++ cond b (term_in x ∷ rest) rest) (sym t) ∙ ap (λ l. old ++ kept l) (sym (drop_next xs i x h e))
+
+pub kept_less : (old new : List (Monomial × ℤ)) (xs : List (MonoTree × ℤ)) (i : ℕ) (x : MonoTree × ℤ) → i < length xs → x ≡ get_or xs i x
+    → has_atoms (monomial_in x.0) ≡ false → new ≡ old → new ++ kept (drop (i + 1) xs) ≡ old ++ kept (drop i xs)
+kept_less old new xs i x h e t n =
+    let rest = kept (drop (i + 1) xs) in
+    ap (λ l. l ++ rest) n ∙ ap (λ b. old ++ cond b (term_in x ∷ rest) rest) (sym t) ∙ ap (λ l. old ++ kept l) (sym (drop_next xs i x h e))
 
 -- a term with another coefficient
 abbrev pub other : (ℤ → ℤ) → MonoTree × ℤ → Monomial × ℤ
