@@ -1,6 +1,6 @@
 //! Copies of the entries of vectors.
 
-ghost use Rattle.std.specs.Prelude.{◌≡◌, IfOk};
+ghost use Rattle.std.specs.Prelude.{◌≡◌, [], IfOk};
 ghost use Rattle.std.specs.Result.{OnOk};
 ghost use Rattle.indexmap.specs.IndexMap.{insert_entry};
 ghost use Rattle.nf_substitution.specs.SamePlaces.{same_place};
@@ -23,8 +23,21 @@ fn insert_copy(
     Ok(())
 }
 
+// Fills a map without entries with those of another one, in the same order.
+fn insert_copies(
+    copy: &mut IndexMap<Place, SharedForm>,
+    forms: &IndexMap<Place, SharedForm>,
+) -> Result<(), NoMemory>
+    requires { copy.old.entries ≡ [] }
+    ensures { OnOk result (copy.new.entries ≡ forms.now.entries) }
+{
+    for (place, form) in forms.iter() {
+        insert_copy(copy, place, form)?;
+    }
+    Ok(())
+}
+
 /// The same entries in the same order, with the same forms. The one refusal is out of memory.
-#[tactic(auto, using(crate::proofs::Copying::one_more))]
 pub fn copy_forms(
     alloc: Global,
     forms: &IndexMap<Place, SharedForm>,
@@ -32,8 +45,6 @@ pub fn copy_forms(
     ensures { IfOk result (λ copy. copy.entries ≡ forms.now.entries) }
 {
     let mut copy = IndexMap::with_capacity(alloc, forms.len())?;
-    for (place, form) in forms.iter() {
-        insert_copy(&mut copy, place, form)?;
-    }
+    insert_copies(&mut copy, forms)?;
     Ok(copy)
 }

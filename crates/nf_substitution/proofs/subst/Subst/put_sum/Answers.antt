@@ -1,0 +1,22 @@
+use Rattle.std.proofs.Common.{◌≡◌, OnOk, ap, subst}
+use Rattle.nf_terms.specs.View.{polynomial_in}
+use Rattle.nf_substitution.specs.Keeping.{VectorWithAtoms, with_terms, IsFront}
+use Rattle.nf_substitution.proofs.Known.{known_more}
+use Rattle.nf_substitution.proofs.subst.Subst.put_sum.Goals as goal
+
+pub invariant_of-self : goal.invariant_of-self
+invariant_of-self c =
+    known_more c.self.inside.vector.now c.self.inside.bank c.put_sum.new.bank c.self.inside.memo c.put_sum.ensures.front c.self.invariant
+
+pub returns-clause-vector : goal.returns-clause-vector
+returns-clause-vector c = ap (λ (s : VectorWithAtoms). s.vector) c.self.view_is
+
+pub returns-clause-kept : goal.returns-clause-kept
+returns-clause-kept c =
+    subst (λ a. OnOk c.put_sum.result (c.put_sum.new.bank ≡ with_terms (polynomial_in c.args.sum.now) a)) (ap (λ (s : VectorWithAtoms). s.atoms) c.self.view_is) c.put_sum.ensures.kept
+
+pub returns-clause-front : goal.returns-clause-front
+returns-clause-front c = subst (λ a. IsFront a c.put_sum.new.bank) (ap (λ (s : VectorWithAtoms). s.atoms) c.self.view_is) c.put_sum.ensures.front
+
+pub returns-clause-spelled : goal.returns-clause-spelled
+returns-clause-spelled c = c.put_sum.ensures.spelled
