@@ -28,7 +28,8 @@ atom_of_remainder t l r e =
     ap atom_in (e ∙ sym (tree.rolls-Rem l r))
     ∙ fold-roll-Atom Atom ArrayTerm Monomial Polynomial atom_step arr_step mono_step poly_step (open_tree.Rem l r)
 
-pub polynomial_of_terms : (d : open_tree.PolyTree-F AtomTree ArrTree MonoTree PolyTree) → polynomial_in (roll-PolyTree d) ≡ polynomial_of (map term_in d.monos.items)
+pub polynomial_of_terms : (d : open_tree.PolyTree-F AtomTree ArrTree MonoTree PolyTree)
+    → polynomial_in (roll-PolyTree d) ≡ polynomial_of (map term_in d.monos.items)
 polynomial_of_terms = fold-roll-PolyTree Atom ArrayTerm Monomial Polynomial atom_step arr_step mono_step poly_step
 
 pub array_over_writes : (d : open_tree.ArrTree-F AtomTree ArrTree MonoTree PolyTree)
