@@ -3,7 +3,7 @@
 ghost use Rattle.std.specs.Prelude.{◌≡◌, ◌++◌, ◌∷◌, [], map, IfOk};
 ghost use Rattle.std.specs.Result.{OnOk};
 ghost use Rattle.fs_model.specs.View.{shared_literal_of, guard_of, branch_of};
-ghost use Rattle.fs_model.specs.Trees.{Leaf, Node, tree_of_guard, tree_of_transitions, leaves, branches_of};
+ghost use Rattle.fs_model.specs.Trees.{Leaf, Node, tree_of_guard, tree_of_condition, tree_of_transitions, leaves, branches_of};
 ghost use Rattle.fs_model.specs.Trees.{count_leaves};
 ghost use Rattle.fs_ast.specs.NumberedParts.{resolved_transition};
 ghost use Rattle.fs_ast.specs.Forks.{tree_of, leaves_by, leaves_by_condition, capped_leaves};
@@ -11,7 +11,7 @@ ghost use Rattle.fs_ast.specs.Forks.{tree_of, leaves_by, leaves_by_condition, ca
 use crate::resolve::Transition;
 use crate::shared_literal::SharedLiteral;
 use fs_model::limits::BRANCH_LIMIT;
-use fs_model::memory::both_boxed;
+use fs_model::memory::put_in_box;
 use fs_model::name::NoMemory;
 use fs_model::parts::{Branch, Guard, Lit, VarId};
 use std::alloc::Global;
@@ -64,25 +64,49 @@ pub fn branches(alloc: Global, lines: &[Transition]) -> Result<Vec<Branch>, NoMe
     ensures { IfOk result (λ out. map branch_of out.items ≡ branches_of (map resolved_transition lines.now)) }
 {
     let tree = tree_of_lines(alloc, lines)?;
+    branches_of_tree(alloc, &tree)
+}
+
+// The branches of a tree, yes before no.
+fn branches_of_tree(alloc: Global, tree: &DecisionTree) -> Result<Vec<Branch>, NoMemory>
+    ensures { IfOk result (λ out. map branch_of out.items ≡ leaves (tree_of tree.now) []) }
+{
     let mut way = Vec::new(alloc);
     let mut out = Vec::new(alloc);
-    walk(alloc, &tree, &mut way, &mut out)?;
+    walk(alloc, tree, &mut way, &mut out)?;
     Ok(out)
 }
 
 // The tree of transitions.
-fn tree_of_lines<'a>(alloc: Global, lines: &'a [Transition]) -> Result<DecisionTree<'a>, NoMemory>
-    ensures { IfOk result (λ tree. tree_of tree ≡ tree_of_transitions (map resolved_transition lines.now)) }
+fn tree_of_lines<'a>(
+    alloc: Global,
+    lines: &'a [Transition],
+) -> Result<Box<DecisionTree<'a>>, NoMemory>
+    ensures { IfOk result (λ tree. tree_of tree.value ≡ tree_of_transitions (map resolved_transition lines.now)) }
 {
     match lines {
-        [] => Ok(DecisionTree::Fail),
+        [] => put_in_box(alloc, DecisionTree::Fail),
         [first, rest @ ..] => {
             let on_no = tree_of_lines(alloc, rest)?;
-            match &first.guard {
-                None => Ok(DecisionTree::Leaf(first)),
-                Some(guard) => tree_of_guard(alloc, guard, DecisionTree::Leaf(first), on_no),
-            }
+            tree_of_line(alloc, first, on_no)
         }
+    }
+}
+
+// The tree of a transition over that of those behind it.
+fn tree_of_line<'a>(
+    alloc: Global,
+    line: &'a Transition,
+    on_no: Box<DecisionTree<'a>>,
+) -> Result<Box<DecisionTree<'a>>, NoMemory>
+    ensures { IfOk result
+        (λ tree. tree_of tree.value ≡ tree_of_condition (resolved_transition line.now).guard
+        (Leaf (resolved_transition line.now).assignments (resolved_transition line.now).target) (tree_of on_no.entry.value)) }
+{
+    let on_yes = put_in_box(alloc, DecisionTree::Leaf(line))?;
+    match &line.guard {
+        None => Ok(on_yes),
+        Some(guard) => tree_of_guard(alloc, guard, on_yes, on_no),
     }
 }
 
@@ -90,23 +114,23 @@ fn tree_of_lines<'a>(alloc: Global, lines: &'a [Transition]) -> Result<DecisionT
 fn make_test<'a>(
     alloc: Global,
     literal: SharedLiteral,
-    on_yes: DecisionTree<'a>,
-    on_no: DecisionTree<'a>,
-) -> Result<DecisionTree<'a>, NoMemory>
-    ensures { IfOk result (λ tree. tree_of tree ≡ Node literal (tree_of on_yes.entry) (tree_of on_no.entry)) }
+    on_yes: Box<DecisionTree<'a>>,
+    on_no: Box<DecisionTree<'a>>,
+) -> Result<Box<DecisionTree<'a>>, NoMemory>
+    ensures { IfOk result (λ tree. tree_of tree.value ≡ Node literal (tree_of on_yes.entry.value) (tree_of on_no.entry.value)) }
 {
-    let (on_yes, on_no) = both_boxed(alloc, on_yes, on_no)?;
-    Ok(DecisionTree::Test(literal, on_yes, on_no))
+    put_in_box(alloc, DecisionTree::Test(literal, on_yes, on_no))
 }
 
 // The tree of a test that has one owner more, over two subtrees.
 fn copy_test<'a>(
     alloc: Global,
     literal: &SharedLiteral,
-    on_yes: DecisionTree<'a>,
-    on_no: DecisionTree<'a>,
-) -> Result<DecisionTree<'a>, NoMemory>
-    ensures { IfOk result (λ tree. tree_of tree ≡ Node literal.now (tree_of on_yes.entry) (tree_of on_no.entry)) }
+    on_yes: Box<DecisionTree<'a>>,
+    on_no: Box<DecisionTree<'a>>,
+) -> Result<Box<DecisionTree<'a>>, NoMemory>
+    ensures { IfOk result
+        (λ tree. tree_of tree.value ≡ Node literal.now (tree_of on_yes.entry.value) (tree_of on_no.entry.value)) }
 {
     make_test(alloc, literal.try_clone()?, on_yes, on_no)
 }
@@ -116,11 +140,12 @@ fn copy_test<'a>(
 fn tree_of_guard<'a>(
     alloc: Global,
     guard: &'a Guard<VarId>,
-    on_yes: DecisionTree<'a>,
-    on_no: DecisionTree<'a>,
-) -> Result<DecisionTree<'a>, NoMemory>
+    on_yes: Box<DecisionTree<'a>>,
+    on_no: Box<DecisionTree<'a>>,
+) -> Result<Box<DecisionTree<'a>>, NoMemory>
     ensures { IfOk result
-        (λ tree. tree_of tree ≡ tree_of_guard (guard_of guard.now) (tree_of on_yes.entry) (tree_of on_no.entry)) }
+        (λ tree. tree_of tree.value
+        ≡ tree_of_guard (guard_of guard.now) (tree_of on_yes.entry.value) (tree_of on_no.entry.value)) }
 {
     match guard {
         Guard::Lit(lit) => make_test(alloc, SharedLiteral::of(alloc, lit)?, on_yes, on_no),
@@ -138,12 +163,12 @@ fn tree_of_guard<'a>(
     }
 }
 
-fn copy_tree<'a>(alloc: Global, tree: &DecisionTree<'a>) -> Result<DecisionTree<'a>, NoMemory>
-    ensures { IfOk result (λ copy. tree_of copy ≡ tree_of tree.now) }
+fn copy_tree<'a>(alloc: Global, tree: &DecisionTree<'a>) -> Result<Box<DecisionTree<'a>>, NoMemory>
+    ensures { IfOk result (λ copy. tree_of copy.value ≡ tree_of tree.now) }
 {
     match tree {
-        DecisionTree::Fail => Ok(DecisionTree::Fail),
-        DecisionTree::Leaf(line) => Ok(DecisionTree::Leaf(*line)),
+        DecisionTree::Fail => put_in_box(alloc, DecisionTree::Fail),
+        DecisionTree::Leaf(line) => put_in_box(alloc, DecisionTree::Leaf(*line)),
         DecisionTree::Test(literal, on_yes, on_no) => {
             let on_yes = copy_tree(alloc, on_yes)?;
             copy_test(alloc, literal, on_yes, copy_tree(alloc, on_no)?)
