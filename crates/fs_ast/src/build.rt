@@ -7,16 +7,14 @@ ghost use Rattle.fs_model.specs.WellFormed.{is_well_formed};
 ghost use Rattle.fs_rules.specs.MachineOfParts.{state_names, place_or_end, machine_of};
 ghost use Rattle.fs_rules.specs.Rules.{plain_faults, Broken, IsFirstBroken, BreaksNoRule};
 ghost use Rattle.fs_rules.specs.Scopes.{IsScopeOf};
-ghost use Rattle.fs_rules.specs.SoundParts.{IsSound};
 ghost use Rattle.fs_ast.specs.BuildAnswers.{IfCheck};
-ghost use Rattle.fs_ast.specs.NumberedParts.{resolved_state, state_with_line, states_with_lines};
-ghost use Rattle.fs_ast.specs.StoredBranches.{KeepsTypes};
+ghost use Rattle.fs_ast.specs.NumberedParts.{state_with_line, states_with_lines};
 
 use crate::machine::Machine;
 use crate::resolve::{State, resolve};
 use crate::shape_rules::check_shapes;
 use fs_model::name::NoMemory;
-use fs_model::parts::{Parts, StateId};
+use fs_model::parts::{Parts, StateId, VarInfo};
 use fs_rules::check::CheckFault;
 use fs_rules::checked::{Checked, check_parts};
 use fs_rules::scope::Scope;
@@ -57,36 +55,30 @@ fn build_checked(alloc: Global, scope: Scope, parts: &Parts) -> Result<Machine, 
     requires formed { IsTrue (is_well_formed (source_of parts.now)) }
     ensures spelled { IfOk result (λ m. m ≡ machine_of (source_of parts.now)) }
     ensures lawful { OnOk result (BreaksNoRule (source_of parts.now)) }
+    ensures broken { IfErr result (λ e. IfCheck e (λ f. Broken (source_of parts.now) f)) }
     ensures first { IfErr result (λ e. IfCheck e (λ f. IsFirstBroken (source_of parts.now) f)) }
 {
     let Ok(states) = numbered_states(alloc, &scope, parts) else {
         return Err(BuildError::NoMemory);
     };
     let reset = reset_state(&scope, parts);
+    let vars = variables_of(scope);
     match check_shapes(alloc, states.as_slice(), reset.0 as usize) {
         Err(_) => Err(BuildError::NoMemory),
         Ok(Some(fault)) => Err(BuildError::Check(fault)),
-        Ok(None) => match machine_of_states(alloc, scope, reset, states) {
+        Ok(None) => match Machine::of(alloc, vars, reset, states) {
             Ok(machine) => Ok(machine),
             Err(_) => Err(BuildError::NoMemory),
         },
     }
 }
 
-// The machine of the variables of a scope and of states.
-fn machine_of_states(
-    alloc: Global,
-    scope: Scope,
-    reset: StateId,
-    states: Vec<State>,
-) -> Result<Machine, NoMemory>
-    requires { KeepsTypes scope.vars.items (map resolved_state states.items)
-        → IsSound (record { variables = scope.vars.items; reset = reset.0; states = map resolved_state states.items }) }
-    ensures { IfOk result
-        (λ m. m ≡ record { variables = scope.entry.vars.items; reset = reset.0; states = map resolved_state states.items }) }
+// The variables of a scope.
+fn variables_of(scope: Scope) -> Vec<VarInfo>
+    ensures { result.items ≡ scope.entry.vars.items }
 {
     let Scope { vars, .. } = scope;
-    Machine::of(alloc, vars, reset, states)
+    vars
 }
 
 // The states of parts, over the numbers of variables and states.

@@ -42,8 +42,8 @@ fn copy_condition(
 fn copy_line(alloc: Global, line: &Transition) -> Result<Transition, NoMemory>
     ensures { IfOk result (λ copy. resolved_transition copy ≡ resolved_transition line.now) }
 {
-    let guard = copy_condition(alloc, &line.guard)?;
     let assigns = line.assigns.clone()?;
+    let guard = copy_condition(alloc, &line.guard)?;
     Ok(Transition {
         guard,
         target: line.target,

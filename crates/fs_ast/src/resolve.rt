@@ -87,8 +87,8 @@ fn numbered_line(alloc: Global, scope: &Scope, line: &RawLine) -> Result<Transit
         (λ l. resolved_transition l ≡ transition_spelled (names_of scope.now.vars.items) (names_stated scope.now.states.now)
         (source_transition_of line.now)) }
 {
-    let guard = condition(alloc, scope, &line.guard)?;
     let assigns = shared_assignments(alloc, scope, &line.assigns)?;
+    let guard = condition(alloc, scope, &line.guard)?;
     Ok(Transition {
         guard,
         target: scope.state_id(&line.target),
