@@ -8,6 +8,7 @@ ghost use Rattle.fs_rules.specs.SoundParts.{numbers_in_assignments, numbers_in_t
 ghost use Rattle.fs_ast.specs.NumberedParts.{resolved_transition, resolved_state};
 
 use crate::resolve::{State, Transition};
+use fs_model::memory::push_value;
 use fs_model::name::NoMemory;
 use fs_model::parts::{Assign, Expr, Guard, VarId};
 use std::alloc::Global;
@@ -86,10 +87,7 @@ fn add_expr(out: &mut Vec<i128>, expr: &Expr<VarId>) -> Result<(), NoMemory>
     ensures { OnOk result (out.new.items ≡ out.old.items ++ numbers_in (term_of expr.now)) }
 {
     match expr {
-        Expr::Num(n) => {
-            out.push(*n)?;
-            Ok(())
-        }
+        Expr::Num(n) => push_value(out, *n),
         Expr::Var(_) => Ok(()),
         Expr::Read(_, index) => add_expr(out, index),
         Expr::Add(a, b) | Expr::Sub(a, b) | Expr::Mul(a, b) | Expr::Div(a, b) | Expr::Rem(a, b) => {

@@ -1,6 +1,6 @@
 //! Decision trees of transitions, and their branches.
 
-ghost use Rattle.std.specs.Prelude.{◌≡◌, ◌++◌, ◌∷◌, [], map, IfOk};
+ghost use Rattle.std.specs.Prelude.{◌≡◌, ◌++◌, [], map, IfOk};
 ghost use Rattle.std.specs.Result.{OnOk};
 ghost use Rattle.fs_model.specs.View.{shared_literal_of, guard_of, branch_of};
 ghost use Rattle.fs_model.specs.Trees.{Leaf, Node, tree_of_guard, tree_of_condition, tree_of_transitions, leaves, branches_of};
@@ -11,7 +11,7 @@ ghost use Rattle.fs_ast.specs.Forks.{tree_of, leaves_by, leaves_by_condition, ca
 use crate::resolve::Transition;
 use crate::shared_literal::SharedLiteral;
 use fs_model::limits::BRANCH_LIMIT;
-use fs_model::memory::put_in_box;
+use fs_model::memory::{push_value, put_in_box};
 use fs_model::name::NoMemory;
 use fs_model::parts::{Branch, Guard, Lit, VarId};
 use std::alloc::Global;
@@ -176,14 +176,6 @@ fn copy_tree<'a>(alloc: Global, tree: &DecisionTree<'a>) -> Result<Box<DecisionT
     }
 }
 
-// Puts a literal behind a way.
-fn push_literal(way: &mut Vec<Rc<Lit<VarId>>>, literal: Rc<Lit<VarId>>) -> Result<(), NoMemory>
-    ensures { OnOk result (way.new.items ≡ way.old.items ++ literal ∷ []) }
-{
-    way.push(literal)?;
-    Ok(())
-}
-
 // Adds the branches below a way. The way is as before.
 fn walk(
     alloc: Global,
@@ -200,10 +192,10 @@ fn walk(
         DecisionTree::Fail => Ok(()),
         DecisionTree::Leaf(line) => { add_branch(alloc, way.as_slice(), line, out) }
         DecisionTree::Test(literal, on_yes, on_no) => {
-            push_literal(way, literal.literal()?)?;
+            push_value(way, literal.literal()?)?;
             walk(alloc, on_yes, way, out)?;
             let _ = way.pop();
-            push_literal(way, literal.negation()?)?;
+            push_value(way, literal.negation()?)?;
             walk(alloc, on_no, way, out)?;
             let _ = way.pop();
             Ok(())
@@ -249,7 +241,7 @@ fn copy_way(alloc: Global, way: &[Rc<Lit<VarId>>]) -> Result<Vec<Rc<Lit<VarId>>>
 {
     let mut out = Vec::with_capacity(alloc, way.len())?;
     for lit in way {
-        push_literal(&mut out, lit.clone()?)?;
+        push_value(&mut out, lit.clone()?)?;
     }
     Ok(out)
 }
