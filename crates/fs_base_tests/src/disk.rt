@@ -1,72 +1,59 @@
 //! Files of the system, standard output and other writers. Each test takes away what it wrote.
 
-use crate::memory::{answers, load_and_store};
+use crate::memory::{is_too_long, load_and_store, load_fails, loads};
 use fs_base::disk::DiskFiles;
-use fs_base::outside::{Files, LoadError, Sink, StoreError};
+use fs_base::outside::{Files, Sink, StoreError};
 use fs_base::put_all::{PutError, put_all};
 use fs_base::writers::{WriterSink, write_whole};
 use std::alloc::Global;
 use std::io::Write;
 use std::process::Abort;
-use std::test::Fail;
 use std::{fs, io};
 
-#[test]
-fn files_and_folders(rt: HostRuntime) -> Result<(), Fail> {
-    let alloc = rt.alloc();
-    fs::create_dir(&rt, "folder")?;
-    let mut files = DiskFiles::new(&rt);
-    assert_eq!(rt; files.store(alloc, "a", b"three"), Ok(()));
-    load_and_store(&rt, alloc, &mut files);
-    for name in ["missing", "folder"] {
-        assert!(rt;
-            matches!(files.load(alloc, name, 5), Err(LoadError::Failed)),
-            "{name}"
-        );
-    }
-    assert_eq!(rt;
-        files.store(alloc, "folder", b"three"),
-        Err(StoreError::Failed)
-    );
-    fs::remove_file(&rt, "a")?;
-    fs::remove_dir(&rt, "folder")?;
-    Ok(())
+// Whether files answer where there is a folder 'folder' and nothing else.
+fn answer_beside_a_folder<F: Files>(alloc: Global, files: &mut F) -> bool {
+    files.store(alloc, "a", b"three") == Ok(())
+        && load_and_store(alloc, files)
+        && load_fails(alloc, files, "missing")
+        && load_fails(alloc, files, "folder")
+        && files.store(alloc, "folder", b"three") == Err(StoreError::Failed)
 }
 
-// Stores so many bytes and loads them within the number, and not within one less.
-fn stores_and_loads<F: Files>(
-    rt: &impl Abort,
-    alloc: Global,
-    files: &mut F,
-    count: usize,
-) -> Result<(), Fail> {
-    let bytes = vec![in alloc; b'x'; count]?;
-    assert_eq!(rt; files.store(alloc, "sized", bytes.as_slice()), Ok(()));
-    let limit = count as u64;
-    assert!(rt;
-        answers(files.load(alloc, "sized", limit), bytes.as_slice()),
-        "{count} bytes"
-    );
-    if let Some(less) = limit.checked_sub(1) {
-        let loaded = files.load(alloc, "sized", less);
-        assert!(rt;
-            matches!(loaded, Err(LoadError::TooLong)),
-            "{count} bytes within {less}"
-        );
+#[test]
+fn files_and_folders(rt: HostRuntime) -> io::Result<()> {
+    fs::create_dir(&rt, "folder")?;
+    assert!(rt; answer_beside_a_folder(rt.alloc(), &mut DiskFiles::new(&rt)));
+    fs::remove_file(&rt, "a")?;
+    fs::remove_dir(&rt, "folder")
+}
+
+// Whether bytes that are stored are loaded within their number, and not within one less.
+fn are_kept<F: Files>(alloc: Global, files: &mut F, bytes: &[u8]) -> bool {
+    let limit = bytes.len() as u64;
+    files.store(alloc, "sized", bytes) == Ok(())
+        && loads(alloc, files, "sized", limit, bytes)
+        && (limit == 0 || is_too_long(alloc, files, "sized", limit - 1))
+}
+
+// The same of so many bytes.
+fn keeps<F: Files>(alloc: Global, files: &mut F, count: usize) -> bool {
+    match vec![in alloc; b'x'; count] {
+        Ok(bytes) => are_kept(alloc, files, bytes.as_slice()),
+        Err(_) => false,
     }
-    Ok(())
 }
 
 // A file is read by parts of 8,192 bytes: none, one part, a byte more, and several parts.
-#[test]
-fn sizes_of_files(rt: HostRuntime) -> Result<(), Fail> {
-    let alloc = rt.alloc();
-    let mut files = DiskFiles::new(&rt);
+fn keep_sizes<F: Files>(rt: &impl Abort, alloc: Global, files: &mut F) {
     for count in [0, 8_192, 8_193, 20_000] {
-        stores_and_loads(&rt, alloc, &mut files, count)?;
+        assert!(rt; keeps(alloc, files, count), "{count} bytes");
     }
-    fs::remove_file(&rt, "sized")?;
-    Ok(())
+}
+
+#[test]
+fn sizes_of_files(rt: HostRuntime) -> io::Result<()> {
+    keep_sizes(&rt, rt.alloc(), &mut DiskFiles::new(&rt));
+    fs::remove_file(&rt, "sized")
 }
 
 #[test]
@@ -94,30 +81,51 @@ impl Write for NarrowPipe {
     }
 }
 
+// Whether a sink takes three bytes of a put, and all bytes by more.
+fn takes_few<W: Write>(out: &mut WriterSink<W>) -> bool {
+    out.put(b"") == Ok(0) && out.put(b"equivalent") == Ok(3) && put_all(out, b"ivalent\n") == Ok(())
+}
+
+// The same of a sink round this pipe.
+fn sink_takes_few(pipe: &mut NarrowPipe) -> bool {
+    let mut out = WriterSink::new(pipe);
+    takes_few(&mut out)
+}
+
+// Whether a pipe that took nothing, and takes three bytes at most, answers.
+fn pipe_takes_few(pipe: &mut NarrowPipe) -> bool {
+    sink_takes_few(pipe)
+        && write_whole(pipe, b"yes\n") == Ok(())
+        && pipe.taken.as_slice() == b"equivalent\nyes\n".as_slice()
+}
+
 #[test]
 fn a_pipe_that_takes_few_bytes(rt: HostRuntime) {
-    let alloc = rt.alloc();
     let mut pipe = NarrowPipe {
-        taken: Vec::new(alloc),
+        taken: Vec::new(rt.alloc()),
         most: 3,
     };
-    let mut out = WriterSink::new(&mut pipe);
-    assert_eq!(rt; out.put(b""), Ok(0));
-    assert_eq!(rt; out.put(b"equivalent"), Ok(3));
-    assert_eq!(rt; put_all(&mut out, b"ivalent\n"), Ok(()));
-    assert_eq!(rt; write_whole(&mut pipe, b"yes\n"), Ok(()));
-    assert!(rt; pipe.taken.as_slice() == b"equivalent\nyes\n".as_slice());
+    assert!(rt; pipe_takes_few(&mut pipe));
+}
+
+// What a sink round this pipe answers.
+fn put_to(pipe: &mut NarrowPipe) -> Result<(), PutError> {
+    let mut out = WriterSink::new(pipe);
+    put_all(&mut out, b"yes")
+}
+
+// Whether a pipe that takes nothing answers.
+fn takes_none(pipe: &mut NarrowPipe) -> bool {
+    put_to(pipe) == Err(PutError { sent: 0 })
+        && write_whole(pipe, b"yes") == Err(StoreError::Failed)
+        && pipe.taken.is_empty()
 }
 
 #[test]
 fn a_pipe_that_takes_none(rt: HostRuntime) {
-    let alloc = rt.alloc();
     let mut pipe = NarrowPipe {
-        taken: Vec::new(alloc),
+        taken: Vec::new(rt.alloc()),
         most: 0,
     };
-    let mut out = WriterSink::new(&mut pipe);
-    assert_eq!(rt; put_all(&mut out, b"yes"), Err(PutError { sent: 0 }));
-    assert_eq!(rt; write_whole(&mut pipe, b"yes"), Err(StoreError::Failed));
-    assert!(rt; pipe.taken.is_empty());
+    assert!(rt; takes_none(&mut pipe));
 }

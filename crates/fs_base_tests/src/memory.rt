@@ -5,83 +5,110 @@ use fs_base::outside::{Files, LoadError, Sink, StoreError};
 use fs_base::put_all::{PutError, put_all};
 use fs_base::recorded::RecordedFiles;
 use fs_base::sinks::{CleanSink, MemSink};
-use std::alloc::Global;
-use std::process::Abort;
-use std::test::Fail;
+use std::alloc::{AllocError, Global};
 
-/// Whether bytes were loaded, and these.
-pub fn answers(loaded: Result<Vec<u8>, LoadError>, want: &[u8]) -> bool {
-    match loaded {
+/// Whether a name is loaded within so many bytes, and holds these.
+pub fn loads<F: Files>(alloc: Global, files: &mut F, name: &str, limit: u64, want: &[u8]) -> bool {
+    match files.load(alloc, name, limit) {
         Ok(bytes) => bytes.as_slice() == want,
         Err(_) => false,
     }
 }
 
-fn finds(found: Option<&[u8]>, want: &[u8]) -> bool {
-    match found {
-        Some(bytes) => bytes == want,
+/// Whether a name holds more than so many bytes.
+pub fn is_too_long<F: Files>(alloc: Global, files: &mut F, name: &str, limit: u64) -> bool {
+    matches!(files.load(alloc, name, limit), Err(LoadError::TooLong))
+}
+
+/// Whether a name can't be loaded.
+pub fn load_fails<F: Files>(alloc: Global, files: &mut F, name: &str) -> bool {
+    matches!(files.load(alloc, name, 5), Err(LoadError::Failed))
+}
+
+/// Whether files that hold 'three' under 'a' answer through the trait: 'two' is stored there.
+pub fn load_and_store<F: Files>(alloc: Global, files: &mut F) -> bool {
+    loads(alloc, files, "a", 5, b"three")
+        && is_too_long(alloc, files, "a", 4)
+        && files.store(alloc, "a", b"two") == Ok(())
+        && loads(alloc, files, "a", 5, b"two")
+}
+
+// Whether 'two' is found under 'a', and no file under 'b'.
+fn are_found(a: Option<&[u8]>, b: Option<&[u8]>) -> bool {
+    match a {
+        Some(bytes) => bytes == b"two".as_slice() && b.is_none(),
         None => false,
     }
 }
 
-/// Asserts each answer of files that hold 'three' under 'a', through the trait.
-pub fn load_and_store<F: Files>(rt: &impl Abort, alloc: Global, files: &mut F) {
-    assert!(rt; answers(files.load(alloc, "a", 5), b"three"));
-    assert!(rt; matches!(files.load(alloc, "a", 4), Err(LoadError::TooLong)));
-    assert_eq!(rt; files.store(alloc, "a", b"two"), Ok(()));
-    assert!(rt; answers(files.load(alloc, "a", 5), b"two"));
+// Whether two calls fail.
+fn two_fail<F: Files>(alloc: Global, files: &mut F) -> bool {
+    load_fails(alloc, files, "a")
+        && files.store(alloc, "a", b"four") == Err(StoreError::Failed)
+        && load_fails(alloc, files, "b")
+}
+
+// Whether files without a file, whose calls 4 and 5 fail, answer.
+fn fail_by_a_list(alloc: Global, files: &mut MemFiles) -> bool {
+    files.add("a", b"three") == Ok(())
+        && load_and_store(alloc, files)
+        && two_fail(alloc, files)
+        && are_found(files.get("a"), files.get("b"))
 }
 
 #[test]
-fn calls_that_fail_by_a_list(rt: HostRuntime) -> Result<(), Fail> {
-    let alloc = rt.alloc();
-    let mut files = MemFiles::new(alloc, vec![in alloc; 4, 5]?);
-    assert_eq!(rt; files.add("a", b"three"), Ok(()));
-    load_and_store(&rt, alloc, &mut files);
-    assert!(rt; matches!(files.load(alloc, "a", 5), Err(LoadError::Failed)));
-    assert_eq!(rt; files.store(alloc, "a", b"four"), Err(StoreError::Failed));
-    assert!(rt; matches!(files.load(alloc, "b", 5), Err(LoadError::Failed)));
-    assert!(rt; finds(files.get("a"), b"two"));
-    assert!(rt; files.get("b").is_none());
+fn calls_that_fail_by_a_list(rt: HostRuntime) -> Result<(), AllocError> {
+    let mut files = MemFiles::new(rt.alloc(), vec![in rt.alloc(); 4, 5]?);
+    assert!(rt; fail_by_a_list(rt.alloc(), &mut files));
     Ok(())
+}
+
+// Whether files without a file answer.
+fn never_fail(alloc: Global, files: &mut CleanFiles) -> bool {
+    files.add("a", b"three") == Ok(())
+        && load_and_store(alloc, files)
+        && loads(alloc, files, "b", 0, b"")
+        && are_found(files.get("a"), files.get("b"))
 }
 
 #[test]
 fn files_without_faults(rt: HostRuntime) {
-    let alloc = rt.alloc();
-    let mut files = CleanFiles::new(alloc);
-    assert_eq!(rt; files.add("a", b"three"), Ok(()));
-    load_and_store(&rt, alloc, &mut files);
-    assert!(rt; answers(files.load(alloc, "b", 0), b""));
-    assert!(rt; finds(files.get("a"), b"two"));
-    assert!(rt; files.get("b").is_none());
+    let mut files = CleanFiles::new(rt.alloc());
+    assert!(rt; never_fail(rt.alloc(), &mut files));
+}
+
+// Whether a sink that took nothing answers.
+fn takes_all(sink: &mut CleanSink) -> bool {
+    if sink.put(b"") != Ok(0) || sink.reserve(10) != Ok(()) || sink.room() != Some(10) {
+        return false;
+    }
+    put_all(sink, b"equivalent") == Ok(()) && sink.bytes() == b"equivalent".as_slice()
 }
 
 #[test]
 fn a_sink_without_faults(rt: HostRuntime) {
     let mut sink = CleanSink::new(rt.alloc());
-    assert_eq!(rt; sink.put(b""), Ok(0));
-    assert_eq!(rt; sink.reserve(10), Ok(()));
-    let room = sink.room();
-    assert!(rt; room == Some(10));
-    assert_eq!(rt; put_all(&mut sink, b"equivalent"), Ok(()));
-    assert!(rt; sink.bytes() == b"equivalent".as_slice());
+    assert!(rt; takes_all(&mut sink));
+}
+
+// Whether a sink answers this to bytes that are put, and has then taken so many.
+fn puts(sink: &mut MemSink, bytes: &[u8], answer: Result<(), PutError>, taken: &[u8]) -> bool {
+    put_all(sink, bytes) == answer && sink.bytes() == taken
+}
+
+// Whether a sink that takes five bytes, none, three, and then all answers.
+fn takes_by_a_list(sink: &mut MemSink) -> bool {
+    sink.reserve(9) == Ok(())
+        && sink.room().is_none()
+        && puts(sink, b"equivalent", Err(PutError { sent: 5 }), b"equiv")
+        && puts(sink, b"alent", Err(PutError { sent: 4 }), b"equivalen")
+        && puts(sink, b"", Ok(()), b"equivalen")
 }
 
 #[test]
-fn puts_that_fail_by_a_list(rt: HostRuntime) -> Result<(), Fail> {
-    let alloc = rt.alloc();
-    let mut sink = MemSink::new(alloc, vec![in alloc; 5, 0, 3]?);
-    assert_eq!(rt; sink.reserve(9), Ok(()));
-    assert!(rt; sink.room().is_none());
-    assert_eq!(rt;
-        put_all(&mut sink, b"equivalent"),
-        Err(PutError { sent: 5 })
-    );
-    assert!(rt; sink.bytes() == b"equiv".as_slice());
-    assert_eq!(rt; put_all(&mut sink, b"alent"), Err(PutError { sent: 4 }));
-    assert!(rt; sink.bytes() == b"equivalen".as_slice());
-    assert_eq!(rt; put_all(&mut sink, b""), Ok(()));
+fn puts_that_fail_by_a_list(rt: HostRuntime) -> Result<(), AllocError> {
+    let mut sink = MemSink::new(rt.alloc(), vec![in rt.alloc(); 5, 0, 3]?);
+    assert!(rt; takes_by_a_list(&mut sink));
     Ok(())
 }
 
@@ -100,17 +127,28 @@ fn loaded<F: Files>(files: &RecordedFiles<F>, want: &[&str]) -> bool {
     left.next().is_none()
 }
 
-#[test]
-fn files_that_tell_which_were_loaded(rt: HostRuntime) -> Result<(), Fail> {
-    let alloc = rt.alloc();
-    let mut within = MemFiles::new(alloc, vec![in alloc; 4]?);
-    assert_eq!(rt; within.add("a", b"three"), Ok(()));
+// Whether files that hold 'three' under 'a', and whose call 4 fails, tell which were loaded.
+fn tells_which<F: Files>(alloc: Global, files: &mut RecordedFiles<F>) -> bool {
+    loaded(files, &[])
+        && load_and_store(alloc, files)
+        && loaded(files, &["a", "a", "a"])
+        && load_fails(alloc, files, "a")
+        && load_fails(alloc, files, "b")
+        && loaded(files, &["a", "a", "a", "a", "b"])
+}
+
+// The same of files without a file.
+fn tells_which_of(alloc: Global, mut within: MemFiles) -> bool {
+    if within.add("a", b"three") != Ok(()) {
+        return false;
+    }
     let mut files = RecordedFiles::new(alloc, within);
-    assert!(rt; loaded(&files, &[]));
-    load_and_store(&rt, alloc, &mut files);
-    assert!(rt; loaded(&files, &["a", "a", "a"]));
-    assert!(rt; matches!(files.load(alloc, "a", 5), Err(LoadError::Failed)));
-    assert!(rt; matches!(files.load(alloc, "b", 5), Err(LoadError::Failed)));
-    assert!(rt; loaded(&files, &["a", "a", "a", "a", "b"]));
+    tells_which(alloc, &mut files)
+}
+
+#[test]
+fn files_that_tell_which_were_loaded(rt: HostRuntime) -> Result<(), AllocError> {
+    let within = MemFiles::new(rt.alloc(), vec![in rt.alloc(); 4]?);
+    assert!(rt; tells_which_of(rt.alloc(), within));
     Ok(())
 }
