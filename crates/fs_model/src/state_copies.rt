@@ -13,12 +13,13 @@ use std::alloc::Global;
 pub fn copied_line(alloc: Global, line: &RawLine) -> Result<RawLine, NoMemory>
     ensures { IfOk result (λ l. source_transition_of l ≡ source_transition_of line.now) }
 {
-    let guard = copied_condition(alloc, &line.guard)?;
+    let target = line.target.try_clone(alloc)?;
     let assigns = copied_assignments(alloc, &line.assigns)?;
+    let guard = copied_condition(alloc, &line.guard)?;
     Ok(RawLine {
         line: line.line,
         guard,
-        target: line.target.try_clone(alloc)?,
+        target,
         assigns,
     })
 }
