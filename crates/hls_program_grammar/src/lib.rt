@@ -1,8 +1,9 @@
 //! The grammar of programs, and what their reading means by it. The functions do nothing.
 //!
-//! A program is read token by token (`specs/Grammar`), from the tokens of its bytes (`specs/Marks`). The grammar itself is
-//! stated with no order of reading: which words spell which parts (`specs/Spelling`), what begins a program
-//! (`specs/Beginnings`), and the limits on operators and on nested blocks (`specs/Limits`). Each function is a law.
+//! A program is read token by token (`specs/ProgramGrammar`), from the tokens of its bytes (`specs/Marks`). The grammar
+//! itself is stated with no order of reading: which words spell which parts (`specs/ProgramSpelling`), what begins a program
+//! (`specs/ProgramBeginnings`), and the limits on operators and on nested blocks (`specs/ProgramLimits`). Each function is a
+//! law.
 //!
 //! Promises: programs by the grammar alone: what bytes spell within the limits, and their first fault; reading token by
 //! token gives this.

@@ -1,6 +1,7 @@
-//! What has held at every arrival at a pair of points, and facts of parts of which nothing is known.
+//! What has held at every arrival at a pair of points, and facts that are made of parts of which nothing is known before.
 //!
-//! Promises: `claims_before`, `weed`; `tested_fact`: a fact of the pairing, or none.
+//! Promises: `claims_before`, `weed`: calls are safe and end, and no more is promised; `tested_fact`: a fact of the
+//! pairing, or none.
 //!
 //! Rules: `src/tested_facts`.
 //!
