@@ -14,7 +14,7 @@ pub fn one_branch_is_taken()
     ensures { (m : Fsmd) (q : ℕ) (s : Store) → IsSound m → q < length m.states → TakesOneBranch (transitions_of m q) s }
 {}
 
-/// Each branch of a sound machine uses scalars, arrays as arrays and ports, changes no
+/// Each branch of a sound machine uses each variable as the scalar, the array or the port that it is, changes no
 /// input, assigns no scalar twice, has at most 16 emits and numbers from 0 to 2^127 - 1, and leads to a state.
 pub fn branches_are_sound()
     ensures { (m : Fsmd) (q k : ℕ) (b : Branch) → IsSound m → slice_get (branches_of (transitions_of m q)) k ≡ Some b
