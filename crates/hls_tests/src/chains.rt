@@ -3,42 +3,65 @@
 use cert_check::verdict::Verdict;
 use cert_model::reason::Reason;
 use cert_text::reader::read_cert;
+use fs_ast::machine::Machine;
 use fs_pair::positions::same_interface;
 use fs_sample_machines::reading::machine;
 use hls_shrink::{Chain, ChainStop};
 use std::alloc::Global;
-use std::test::Fail;
 
 // The chain of the machine of a text.
-fn chain_of(alloc: Global, first: &str) -> Result<Chain, Fail> {
-    match Chain::new(alloc, machine(alloc, first)?) {
-        Ok(chain) => Ok(chain),
-        Err(_) => Err("no memory".into()),
+fn chain_of(alloc: Global, first: &str) -> Option<Chain> {
+    match machine(alloc, first) {
+        Ok(machine) => Chain::new(alloc, machine).ok(),
+        Err(_) => None,
     }
 }
 
-// A chain with the machine of a text behind it, by a certificate as a text, or why that machine is not added.
+// A chain with a machine behind it, by a certificate as a text, or why that machine is not added. Nothing where the interfaces
+// are not the same or the text is no certificate.
+fn with_machine(
+    alloc: Global,
+    chain: Chain,
+    next: Machine,
+    cert: &str,
+) -> Option<Result<Chain, ChainStop>> {
+    let Ok(pairing) = same_interface(alloc, chain.last(), &next) else {
+        return None;
+    };
+    match read_cert(alloc, cert.as_bytes(), chain.last(), &next, &pairing) {
+        Ok(cert) => Some(chain.add(alloc, next, &pairing, &cert)),
+        Err(_) => None,
+    }
+}
+
+// The same of the machine of a text.
 fn with_link(
     alloc: Global,
     chain: Chain,
     next: &str,
     cert: &str,
-) -> Result<Result<Chain, ChainStop>, Fail> {
-    let next = machine(alloc, next)?;
-    let Ok(pairing) = same_interface(alloc, chain.last(), &next) else {
-        return Err("other interfaces".into());
-    };
-    let Ok(cert) = read_cert(alloc, cert.as_bytes(), chain.last(), &next, &pairing) else {
-        return Err("no certificate".into());
-    };
-    Ok(chain.add(alloc, next, &pairing, &cert))
+) -> Option<Result<Chain, ChainStop>> {
+    match machine(alloc, next) {
+        Ok(next) => with_machine(alloc, chain, next, cert),
+        Err(_) => None,
+    }
 }
 
 // The same where the machine is added.
-fn linked(alloc: Global, chain: Chain, next: &str, cert: &str) -> Result<Chain, Fail> {
-    match with_link(alloc, chain, next, cert)? {
-        Ok(chain) => Ok(chain),
-        Err(_) => Err("the link fails".into()),
+fn linked(alloc: Global, chain: Chain, next: &str, cert: &str) -> Option<Chain> {
+    with_link(alloc, chain, next, cert)?.ok()
+}
+
+// The chain of the first two machines.
+fn first_link(alloc: Global) -> Option<Chain> {
+    linked(alloc, chain_of(alloc, SUM)?, PRODUCTS, SUM_TO_PRODUCTS)
+}
+
+// How many states the last machine of a chain has, if there is one.
+fn count(chain: Option<Chain>) -> Option<u32> {
+    match chain {
+        Some(chain) => Some(chain.last().state_count()),
+        None => None,
     }
 }
 
@@ -65,20 +88,17 @@ const PRODUCTS_TO_STEPS: &str = "{\"format\": 1, \"nodes\": [
  \"equations\": {\"L.y\": \"0\", \"R.a\": \"L.a\", \"R.b\": \"L.b\", \"R.t\": \"0\", \"R.y\": \"0\"}},
 {\"left\": \"done\", \"right\": \"done\", \"mode\": \"end\", \"rank\": 0, \"conds\": [], \"equations\": {\"R.y\": \"L.y\"}}]}";
 
-// How many states the last machine of a chain has, with none, one and two links.
-fn state_counts(alloc: Global) -> Result<(u32, u32, u32), Fail> {
-    let chain = chain_of(alloc, SUM)?;
-    let first = chain.last().state_count();
-    let chain = linked(alloc, chain, PRODUCTS, SUM_TO_PRODUCTS)?;
-    let second = chain.last().state_count();
-    let chain = linked(alloc, chain, STEPS, PRODUCTS_TO_STEPS)?;
-    Ok((first, second, chain.last().state_count()))
+// The chain of three machines.
+fn second_link(alloc: Global) -> Option<Chain> {
+    linked(alloc, first_link(alloc)?, STEPS, PRODUCTS_TO_STEPS)
 }
 
+// With none, one and two links.
 #[test]
-fn two_links(rt: HostRuntime) -> Result<(), Fail> {
-    assert_eq!(rt; state_counts(rt.alloc())?, (2, 1, 3));
-    Ok(())
+fn two_links(rt: HostRuntime) {
+    assert!(rt; count(chain_of(rt.alloc(), SUM)) == Some(2));
+    assert!(rt; count(first_link(rt.alloc())) == Some(1));
+    assert!(rt; count(second_link(rt.alloc())) == Some(3));
 }
 
 const LACKS_B: &str = "{\"format\": 1, \"nodes\": [
@@ -87,19 +107,17 @@ const LACKS_B: &str = "{\"format\": 1, \"nodes\": [
 {\"left\": \"done\", \"right\": \"done\", \"mode\": \"end\", \"rank\": 0, \"conds\": [], \"equations\": {\"R.y\": \"L.y\"}}]}";
 
 // Why the second link is not added.
-fn refusal_of_second(alloc: Global) -> Result<Option<ChainStop>, Fail> {
-    let chain = linked(alloc, chain_of(alloc, SUM)?, PRODUCTS, SUM_TO_PRODUCTS)?;
-    Ok(with_link(alloc, chain, STEPS, LACKS_B)?.err())
+fn refusal_of_second(alloc: Global) -> Option<ChainStop> {
+    with_link(alloc, first_link(alloc)?, STEPS, LACKS_B)?.err()
 }
 
 // The third obligation is the move from the start. The positions are L.a, R.a, L.b, R.b, L.y, R.y and R.t.
 #[test]
-fn a_link_with_an_obligation_that_fails(rt: HostRuntime) -> Result<(), Fail> {
+fn a_link_with_an_obligation_that_fails(rt: HostRuntime) {
     let verdict = Verdict::No {
         obligation: 3,
         reason: Reason::Equation { place: 5 },
     };
-    let stop = refusal_of_second(rt.alloc())?;
+    let stop = refusal_of_second(rt.alloc());
     assert!(rt; stop == Some(ChainStop::Verdict(verdict)));
-    Ok(())
 }

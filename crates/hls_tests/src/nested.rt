@@ -5,22 +5,37 @@ use hls_lang::compile::compile;
 use hls_lang::program::{Program, Stmt};
 use std::alloc::{AllocError, Global};
 
+// A list of one item.
+fn alone<T: Drop>(alloc: Global, item: T) -> Result<Vec<T>, AllocError> {
+    let mut list = Vec::new(alloc);
+    list.push(item)?;
+    Ok(list)
+}
+
+// That 0 is less than 1.
+fn less() -> Guard {
+    Guard::Lit(Lit {
+        rel: Rel::Lt,
+        left: Expr::Num(0),
+        right: Expr::Num(1),
+    })
+}
+
+// A loop round a block.
+fn loop_round(body: Vec<Stmt>) -> Stmt {
+    let guard = less();
+    Stmt::While {
+        line: 1,
+        guard,
+        body,
+    }
+}
+
 // Loops in a loop and so on, the innermost block as deep as said.
 fn loops(alloc: Global, depth: u32) -> Result<Vec<Stmt>, AllocError> {
     let mut body = Vec::new(alloc);
     for _ in 0..depth {
-        let mut outer = Vec::new(alloc);
-        let guard = Guard::Lit(Lit {
-            rel: Rel::Lt,
-            left: Expr::Num(0),
-            right: Expr::Num(1),
-        });
-        outer.push(Stmt::While {
-            line: 1,
-            guard,
-            body,
-        })?;
-        body = outer;
+        body = alone(alloc, loop_round(body))?;
     }
     Ok(body)
 }

@@ -2,7 +2,8 @@
 
 ghost use Rattle.std.specs.Prelude.{◌≤◌, ◌<◌, neg_ℤ, unsigned_abs};
 
-use crate::forms::{form, normal, sum, written_form};
+use crate::forms::{form, is_sum, normal, sum};
+use crate::operations::is_written;
 use crate::rows::each;
 use crate::trees::{Tree, position};
 use nf_bank::bank::{AtomId, Bank};
@@ -54,11 +55,16 @@ fn are_symbols(form: &Nf, symbols: &[(Pos, Sort)], text: &str) -> bool {
     words.next().is_none()
 }
 
+// Whether a form has these symbols, and does not mention b.
+fn mentions(alloc: Global, form: &Nf, wanted: &str) -> Result<bool, NfStop> {
+    let symbols = form.symbols(alloc)?;
+    Ok(are_symbols(form, symbols.as_slice(), wanted) && !form.mentions(B))
+}
+
 /// Whether a text's form has these symbols, and does not mention b.
 pub fn has_symbols(alloc: Global, text: &str, wanted: &str) -> Result<bool, NfStop> {
     let form = form(alloc, text)?;
-    let symbols = form.symbols(alloc)?;
-    Ok(are_symbols(&form, symbols.as_slice(), wanted) && !form.mentions(B))
+    mentions(alloc, &form, wanted)
 }
 
 const SYMBOLS: &str = "a @m 1 [] * a + : a @m a
@@ -71,11 +77,16 @@ fn symbols_of_forms(rt: HostRuntime) {
     each(&rt, rt.alloc(), "symbols", SYMBOLS);
 }
 
+// Whether a copy of a form is the same.
+fn copy_is_same(alloc: Global, form: &Nf) -> Result<bool, NfStop> {
+    let copy = form.try_clone(alloc)?;
+    Ok(copy.is_same(form))
+}
+
 /// Whether a copy of a text's form is the same.
 pub fn is_copied(alloc: Global, text: &str) -> Result<bool, NfStop> {
     let form = form(alloc, text)?;
-    let copy = form.try_clone(alloc)?;
-    Ok(copy.is_same(&form))
+    copy_is_same(alloc, &form)
 }
 
 const COPIES: &str = "a b / c a % * 2 +
@@ -89,15 +100,21 @@ fn copies_of_forms(rt: HostRuntime) {
     each(&rt, rt.alloc(), "copy", COPIES);
 }
 
+// A form that is made anew of the tree taken out of it.
+fn taken_out(form: Nf) -> Option<Nf> {
+    match form {
+        Nf::Num(sum) => normal(Tree::Sum(sum.into_tree())),
+        Nf::Arr(array) => normal(Tree::Array(array.into_tree())),
+        Nf::Seq(_) => None,
+    }
+}
+
 /// Whether the tree taken out of a text's form is the one that the text writes.
 pub fn is_taken_out(alloc: Global, text: &str) -> Result<bool, NfStop> {
-    let tree = match form(alloc, text)? {
-        Nf::Num(sum) => Tree::Sum(sum.into_tree()),
-        Nf::Arr(array) => Tree::Array(array.into_tree()),
-        Nf::Seq(_) => return Err(NfStop::NoMemory),
-    };
-    let again = normal(tree).ok_or(NfStop::NoMemory)?;
-    Ok(again.is_same(&written_form(alloc, text)?))
+    match taken_out(form(alloc, text)?) {
+        Some(again) => is_written(alloc, &again, text),
+        None => Ok(false),
+    }
 }
 
 #[test]
@@ -105,11 +122,16 @@ fn trees_of_forms(rt: HostRuntime) {
     each(&rt, rt.alloc(), "tree", "a b / 2 +\n@m a b {}");
 }
 
+// The part with atoms of a text's sum.
+fn part_of(alloc: Global, text: &str) -> Result<Poly, NfStop> {
+    let whole = sum(alloc, text)?;
+    Ok(part_with_atoms(alloc, &whole)?)
+}
+
 /// Whether the part with atoms of the left text is the right one.
 pub fn has_part(alloc: Global, text: &str, part: &str) -> Result<bool, NfStop> {
-    let whole = sum(alloc, text)?;
-    let wanted = sum(alloc, part)?;
-    Ok(part_with_atoms(alloc, &whole)? == wanted)
+    let found = part_of(alloc, text)?;
+    is_sum(alloc, &found, part)
 }
 
 #[test]
@@ -130,11 +152,15 @@ impl Change for Negation {
     }
 }
 
-fn is_changed(alloc: Global) -> Result<bool, NfStop> {
+// The negation of a.
+fn negated(alloc: Global) -> Result<Poly, NfStop> {
     let symbol = Poly::symbol(alloc, A)?;
-    let changed = with_coefficients(alloc, &symbol, &Negation)?;
-    let wanted = sum(alloc, "a neg")?;
-    Ok(changed == wanted)
+    Ok(with_coefficients(alloc, &symbol, &Negation)?)
+}
+
+fn is_changed(alloc: Global) -> Result<bool, NfStop> {
+    let changed = negated(alloc)?;
+    is_sum(alloc, &changed, "a neg")
 }
 
 #[test]
@@ -151,14 +177,15 @@ fn has_form(alloc: Global, vector: &Vector, form: &Nf) -> Result<bool, NfStop> {
     }
 }
 
+// Whether a vector has no form for b.
+fn lacks_b(alloc: Global, vector: &Vector) -> Result<bool, NfStop> {
+    Ok(vector.form(Sort::Scalar, B).is_none() && vector.number(alloc, &B)?.mentions(B))
+}
+
 // Whether a vector has the form of a text, of each sort, for a position alone.
 fn holds(alloc: Global, vector: &Vector, text: &str) -> Result<bool, NfStop> {
     let form = form(alloc, text)?;
-    Ok(
-        has_form(alloc, vector, &form)?
-            && vector.form(Sort::Scalar, B).is_none()
-            && vector.number(alloc, &B)?.mentions(B),
-    )
+    Ok(has_form(alloc, vector, &form)? && lacks_b(alloc, vector)?)
 }
 
 // Puts the form of a text into a vector, at a position alone.
@@ -198,12 +225,17 @@ fn gives_number(vector: &Vector, p: Pos, wanted: &Nf) -> bool {
     }
 }
 
+// Whether a vector gives the number of a text.
+fn gives_text(alloc: Global, vector: &Vector, text: &str) -> Result<bool, NfStop> {
+    let wanted = form(alloc, text)?;
+    Ok(gives_number(vector, M, &wanted) && !gives_number(vector, B, &wanted))
+}
+
 // Whether a vector gives the number that was put into it.
 fn is_given(alloc: Global, text: &str) -> Result<bool, NfStop> {
     let mut vector = Vector::new(alloc);
-    vector.put(M, form(alloc, text)?)?;
-    let wanted = form(alloc, text)?;
-    Ok(gives_number(&vector, M, &wanted) && !gives_number(&vector, B, &wanted))
+    put_form(alloc, &mut vector, text)?;
+    gives_text(alloc, &vector, text)
 }
 
 #[test]
@@ -211,13 +243,18 @@ fn numbers_of_vectors(rt: HostRuntime) {
     assert!(rt; is_given(rt.alloc(), "a 1 +").unwrap_or(false));
 }
 
+// The first atom of a sum.
+fn first_atom(sum: &Poly) -> Option<&Atom> {
+    match sum.monos().first() {
+        Some((mono, _coefficient)) => mono.atoms.first(),
+        None => None,
+    }
+}
+
 // The first atom of a text's sum.
 fn with_first_atom(alloc: Global, text: &str) -> Result<Atom, NfStop> {
     let sum = sum(alloc, text)?;
-    let Some((mono, _coefficient)) = sum.monos().first() else {
-        return Err(NfStop::NoMemory);
-    };
-    match mono.atoms.first() {
+    match first_atom(&sum) {
         Some(atom) => Ok(atom.try_clone(alloc)?),
         None => Err(NfStop::NoMemory),
     }

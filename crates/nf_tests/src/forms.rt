@@ -3,7 +3,7 @@
 //! The words are those of trees, and more: `-` stands behind two sums and `neg` behind one; `#s` is the list s and `#0` the
 //! empty one, and `<<` stands behind a list and an item.
 
-use crate::trees::{Tree, operand, position, tree_of};
+use crate::trees::{Tree, from_end, operand, position, put_last, tree_of};
 use nf_arrays::division::{div, rem};
 use nf_arrays::pushes::push;
 use nf_arrays::reads::read;
@@ -45,22 +45,23 @@ fn simple(alloc: Global, word: &str) -> Result<Nf, NfStop> {
     }
 }
 
-fn pop_sum(stack: &mut Vec<Nf>) -> Result<Poly, NfStop> {
-    match stack.pop() {
+// The sum that stands so many places before the end of a stack.
+fn sum_at(stack: &[Nf], places: usize) -> Result<&Poly, NfStop> {
+    match from_end(stack, places) {
         Some(Nf::Num(sum)) => Ok(sum),
         Some(Nf::Arr(_)) | Some(Nf::Seq(_)) | None => Err(NfStop::NoMemory),
     }
 }
 
-fn pop_array(stack: &mut Vec<Nf>) -> Result<Arr, NfStop> {
-    match stack.pop() {
+fn array_at(stack: &[Nf], places: usize) -> Result<&Arr, NfStop> {
+    match from_end(stack, places) {
         Some(Nf::Arr(array)) => Ok(array),
         Some(Nf::Num(_)) | Some(Nf::Seq(_)) | None => Err(NfStop::NoMemory),
     }
 }
 
-fn pop_list(stack: &mut Vec<Nf>) -> Result<Seq, NfStop> {
-    match stack.pop() {
+fn list_at(stack: &[Nf], places: usize) -> Result<&Seq, NfStop> {
+    match from_end(stack, places) {
         Some(Nf::Seq(list)) => Ok(list),
         Some(Nf::Num(_)) | Some(Nf::Arr(_)) | None => Err(NfStop::NoMemory),
     }
@@ -77,53 +78,71 @@ fn operation(alloc: Global, word: &str, left: &Poly, right: &Poly) -> Result<Pol
     }
 }
 
-fn combined(alloc: Global, stack: &mut Vec<Nf>, word: &str) -> Result<Nf, NfStop> {
-    let right = pop_sum(stack)?;
-    let left = pop_sum(stack)?;
-    Ok(Nf::Num(operation(alloc, word, &left, &right)?))
+fn combined(alloc: Global, stack: &[Nf], word: &str) -> Result<Poly, NfStop> {
+    let left = sum_at(stack, 2)?;
+    let right = sum_at(stack, 1)?;
+    operation(alloc, word, left, right)
 }
 
-fn negated(alloc: Global, stack: &mut Vec<Nf>) -> Result<Nf, NfStop> {
-    let sum = pop_sum(stack)?;
-    Ok(Nf::Num(neg(alloc, &sum)?))
+fn read_at(alloc: Global, stack: &[Nf]) -> Result<Poly, NfStop> {
+    let array = array_at(stack, 2)?;
+    let index = sum_at(stack, 1)?;
+    read(alloc, array, index)
 }
 
-fn read_at(alloc: Global, stack: &mut Vec<Nf>) -> Result<Nf, NfStop> {
-    let index = pop_sum(stack)?;
-    let array = pop_array(stack)?;
-    Ok(Nf::Num(read(alloc, &array, &index)?))
+fn written(alloc: Global, stack: &[Nf]) -> Result<Arr, NfStop> {
+    let array = array_at(stack, 3)?;
+    let index = sum_at(stack, 2)?;
+    let value = sum_at(stack, 1)?;
+    write(alloc, array, index, value)
 }
 
-fn written(alloc: Global, stack: &mut Vec<Nf>) -> Result<Nf, NfStop> {
-    let value = pop_sum(stack)?;
-    let index = pop_sum(stack)?;
-    let array = pop_array(stack)?;
-    Ok(Nf::Arr(write(alloc, &array, &index, &value)?))
+fn pushed(alloc: Global, stack: &[Nf]) -> Result<Seq, NfStop> {
+    let list = list_at(stack, 2)?;
+    let item = sum_at(stack, 1)?;
+    push(alloc, list, item)
 }
 
-fn pushed(alloc: Global, stack: &mut Vec<Nf>) -> Result<Nf, NfStop> {
-    let item = pop_sum(stack)?;
-    let list = pop_list(stack)?;
-    Ok(Nf::Seq(push(alloc, &list, &item)?))
-}
-
-// What a word makes.
-fn made(alloc: Global, stack: &mut Vec<Nf>, word: &str) -> Result<Nf, NfStop> {
+// The sum that a word of an operation makes.
+fn sum_made(alloc: Global, stack: &[Nf], word: &str) -> Result<Poly, NfStop> {
     match word {
-        "+" | "-" | "*" | "/" | "%" => combined(alloc, stack, word),
-        "neg" => negated(alloc, stack),
+        "neg" => Ok(neg(alloc, sum_at(stack, 1)?)?),
         "[]" => read_at(alloc, stack),
-        "{}" => written(alloc, stack),
-        "<<" => pushed(alloc, stack),
+        _ => combined(alloc, stack, word),
+    }
+}
+
+// What a word makes of the end of a stack.
+fn made(alloc: Global, stack: &[Nf], word: &str) -> Result<Nf, NfStop> {
+    match word {
+        "+" | "-" | "*" | "/" | "%" | "neg" | "[]" => Ok(Nf::Num(sum_made(alloc, stack, word)?)),
+        "{}" => Ok(Nf::Arr(written(alloc, stack)?)),
+        "<<" => Ok(Nf::Seq(pushed(alloc, stack)?)),
         _ => simple(alloc, word),
     }
+}
+
+// How many forms a word works on.
+fn operands(word: &str) -> usize {
+    match word {
+        "+" | "-" | "*" | "/" | "%" | "[]" | "<<" => 2,
+        "neg" => 1,
+        "{}" => 3,
+        _ => 0,
+    }
+}
+
+// Puts an item in the place of the last so many.
+fn replace_last<T: Drop>(stack: &mut Vec<T>, count: usize, item: T) -> Result<(), NfStop> {
+    stack.truncate(stack.len().saturating_sub(count));
+    put_last(stack, item)
 }
 
 // Puts what each word of a text makes on the stack.
 fn make_each(alloc: Global, stack: &mut Vec<Nf>, text: &str) -> Result<(), NfStop> {
     for word in text.split_whitespace() {
-        let form = made(alloc, stack, word)?;
-        stack.push(form)?;
+        let form = made(alloc, stack.as_slice(), word)?;
+        replace_last(stack, operands(word), form)?;
     }
     Ok(())
 }
@@ -141,4 +160,9 @@ pub fn sum(alloc: Global, text: &str) -> Result<Poly, NfStop> {
         Nf::Num(sum) => Ok(sum),
         Nf::Arr(_) | Nf::Seq(_) => Err(NfStop::NoMemory),
     }
+}
+
+/// Whether a sum is that of a text.
+pub fn is_sum(alloc: Global, found: &Poly, text: &str) -> Result<bool, NfStop> {
+    Ok(sum(alloc, text)? == *found)
 }

@@ -2,8 +2,9 @@
 
 ghost use Rattle.std.specs.Prelude.{◌<◌};
 
-use crate::forms::sum;
+use crate::forms::{is_sum, sum};
 use crate::rows::each;
+use crate::trees::put_last;
 use fs_model::parts::Rel;
 use nf_refutation::refutation::{Places, is_refuted, refuted};
 use nf_rel::clashes::{clash, implied, negate};
@@ -28,29 +29,38 @@ fn relation(word: &str) -> Option<Rel> {
     }
 }
 
-// The literal of a text, as `a b +, >=, 2`.
-fn read_literal(alloc: Global, text: &str) -> Result<NLit, NfStop> {
-    let mut parts = text.split(',');
-    let left = sum(alloc, parts.next().unwrap_or(""))?;
-    let relation = relation(parts.next().unwrap_or("").trim()).ok_or(NfStop::NoMemory)?;
-    let right = sum(alloc, parts.next().unwrap_or(""))?;
-    Ok(literal(alloc, relation, &left, &right)?)
+// The literal of a sum, a relation and the sum of a text.
+fn against(alloc: Global, left: &Poly, relation: Rel, text: &str) -> Result<NLit, NfStop> {
+    let right = sum(alloc, text)?;
+    literal(alloc, relation, left, &right)
 }
 
-// Whether a bound is the one of a text, as `a b +, >=, 2`.
-fn is_bound(alloc: Global, bound: &Bound, text: &str) -> Result<bool, NfStop> {
-    let mut parts = text.split(',');
-    let direction: Poly = sum(alloc, parts.next().unwrap_or(""))?;
-    let kind = match bound.kind {
+// The literal of a text, as `a b +, >=, 2`.
+fn read_literal(alloc: Global, text: &str) -> Result<NLit, NfStop> {
+    let (first, rest) = text.split_once(',').unwrap_or((text, ""));
+    let (word, second) = rest.split_once(',').unwrap_or((rest, ""));
+    let relation = relation(word.trim()).ok_or(NfStop::NoMemory)?;
+    let left = sum(alloc, first)?;
+    against(alloc, &left, relation, second)
+}
+
+fn word_of(kind: Kind) -> &'static str {
+    match kind {
         Kind::Ge => ">=",
         Kind::Le => "<=",
         Kind::Eq => "==",
         Kind::Ne => "!=",
-    };
+    }
+}
+
+// Whether a bound is the one of a text, as `a b +, >=, 2`.
+fn is_bound(alloc: Global, bound: &Bound, text: &str) -> Result<bool, NfStop> {
+    let (first, rest) = text.split_once(',').unwrap_or((text, ""));
+    let (word, number) = rest.split_once(',').unwrap_or((rest, ""));
     Ok(
-        bound.dir == direction
-            && parts.next().unwrap_or("").trim() == kind
-            && parts.next().unwrap_or("").trim().parse::<i128>().ok() == Some(bound.bound),
+        is_sum(alloc, &bound.dir, first)?
+            && word.trim() == word_of(bound.kind)
+            && number.trim().parse::<i128>().ok() == Some(bound.bound),
     )
 }
 
@@ -63,11 +73,22 @@ fn is_literal(alloc: Global, literal: &NLit, text: &str) -> Result<bool, NfStop>
     }
 }
 
+// Whether a copy of a literal is the same and the one of a text.
+fn is_copied(alloc: Global, literal: &NLit, text: &str) -> Result<bool, NfStop> {
+    let copy = literal.try_clone(alloc)?;
+    if !is_same(literal, &copy) {
+        return Ok(false);
+    }
+    is_literal(alloc, &copy, text)
+}
+
 /// Whether the relation of a row is its literal, and that is in normal form.
 pub fn becomes(alloc: Global, left: &str, right: &str) -> Result<bool, NfStop> {
     let literal = read_literal(alloc, left)?;
-    let copy = literal.try_clone(alloc)?;
-    Ok(is_literal(alloc, &copy, right)? && is_normal(&literal) && is_same(&literal, &copy))
+    if !is_normal(&literal) {
+        return Ok(false);
+    }
+    is_copied(alloc, &literal, right)
 }
 
 const LITERALS: &str = "2 a *, >, 3: a, >=, 2
@@ -102,12 +123,18 @@ fn literals_of_relations(rt: HostRuntime) {
     each(&rt, rt.alloc(), "literal", LITERALS);
 }
 
+// Whether the negation of a literal is that of a text.
+fn becomes_negated(alloc: Global, literal: NLit, text: &str) -> Result<bool, NfStop> {
+    let negation = negate(literal);
+    is_literal(alloc, &negation, text)
+}
+
 /// Whether the negation of a row's literal is its other literal, and the negation of that the literal again.
 pub fn negates(alloc: Global, left: &str, right: &str) -> Result<bool, NfStop> {
-    let negation = negate(read_literal(alloc, left)?);
-    let negated = is_literal(alloc, &negation, right)?;
-    let again = negate(negation);
-    Ok(negated && is_literal(alloc, &again, left)?)
+    if !becomes_negated(alloc, read_literal(alloc, left)?, right)? {
+        return Ok(false);
+    }
+    becomes_negated(alloc, negate(read_literal(alloc, left)?), left)
 }
 
 const NEGATIONS: &str = "a, >=, 2: a, <=, 1
@@ -121,15 +148,23 @@ fn negations(rt: HostRuntime) {
     each(&rt, rt.alloc(), "negation", NEGATIONS);
 }
 
+// Whether two literals clash as wanted, in both orders; those that do are not the same.
+fn clash_as(left: &NLit, right: &NLit, wanted: bool) -> bool {
+    clash(left, right) == wanted
+        && clash(right, left) == wanted
+        && !(wanted && is_same(left, right))
+}
+
+// The same of a literal and that of a text.
+fn clashes_with(alloc: Global, left: &NLit, text: &str, wanted: bool) -> Result<bool, NfStop> {
+    let right = read_literal(alloc, text)?;
+    Ok(clash_as(left, &right, wanted))
+}
+
 /// Whether the literals of a row clash as wanted, in both orders; those that do are not the same.
 pub fn clashes(alloc: Global, left: &str, right: &str, wanted: bool) -> Result<bool, NfStop> {
     let left = read_literal(alloc, left)?;
-    let right = read_literal(alloc, right)?;
-    Ok(
-        clash(&left, &right) == wanted
-            && clash(&right, &left) == wanted
-            && !(wanted && is_same(&left, &right)),
-    )
+    clashes_with(alloc, &left, right, wanted)
 }
 
 const CLASHES: &str = "a, >=, 2: a, <=, 1
@@ -168,7 +203,7 @@ fn read_list(alloc: Global, text: &str) -> Result<Vec<NLit>, NfStop> {
     let mut list = Vec::new(alloc);
     for part in text.split(';') {
         let literal = read_literal(alloc, part)?;
-        list.push(literal)?;
+        put_last(&mut list, literal)?;
     }
     Ok(list)
 }
@@ -181,21 +216,27 @@ fn clashing(list: &[NLit]) -> Result<Option<Places>, NfStop> {
     Ok(refuted(list))
 }
 
+// Whether places are those of a text, or none where that is `none`.
+fn are_places(found: Option<Places>, text: &str) -> bool {
+    match found {
+        None => text == "none",
+        Some(Places { first, second }) => {
+            let (left, right) = text.split_once(' ').unwrap_or(("", ""));
+            left.parse::<u32>().ok() == Some(first) && right.parse::<u32>().ok() == Some(second)
+        }
+    }
+}
+
+// Whether the first literals of a list that clash stand at the places of a text, and it is refuted where two do.
+fn are_refuted_at(alloc: Global, list: &[NLit], places: &str) -> Result<bool, NfStop> {
+    let found = clashing(list)?;
+    Ok(is_refuted(alloc, list)? == found.is_some() && are_places(found, places.trim()))
+}
+
 /// Whether the first literals of a row that clash stand at its places.
 pub fn is_refuted_at(alloc: Global, text: &str, places: &str) -> Result<bool, NfStop> {
     let list = read_list(alloc, text)?;
-    let is_refuted = is_refuted(alloc, list.as_slice())?;
-    match clashing(list.as_slice())? {
-        None => Ok(!is_refuted && places.trim() == "none"),
-        Some(Places { first, second }) => {
-            let (left, right) = places.trim().split_once(' ').unwrap_or(("", ""));
-            Ok(
-                is_refuted
-                    && left.parse::<u32>().ok() == Some(first)
-                    && right.parse::<u32>().ok() == Some(second),
-            )
-        }
-    }
+    are_refuted_at(alloc, list.as_slice(), places)
 }
 
 const LISTS: &str = "a, >=, 2: none
@@ -222,11 +263,15 @@ fn lists_that_are_refuted(rt: HostRuntime) {
     each(&rt, rt.alloc(), "refuted", LISTS);
 }
 
-/// Whether a row is refuted as wanted, though no two of its literals clash.
+// Whether a list is refuted as wanted, though no two of its literals clash.
+fn are_refuted_together(alloc: Global, list: &[NLit], wanted: bool) -> Result<bool, NfStop> {
+    Ok(is_refuted(alloc, list)? == wanted && clashing(list)?.is_none())
+}
+
+/// The same of the list of a row.
 pub fn is_refuted_together(alloc: Global, row: &str, wanted: bool) -> Result<bool, NfStop> {
     let list = read_list(alloc, row)?;
-    let is_refuted = is_refuted(alloc, list.as_slice())?;
-    Ok(is_refuted == wanted && clashing(list.as_slice())?.is_none())
+    are_refuted_together(alloc, list.as_slice(), wanted)
 }
 
 const REFUTED_TOGETHER: &str = "a, >=, 3; a, <=, 3; a, !=, 3
@@ -257,11 +302,16 @@ fn lists_that_are_refuted_together(rt: HostRuntime) {
     each(&rt, rt.alloc(), "open", OPEN);
 }
 
+// Whether a list implies the literal of a text, as wanted.
+fn imply(alloc: Global, list: &[NLit], text: &str, wanted: bool) -> Result<bool, NfStop> {
+    let literal = read_literal(alloc, text)?;
+    Ok(implied(list, &literal) == wanted)
+}
+
 /// Whether the list of a row implies its literal, as wanted.
 pub fn implies(alloc: Global, text: &str, last: &str, wanted: bool) -> Result<bool, NfStop> {
     let list = read_list(alloc, text)?;
-    let literal = read_literal(alloc, last)?;
-    Ok(implied(list.as_slice(), &literal) == wanted)
+    imply(alloc, list.as_slice(), last, wanted)
 }
 
 const IMPLIED: &str = "a, >=, 2: a, >=, 2

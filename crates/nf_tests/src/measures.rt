@@ -18,18 +18,21 @@ fn number(cell: &str) -> u128 {
     cell.trim().parse::<u128>().unwrap_or(u128::MAX)
 }
 
+// Whether a form has the size, the depth and the weight of a text.
+fn has(form: &Nf, text: &str) -> bool {
+    let mut cells = text.split(',');
+    let size = number(cells.next().unwrap_or(""));
+    let depth = number(cells.next().unwrap_or(""));
+    size == form.size() as u128
+        && depth == form.depth() as u128
+        && number(cells.next().unwrap_or("")) == weight(form)
+}
+
 /// Whether the form of a row has its size, its depth and its weight.
 pub fn has_measures(alloc: Global, row: &str) -> Result<bool, NfStop> {
     let (text, cells) = row.split_once(':').unwrap_or((row, ""));
     let form = written_form(alloc, text)?;
-    let mut cells = cells.split(',');
-    let size = number(cells.next().unwrap_or(""));
-    let depth = number(cells.next().unwrap_or(""));
-    Ok(
-        size == form.size() as u128
-            && depth == form.depth() as u128
-            && number(cells.next().unwrap_or("")) == weight(&form),
-    )
+    Ok(has(&form, cells))
 }
 
 // A text: its size, its depth, its weight.

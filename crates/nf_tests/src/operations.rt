@@ -3,14 +3,20 @@
 use crate::forms::{form, written_form};
 use crate::rows::each;
 use nf_sums::sums::number;
+use nf_terms::form::Nf;
 use nf_terms::stop::NfStop;
 use std::alloc::Global;
+
+/// Whether a form is the one whose tree a text is.
+pub fn is_written(alloc: Global, form: &Nf, text: &str) -> Result<bool, NfStop> {
+    Ok(written_form(alloc, text)?.is_same(form))
+}
 
 /// Whether the left text gives the form whose tree is the right one, or stops as that says.
 pub fn gives(alloc: Global, row: &str) -> Result<bool, NfStop> {
     let (left, right) = row.split_once('=').unwrap_or((row, ""));
     match form(alloc, left) {
-        Ok(given) => Ok(given.is_same(&written_form(alloc, right)?)),
+        Ok(given) => is_written(alloc, &given, right),
         Err(stop) => Ok(is_event(stop, right)),
     }
 }

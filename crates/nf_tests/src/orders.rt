@@ -26,12 +26,17 @@ fn stand(lower: &Nf, higher: &Nf) -> bool {
         && !lower.is_same(higher)
 }
 
+// Whether a form stands before that of a text.
+fn stands_before(alloc: Global, lower: &Nf, text: &str) -> Result<bool, NfStop> {
+    let higher = form(alloc, text)?;
+    Ok(stand(lower, &higher))
+}
+
 /// Whether the left form of a row stands before the right one.
 pub fn stands(alloc: Global, row: &str) -> Result<bool, NfStop> {
     let (left, right) = row.split_once(" < ").unwrap_or((row, ""));
     let lower = form(alloc, left)?;
-    let higher = form(alloc, right)?;
-    Ok(stand(&lower, &higher))
+    stands_before(alloc, &lower, right)
 }
 
 const RISING: &str = "a < b

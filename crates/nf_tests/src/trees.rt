@@ -36,39 +36,59 @@ pub fn position(name: &str) -> Option<Pos> {
     }
 }
 
+/// Puts an item behind the others of a list.
+pub fn put_last<T: Drop>(list: &mut Vec<T>, item: T) -> Result<(), NfStop> {
+    Ok(list.push(item)?)
+}
+
+// A list of one item.
+fn alone<T: Drop>(alloc: Global, item: T) -> Result<Vec<T>, NfStop> {
+    let mut list = Vec::new(alloc);
+    put_last(&mut list, item)?;
+    Ok(list)
+}
+
 // One monomial.
 fn monomial(alloc: Global, atoms: Vec<Atom>, coefficient: i128) -> Result<PolyTree, NfStop> {
-    let mut monos = Vec::new(alloc);
-    monos.push((MonoTree { atoms }, coefficient))?;
+    let monos = alone(alloc, (MonoTree { atoms }, coefficient))?;
     Ok(PolyTree { monos })
 }
 
-/// One atom.
+// One atom.
 fn atom_alone(alloc: Global, atom: Atom) -> Result<PolyTree, NfStop> {
-    let mut atoms = Vec::new(alloc);
-    atoms.push(atom)?;
-    monomial(alloc, atoms, 1)
+    monomial(alloc, alone(alloc, atom)?, 1)
+}
+
+// The sum without a monomial.
+fn zero(alloc: Global) -> PolyTree {
+    PolyTree {
+        monos: Vec::new(alloc),
+    }
 }
 
 // A number; 0 has no monomial.
 fn number(alloc: Global, text: &str) -> Result<PolyTree, NfStop> {
     match text.parse::<i128>() {
-        Ok(0) => Ok(PolyTree {
-            monos: Vec::new(alloc),
-        }),
+        Ok(0) => Ok(zero(alloc)),
         Ok(number) => monomial(alloc, Vec::new(alloc), number),
         Err(_) => Err(NfStop::NoMemory),
     }
 }
 
+// So many symbols, all the same.
+fn symbols(alloc: Global, symbol: Pos, times: u32) -> Result<Vec<Atom>, NfStop> {
+    let mut atoms = Vec::new(alloc);
+    for _ in 0..times {
+        put_last(&mut atoms, Atom::Sym(symbol))?;
+    }
+    Ok(atoms)
+}
+
 // A power of a symbol.
 fn power(alloc: Global, name: &str, times: &str) -> Result<PolyTree, NfStop> {
     let symbol = position(name).ok_or(NfStop::NoMemory)?;
-    let mut atoms = Vec::new(alloc);
-    for _ in 0..times.parse::<u32>().unwrap_or(0) {
-        atoms.push(Atom::Sym(symbol))?;
-    }
-    monomial(alloc, atoms, 1)
+    let times = times.parse::<u32>().unwrap_or(0);
+    monomial(alloc, symbols(alloc, symbol, times)?, 1)
 }
 
 fn bare(alloc: Global, base: Base) -> ArrTree {
@@ -83,14 +103,20 @@ fn read(alloc: Global, array: ArrTree, index: PolyTree) -> Result<PolyTree, NfSt
     atom_alone(alloc, make_read(alloc, array, index)?)
 }
 
-// Reads of an array inside one another.
-fn nested(alloc: Global, name: &str, times: &str) -> Result<PolyTree, NfStop> {
-    let symbol = position(name).ok_or(NfStop::NoMemory)?;
-    let mut so_far = number(alloc, "0")?;
-    for _ in 0..times.parse::<u32>().unwrap_or(0) {
+// So many reads of an array inside one another, round a sum.
+fn nested(alloc: Global, symbol: Pos, times: u32, sum: PolyTree) -> Result<PolyTree, NfStop> {
+    let mut so_far = sum;
+    for _ in 0..times {
         so_far = read(alloc, bare(alloc, Base::Sym(symbol)), so_far)?;
     }
     Ok(so_far)
+}
+
+// The same round 0.
+fn reads(alloc: Global, name: &str, times: &str) -> Result<PolyTree, NfStop> {
+    let symbol = position(name).ok_or(NfStop::NoMemory)?;
+    let times = times.parse::<u32>().unwrap_or(0);
+    nested(alloc, symbol, times, zero(alloc))
 }
 
 // A sum of one word.
@@ -102,7 +128,7 @@ fn sum(alloc: Global, word: &str) -> Result<PolyTree, NfStop> {
         return power(alloc, name, times);
     }
     if let Some((name, times)) = word.split_once('~') {
-        return nested(alloc, name, times);
+        return reads(alloc, name, times);
     }
     number(alloc, word)
 }
@@ -119,78 +145,119 @@ pub fn operand(alloc: Global, word: &str) -> Result<Tree, NfStop> {
     }
 }
 
-fn pop_sum(stack: &mut Vec<Tree>) -> Result<PolyTree, NfStop> {
-    match stack.pop() {
-        Some(Tree::Sum(sum)) => Ok(sum),
-        Some(Tree::Array(_)) | None => Err(NfStop::NoMemory),
+/// The item of a list that stands so many places before its end.
+pub fn from_end<T>(list: &[T], places: usize) -> Option<&T> {
+    match list.len().checked_sub(places) {
+        Some(place) => list.get(place),
+        None => None,
     }
 }
 
-fn pop_array(stack: &mut Vec<Tree>) -> Result<ArrTree, NfStop> {
+// Whether a sum stands so many places before the end of a stack.
+fn has_sum(stack: &[Tree], places: usize) -> bool {
+    matches!(from_end(stack, places), Some(Tree::Sum(_)))
+}
+
+// The same of an array.
+fn has_array(stack: &[Tree], places: usize) -> bool {
+    matches!(from_end(stack, places), Some(Tree::Array(_)))
+}
+
+// Whether a stack ends with what a word works on.
+fn has_operands(stack: &[Tree], word: &str) -> bool {
+    match word {
+        "+" | "*" | "/" | "%" => has_sum(stack, 1) && has_sum(stack, 2),
+        "[]" => has_sum(stack, 1) && has_array(stack, 2),
+        "{}" => has_sum(stack, 1) && has_sum(stack, 2) && has_array(stack, 3),
+        _ => true,
+    }
+}
+
+// The sum at the end of a stack, and 0 where none is there.
+fn take_sum(alloc: Global, stack: &mut Vec<Tree>) -> PolyTree {
     match stack.pop() {
-        Some(Tree::Array(array)) => Ok(array),
-        Some(Tree::Sum(_)) | None => Err(NfStop::NoMemory),
+        Some(Tree::Sum(sum)) => sum,
+        Some(Tree::Array(_)) | None => zero(alloc),
+    }
+}
+
+// The array at the end of a stack, and that of zeros where none is there.
+fn take_array(alloc: Global, stack: &mut Vec<Tree>) -> ArrTree {
+    match stack.pop() {
+        Some(Tree::Array(array)) => array,
+        Some(Tree::Sum(_)) | None => bare(alloc, Base::Zero),
     }
 }
 
 // The one sum behind the other.
-fn joined(stack: &mut Vec<Tree>) -> Result<Tree, NfStop> {
-    let mut right = pop_sum(stack)?;
-    let mut left = pop_sum(stack)?;
+fn joined(alloc: Global, stack: &mut Vec<Tree>) -> Result<PolyTree, NfStop> {
+    let mut right = take_sum(alloc, stack);
+    let mut left = take_sum(alloc, stack);
     left.monos.append(&mut right.monos)?;
-    Ok(Tree::Sum(left))
+    Ok(left)
 }
 
-// The first monomial of a sum.
-fn pop_monomial(stack: &mut Vec<Tree>) -> Result<(MonoTree, i128), NfStop> {
-    let mut sum = pop_sum(stack)?;
-    sum.monos.pop().ok_or(NfStop::NoMemory)
+// The last monomial of the sum at the end of a stack, and one without atoms where there is none.
+fn take_monomial(alloc: Global, stack: &mut Vec<Tree>) -> (MonoTree, i128) {
+    let mut sum = take_sum(alloc, stack);
+    match sum.monos.pop() {
+        Some(mono) => mono,
+        None => {
+            let atoms = Vec::new(alloc);
+            (MonoTree { atoms }, 0)
+        }
+    }
 }
 
 // The atoms of one monomial behind those of the other.
-fn multiplied(alloc: Global, stack: &mut Vec<Tree>) -> Result<Tree, NfStop> {
-    let (mut right, factor) = pop_monomial(stack)?;
-    let (mut left, coefficient) = pop_monomial(stack)?;
+fn multiplied(alloc: Global, stack: &mut Vec<Tree>) -> Result<PolyTree, NfStop> {
+    let (mut right, factor) = take_monomial(alloc, stack);
+    let (mut left, coefficient) = take_monomial(alloc, stack);
     left.atoms.append(&mut right.atoms)?;
-    let product = monomial(alloc, left.atoms, coefficient.saturating_mul(factor))?;
-    Ok(Tree::Sum(product))
+    monomial(alloc, left.atoms, coefficient.saturating_mul(factor))
 }
 
 // A quotient, or a remainder.
-fn division(alloc: Global, stack: &mut Vec<Tree>, word: &str) -> Result<Tree, NfStop> {
-    let right = pop_sum(stack)?;
-    let left = pop_sum(stack)?;
-    let atom = if word == "/" {
-        make_quotient(alloc, left, right)?
+fn division(alloc: Global, stack: &mut Vec<Tree>, word: &str) -> Result<Atom, NfStop> {
+    let right = take_sum(alloc, stack);
+    let left = take_sum(alloc, stack);
+    if word == "/" {
+        Ok(make_quotient(alloc, left, right)?)
     } else {
-        make_remainder(alloc, left, right)?
-    };
-    Ok(Tree::Sum(atom_alone(alloc, atom)?))
+        Ok(make_remainder(alloc, left, right)?)
+    }
 }
 
-fn read_at(alloc: Global, stack: &mut Vec<Tree>) -> Result<Tree, NfStop> {
-    let index = pop_sum(stack)?;
-    let array = pop_array(stack)?;
-    Ok(Tree::Sum(read(alloc, array, index)?))
+fn read_at(alloc: Global, stack: &mut Vec<Tree>) -> Result<PolyTree, NfStop> {
+    let index = take_sum(alloc, stack);
+    let array = take_array(alloc, stack);
+    read(alloc, array, index)
 }
 
-fn written(stack: &mut Vec<Tree>) -> Result<Tree, NfStop> {
-    let value = pop_sum(stack)?;
-    let index = pop_sum(stack)?;
-    let mut array = pop_array(stack)?;
-    array.writes.push((index, value))?;
+fn written(alloc: Global, stack: &mut Vec<Tree>) -> Result<Tree, NfStop> {
+    let value = take_sum(alloc, stack);
+    let index = take_sum(alloc, stack);
+    let mut array = take_array(alloc, stack);
+    put_last(&mut array.writes, (index, value))?;
     Ok(Tree::Array(array))
+}
+
+// The sum that a word of an operation makes.
+fn operation(alloc: Global, stack: &mut Vec<Tree>, word: &str) -> Result<PolyTree, NfStop> {
+    match word {
+        "+" => joined(alloc, stack),
+        "*" => multiplied(alloc, stack),
+        "/" | "%" => atom_alone(alloc, division(alloc, stack, word)?),
+        "[]" => read_at(alloc, stack),
+        _ => monomial(alloc, Vec::new(alloc), 0),
+    }
 }
 
 // What a word makes.
 fn made(alloc: Global, stack: &mut Vec<Tree>, word: &str) -> Result<Tree, NfStop> {
     match word {
-        "+" => joined(stack),
-        "*" => multiplied(alloc, stack),
-        "/" | "%" => division(alloc, stack, word),
-        "[]" => read_at(alloc, stack),
-        "{}" => written(stack),
-        "none" => Ok(Tree::Sum(monomial(alloc, Vec::new(alloc), 0)?)),
+        "+" | "*" | "/" | "%" | "[]" | "none" => Ok(Tree::Sum(operation(alloc, stack, word)?)),
+        "{}" => written(alloc, stack),
         _ => operand(alloc, word),
     }
 }
@@ -198,8 +265,11 @@ fn made(alloc: Global, stack: &mut Vec<Tree>, word: &str) -> Result<Tree, NfStop
 // Puts what each word of a text makes on the stack.
 fn make_each(alloc: Global, stack: &mut Vec<Tree>, text: &str) -> Result<(), NfStop> {
     for word in text.split_whitespace() {
+        if !has_operands(stack.as_slice(), word) {
+            return Err(NfStop::NoMemory);
+        }
         let tree = made(alloc, stack, word)?;
-        stack.push(tree)?;
+        put_last(stack, tree)?;
     }
     Ok(())
 }
