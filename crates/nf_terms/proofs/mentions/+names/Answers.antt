@@ -1,4 +1,4 @@
-use Rattle.std.proofs.Common.{◌≡◌, ◌+◌, ◌||◌, ap, sym, ◌∙◌, map, drop}
+use Rattle.std.proofs.Common.{◌+◌, ◌||◌, ap, sym, ◌∙◌, map, drop}
 use Rattle.fs_model.proofs.Lists.{map_drop_next}
 use Rattle.nf_terms.specs.NormalTerms.{monomial_of, polynomial_of}
 use Rattle.nf_terms.specs.Mentions.{mentions_monomial, mentions}
