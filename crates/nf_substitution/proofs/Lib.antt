@@ -5,3 +5,4 @@ pub mod FirstFactors
 pub mod Values
 pub mod LoneSymbols
 pub mod Unchanged
+pub mod Following

@@ -2,9 +2,11 @@
 
 ghost use Rattle.std.specs.Prelude.{◌<◌, ◌≤◌, length, pos};
 ghost use Rattle.nf_terms.specs.Computed.{Answers, after};
-ghost use Rattle.nf_sums.specs.Operations.{number as number_of};
-ghost use Rattle.nf_bank.specs.AtomNumbers.{bound_of_term, bound_of_sum, bound_of_array, bound_of_node, atom_of_number};
-ghost use Rattle.nf_bank.specs.AtomNumbers.{bound_over, bound_of_number, monomial_over, sum_over, array_over, atom_over};
+ghost use Rattle.nf_sums.specs.Operations.{number as number_of, normal_product};
+ghost use Rattle.nf_arrays.specs.Writes.{write_array};
+ghost use Rattle.nf_bank.specs.AtomNumbers.{bound_of_term, bound_of_sum, bound_of_write, bound_of_array, bound_of_node};
+ghost use Rattle.nf_bank.specs.AtomNumbers.{bound_over, bound_of_number, atom_of_number};
+ghost use Rattle.nf_bank.specs.AtomNumbers.{monomial_over, sum_over, array_over, atom_over};
 ghost use Rattle.nf_substitution.specs.Substitution.{atom_substituted, atoms_substituted, polynomial_substituted};
 ghost use Rattle.nf_substitution.specs.Substitution.{array_substituted};
 ghost use Rattle.nf_substitution.specs.Keeping.{AreValues};
@@ -16,7 +18,7 @@ use nf_arrays::division::{div, rem};
 use nf_arrays::reads::read;
 use nf_arrays::writes::write;
 use nf_bank::bank::Bank;
-use nf_bank::node::{Array, AtomId, Node, Term};
+use nf_bank::node::{Array, AtomId, Node, Term, Write};
 use nf_sums::accumulator::Accumulator;
 use nf_sums::sums::{mul, number};
 use nf_terms::arr::Arr;
@@ -43,9 +45,7 @@ fn number_value(
         return Ok(value);
     }
     let value = atom_value(alloc, vector, bank, memo, bank.node(id))?;
-    let shared = SharedNumber::of(alloc, value)?;
-    memo.keep(id, &shared)?;
-    Ok(shared)
+    Ok(memo.keep_number(alloc, id, value)?)
 }
 
 // The operation of an atom on its substituted parts.
@@ -82,6 +82,26 @@ fn atom_value(
     }
 }
 
+// A coefficient, shared.
+fn coefficient_number(alloc: Global, coefficient: &i128) -> Result<SharedNumber, NfStop>
+    ensures { Answers result (number_of coefficient.now) }
+{
+    let number = number(alloc, coefficient)?;
+    Ok(SharedNumber::of(alloc, number)?)
+}
+
+// The product of two numbers, shared.
+fn multiply(
+    alloc: Global,
+    left: &SharedNumber,
+    right: &SharedNumber,
+) -> Result<SharedNumber, NfStop>
+    ensures { Answers result (normal_product left.now right.now) }
+{
+    let product = mul(alloc, left.number(), right.number())?;
+    Ok(SharedNumber::of(alloc, product)?)
+}
+
 // A number times the values of atoms.
 #[cycle(evaluation)]
 #[tactic(auto, using(nf_bank::proofs::Bounds::bound_of_item))]
@@ -101,8 +121,7 @@ fn product_value(
     let mut so_far = first;
     for id in atoms {
         let factor = number_value(alloc, vector, bank, memo, *id)?;
-        let product = mul(alloc, so_far.number(), factor.number())?;
-        so_far = SharedNumber::of(alloc, product)?;
+        so_far = multiply(alloc, &so_far, &factor)?;
     }
     Ok(so_far)
 }
@@ -151,8 +170,7 @@ fn term_value(
     if term.coefficient == 1 {
         return monomial_value(alloc, vector, bank, memo, atoms);
     }
-    let coefficient = number(alloc, &term.coefficient)?;
-    let first = SharedNumber::of(alloc, coefficient)?;
+    let first = coefficient_number(alloc, &term.coefficient)?;
     product_value(alloc, vector, bank, memo, first, atoms)
 }
 
@@ -179,6 +197,29 @@ pub(crate) fn sum_value(
     Ok(so_far.into_poly())
 }
 
+// An array with one write more, of the values of its index and its value.
+#[cycle(evaluation)]
+fn written_value(
+    alloc: Global,
+    vector: &Vector,
+    bank: &Bank,
+    memo: &mut Memo,
+    so_far: &Arr,
+    entry: &Write,
+) -> Result<Arr, NfStop>
+    requires within { bound_of_write entry.now ≤ length bank.now }
+    requires known { AreValues vector.now bank.now memo.old }
+    ensures answers { Answers result
+        (after (polynomial_substituted vector.now (sum_over bank.now entry.now.index))
+        (λ i. after (polynomial_substituted vector.now (sum_over bank.now entry.now.value))
+        (λ x. write_array so_far.now i x))) }
+    ensures known { AreValues vector.now bank.now memo.new }
+{
+    let index = sum_value(alloc, vector, bank, memo, entry.index.as_slice())?;
+    let value = sum_value(alloc, vector, bank, memo, entry.value.as_slice())?;
+    write(alloc, so_far, &index, &value)
+}
+
 /// An array with the vector's forms in place of its symbols.
 #[cycle(evaluation)]
 #[tactic(auto, using(nf_bank::proofs::Bounds::bound_of_item))]
@@ -196,9 +237,7 @@ pub(crate) fn array_value(
 {
     let mut so_far = vector.array_base(alloc, &array.base)?;
     for entry in array.writes.as_slice() {
-        let index = sum_value(alloc, vector, bank, memo, entry.index.as_slice())?;
-        let value = sum_value(alloc, vector, bank, memo, entry.value.as_slice())?;
-        so_far = write(alloc, &so_far, &index, &value)?;
+        so_far = written_value(alloc, vector, bank, memo, &so_far, entry)?;
     }
     Ok(so_far)
 }

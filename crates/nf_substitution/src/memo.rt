@@ -5,6 +5,7 @@ ghost use Rattle.nf_substitution.specs.Keeping.{known_value};
 
 use crate::shared_number::SharedNumber;
 use nf_bank::node::AtomId;
+use nf_terms::poly::Poly;
 use nf_terms::stop::NoMemory;
 use std::alloc::Global;
 use std::marker::Model;
@@ -70,8 +71,8 @@ impl Memo {
         Ok(())
     }
 
-    /// Keeps the value of a number, shared. The one refusal is out of memory.
-    pub(crate) fn keep(&mut self, id: AtomId, value: &SharedNumber) -> Result<(), NoMemory>
+    // Keeps the value of a number, shared.
+    fn keep(&mut self, id: AtomId, value: &SharedNumber) -> Result<(), NoMemory>
         ensures kept { OnOk result (known_value self.new id.0 ≡ Some value.now) }
         ensures others { (k : ℕ) → k ≢ id.0 → known_value self.new k ≡ known_value self.old k }
         ensures refused { OnErr result ((k : ℕ) → known_value self.new k ≡ known_value self.old k) }
@@ -80,6 +81,23 @@ impl Memo {
         self.make_room(id)?;
         self.by_number[id.0 as usize] = Some(copy);
         Ok(())
+    }
+
+    /// Keeps the value of a number, and gives it shared. The one refusal is out of memory.
+    pub(crate) fn keep_number(
+        &mut self,
+        alloc: Global,
+        id: AtomId,
+        value: Poly,
+    ) -> Result<SharedNumber, NoMemory>
+        ensures same { IfOk result (λ shared. shared ≡ value) }
+        ensures kept { OnOk result (known_value self.new id.0 ≡ Some value) }
+        ensures others { (k : ℕ) → k ≢ id.0 → known_value self.new k ≡ known_value self.old k }
+        ensures refused { OnErr result ((k : ℕ) → known_value self.new k ≡ known_value self.old k) }
+    {
+        let shared = SharedNumber::of(alloc, value)?;
+        self.keep(id, &shared)?;
+        Ok(shared)
     }
 
     /// Forgets the values of all numbers but the first ones, as many as `count`.

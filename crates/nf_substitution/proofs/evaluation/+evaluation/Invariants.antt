@@ -1,6 +1,6 @@
 use Rattle.std.proofs.Common.{◌≡◌, ◌+◌, ◌*◌, map, drop}
 use Rattle.nf_terms.specs.NormalTerms.{monomial_of, polynomial_of, writes_of}
-use Rattle.nf_bank.specs.AtomNumbers.{bound_over, bound_of_number, bound_of_term, bound_of_sum, bound_of_array, bound_of_node}
+use Rattle.nf_bank.specs.AtomNumbers.{bound_over, bound_of_number, bound_of_term, bound_of_sum, bound_of_write, bound_of_array, bound_of_node}
 use Rattle.nf_bank.specs.AtomNumbers.{atom_of_number, scaled_monomial_over, write_over}
 use Rattle.nf_bank.specs.AtomNumbers.{monomial_over, sum_over, array_over}
 use Rattle.nf_substitution.specs.Substitution.{atoms_substituted, terms_substituted, writes_substituted, polynomial_substituted, array_substituted}
@@ -8,25 +8,28 @@ use Rattle.nf_substitution.specs.Keeping.{AreValues}
 use Rattle.nf_substitution.proofs.evaluation.+evaluation.Given as goal
 
 abbrev pub decreases-number_value : goal.decreases-number_value
-decreases-number_value l = 7 * l.id.0 + 6
+decreases-number_value l = 8 * l.id.0 + 7
 
 abbrev pub decreases-atom_value : goal.decreases-atom_value
-decreases-atom_value l = 7 * bound_of_node l.node.now + 5
+decreases-atom_value l = 8 * bound_of_node l.node.now + 6
 
 abbrev pub decreases-product_value : goal.decreases-product_value
-decreases-product_value l = 7 * bound_over bound_of_number l.atoms.now
+decreases-product_value l = 8 * bound_over bound_of_number l.atoms.now
 
 abbrev pub decreases-monomial_value : goal.decreases-monomial_value
-decreases-monomial_value l = 7 * bound_over bound_of_number l.atoms.now + 1
+decreases-monomial_value l = 8 * bound_over bound_of_number l.atoms.now + 1
 
 abbrev pub decreases-term_value : goal.decreases-term_value
-decreases-term_value l = 7 * bound_of_term l.term.now + 2
+decreases-term_value l = 8 * bound_of_term l.term.now + 2
 
 abbrev pub decreases-sum_value : goal.decreases-sum_value
-decreases-sum_value l = 7 * bound_of_sum l.terms.now + 3
+decreases-sum_value l = 8 * bound_of_sum l.terms.now + 3
+
+abbrev pub decreases-written_value : goal.decreases-written_value
+decreases-written_value l = 8 * bound_of_write l.entry.now + 4
 
 abbrev pub decreases-array_value : goal.decreases-array_value
-decreases-array_value l = 7 * bound_of_array l.array.now + 4
+decreases-array_value l = 8 * bound_of_array l.array.now + 5
 
 abbrev pub invariant-product_value-loop-id : goal.invariant-product_value-loop-id
 invariant-product_value-loop-id l = record {

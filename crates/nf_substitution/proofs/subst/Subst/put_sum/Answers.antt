@@ -13,7 +13,8 @@ returns-clause-vector c = ap (λ (s : VectorWithAtoms). s.vector) c.self.view_is
 
 pub returns-clause-kept : goal.returns-clause-kept
 returns-clause-kept c =
-    subst (λ a. OnOk c.put_sum.result (c.put_sum.new.bank ≡ with_terms (polynomial_in c.args.sum.now) a)) (ap (λ (s : VectorWithAtoms). s.atoms) c.self.view_is) c.put_sum.ensures.kept
+    let atoms = ap (λ (s : VectorWithAtoms). s.atoms) c.self.view_is in
+    subst (λ a. OnOk c.put_sum.result (c.put_sum.new.bank ≡ with_terms (polynomial_in c.args.sum.now) a)) atoms c.put_sum.ensures.kept
 
 pub returns-clause-front : goal.returns-clause-front
 returns-clause-front c = subst (λ a. IsFront a c.put_sum.new.bank) (ap (λ (s : VectorWithAtoms). s.atoms) c.self.view_is) c.put_sum.ensures.front
