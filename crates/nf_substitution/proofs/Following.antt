@@ -1,7 +1,7 @@
 -- Operations that follow one another: what a step of a loop leaves for those behind it, and the event that is that of the whole.
 use Rattle.std.proofs.Common.{◌≡◌, ℕ, zero, suc, ◌+◌, ◌<◌, List, [], ◌∷◌, map, drop, length, get_or, Result, Err, arith, refl, ap, sym, subst, ◌∙◌}
 use Rattle.fs_model.proofs.Lists.{map_drop_next}
-use Rattle.nf_terms.specs.NormalTerms.{Polynomial, ArrayTerm, Zero, monomial_of, polynomial_of, writes_of}
+use Rattle.nf_terms.specs.NormalTerms.{Polynomial, ArrayTerm, monomial_of, polynomial_of, writes_of}
 use Rattle.nf_terms.specs.Computed.{Computed, Done, Wide, Large, Answers, after}
 use Rattle.nf_terms.specs.NormalTerms.{Atom}
 use Rattle.nf_terms.specs.declared.form.Nf.{Nf}
