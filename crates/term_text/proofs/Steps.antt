@@ -1,5 +1,6 @@
 -- What runs of digits and of word bytes lead to, and where parts end.
-use Rattle.std.proofs.Common.{◌≡◌, ℕ, Bool, true, false, cond, ◌==◌, ◌||◌, List, [], ◌∷◌, ◌++◌, ◌<◌, map, length, take, drop, None, refl, sym, ap, ap₂, subst}
+use Rattle.std.proofs.Common.{◌≡◌, ℕ, Bool, true, false, cond, ◌==◌, ◌||◌, List, [], ◌∷◌, ◌++◌, ◌<◌, map, length, take, drop, Option, Some, None, option_map}
+use Rattle.std.proofs.Common.{Bor, refl, sym, ap, ap₂, subst}
 use Rattle.std.proofs.Common.{◌∙◌, append_assoc, arith}
 use Rattle.std.specs.List.{prefix_len}
 use Rattle.std.proofs.lemmas.List.{append-nil, map_push}
@@ -13,8 +14,9 @@ use Rattle.term_text.specs.declared.tree.WrittenMonomial.{WrittenMonomial}
 use Rattle.term_text.specs.declared.tree.WrittenPolynomial.{WrittenPolynomial}
 use Rattle.term_text.specs.View.{times_all, written_all, sum_all, sum_of, first_sum, more_sum, polynomial_all, pushed_all, written_atom_in}
 use Rattle.term_text.specs.View.{written_polynomial_in, written_term_in, written_write_in}
-use Rattle.term_text.specs.Machine.{begins, at_sign, first_monomial_for, monomial_of_sum, ForPolynomial, ForMonomial, ForAtom, ForSymbol, in_atom, in_array}
-use Rattle.term_text.specs.Machine.{in_list, after_list, whole_polynomial, whole_array, read_of, positive, first, at_polynomial, at_monomial, at_atom}
+use Rattle.term_text.specs.Machine.{begins, behind, at_sign, first_monomial_for, monomial_of_sum, ForPolynomial, ForMonomial, ForAtom, ForSymbol, in_atom}
+use Rattle.term_text.specs.Machine.{in_array, in_list, after_list, ForArray, whole_polynomial, whole_array, read_of, place, item, times, positive, first}
+use Rattle.term_text.specs.Machine.{at_polynomial, at_monomial, at_atom}
 use Rattle.term_text.specs.Machine.{at_symbol, in_number, in_symbol, after_symbol, after_array, after_monomial, after_sum, after_polynomial, atom_done}
 use Rattle.term_text.specs.Machine.{monomial_done, term_reading, EndsTermSum, EndsMonomial, EndsWrites, IsNoArray}
 
@@ -163,6 +165,64 @@ pub array_goes : (bs : List ℕ) (s : Side) (x : List ℕ) (k : ForAtom) → IsN
 array_goes [] s x k h = absurd cc
 array_goes (b ∷ bs) s x k h = rw (sym h) refl
 
+-- ---- what stands behind a byte
+
+first_byte : (t : Bool) (c b : ℕ) (bs rest : List ℕ) → (b == c) ≡ t → cond t (Some bs) None ≡ Some rest → ((b == c) ≡ true) × (bs ≡ rest)
+first_byte true c b bs rest h e = (h, cc)
+first_byte false c b bs rest h e = absurd cc
+
+no_first_byte : (t : Bool) (c b : ℕ) (bs : List ℕ) → (b == c) ≡ t → cond t (Some bs) None ≡ None → (b == c) ≡ false
+no_first_byte true c b bs h e = absurd cc
+no_first_byte false c b bs h e = h
+
+pub found : (r : Option (Bor (List ℕ))) (x : Bor (List ℕ)) (c : ℕ) (bs : List ℕ) → option_map (λ y. y.now) r ≡ behind c bs → r ≡ Some x
+    → behind c bs ≡ Some x.now
+found r x c bs e is = sym e ∙ ap (option_map (λ y. y.now)) is
+
+pub missing : (r : Option (Bor (List ℕ))) (c : ℕ) (bs : List ℕ) → option_map (λ y. y.now) r ≡ behind c bs → r ≡ None → behind c bs ≡ None
+missing r c bs e is = sym e ∙ ap (option_map (λ y. y.now)) is
+
+pub behind_shorter : (c : ℕ) (bs rest : List ℕ) → behind c bs ≡ Some rest → length rest < length bs
+behind_shorter c [] rest e = absurd cc
+behind_shorter c (b ∷ bs) rest e = let p = first_byte (b == c) c b bs rest refl e in omega (arith, ap length p.1)
+
+-- a monomial, a sum, an array and a list go on
+pub atoms_go_on : (bs rest : List ℕ) (m : Monomial) (k : ForMonomial) → behind 42 bs ≡ Some rest
+    → term_reading bs (after_monomial m k) ≡ term_reading rest (at_atom (times m k))
+atoms_go_on [] rest m k e = absurd cc
+atoms_go_on (b ∷ bs) rest m k e = let p = first_byte (b == 42) 42 b bs rest refl e in rw (p.0, p.1) refl
+
+pub sum_goes_on : (bs rest : List ℕ) (s : Sum) (k : ForPolynomial) → behind 32 bs ≡ Some rest
+    → term_reading bs (after_sum s k) ≡ term_reading rest (at_sign s k)
+sum_goes_on [] rest s k e = absurd cc
+sum_goes_on (b ∷ bs) rest s k e = let p = first_byte (b == 32) 32 b bs rest refl e in rw (p.0, p.1) refl
+
+pub array_goes_on : (bs rest : List ℕ) (a : ArrayTerm) (k : ForArray) → behind 123 bs ≡ Some rest
+    → term_reading bs (after_array a k) ≡ term_reading rest (at_polynomial (place a k))
+array_goes_on [] rest a k e = absurd cc
+array_goes_on (b ∷ bs) rest a whole_array e = let p = first_byte (b == 123) 123 b bs rest refl e in rw (p.0, p.1) refl
+array_goes_on (b ∷ bs) rest a (read_of k) e = let p = first_byte (b == 123) 123 b bs rest refl e in rw (p.0, p.1) refl
+
+pub list_goes_on : (bs rest : List ℕ) (l : ListSyntax) → behind 123 bs ≡ Some rest
+    → term_reading bs (after_list l) ≡ term_reading rest (at_polynomial (item l))
+list_goes_on [] rest l e = absurd cc
+list_goes_on (b ∷ bs) rest l e = let p = first_byte (b == 123) 123 b bs rest refl e in rw (p.0, p.1) refl
+
+-- and end
+pub monomial_ended : (bs : List ℕ) (m : Monomial) (k : ForMonomial) → behind 42 bs ≡ None
+    → term_reading bs (after_monomial m k) ≡ term_reading bs (monomial_done m k)
+monomial_ended [] m k e = refl
+monomial_ended (b ∷ bs) m k e = monomial_ends (b ∷ bs) m k (no_first_byte (b == 42) 42 b bs refl e)
+
+pub sum_ended : (bs : List ℕ) (s : Sum) (k : ForPolynomial) → behind 32 bs ≡ None
+    → term_reading bs (after_sum s k) ≡ term_reading bs (after_polynomial (Of s) k)
+sum_ended [] s k e = refl
+sum_ended (b ∷ bs) s k e = sum_ends (b ∷ bs) s k (no_first_byte (b == 32) 32 b bs refl e)
+
+pub writes_ended : (bs : List ℕ) → behind 123 bs ≡ None → EndsWrites bs
+writes_ended [] e = tt
+writes_ended (b ∷ bs) e = no_first_byte (b == 123) 123 b bs refl e
+
 -- ---- what the loops add
 
 times_more : (m : Monomial) (xs : List Atom) (a : Atom) → times_all m (xs ++ a ∷ []) ≡ Times (times_all m xs) a
@@ -206,14 +266,6 @@ pub next_monomial : (b : Bool) (m : Monomial) (s : Sum) (k : ForPolynomial) → 
 next_monomial true m s k = refl
 next_monomial false m s k = refl
 
--- a sum goes on with a sign and a monomial
-pub sum_step : (bytes signed_at monomial_at rest : List ℕ) (s t : Sum) (b : Bool) (m : Monomial) (k : ForPolynomial) → bytes ≡ 32 ∷ signed_at
-    → ((s : Sum) (k : ForPolynomial) → term_reading signed_at (at_sign s k) ≡ term_reading monomial_at (at_monomial (monomial_of_sum b s k)))
-    → ((k : ForMonomial) → term_reading monomial_at (at_monomial k) ≡ term_reading rest (monomial_done m k))
-    → t ≡ more_sum s (b, m)
-    → term_reading bytes (after_sum s k) ≡ term_reading rest (after_sum t k)
-sum_step bytes signed_at monomial_at rest s t b m k e f g h = rw (e, h) (f s k ∙ g (monomial_of_sum b s k) ∙ ap (term_reading rest) (next_monomial b m s k))
-
 -- nothing follows a whole polynomial
 pub not_ended : (bs : List ℕ) (p : Polynomial) → 0 < length bs → term_reading bs (after_polynomial p whole_polynomial) ≡ None
 not_ended [] p h = absurd (omega (arith, h))
@@ -228,6 +280,11 @@ array_not_ended (b ∷ bs) a h e = rw e refl
 pub array_base : (bs : List ℕ) (s : Side) (x : List ℕ) → term_reading bs (after_symbol s x in_array) ≡ term_reading bs (after_array (Bare s x) whole_array)
 array_base [] s x = refl
 array_base (b ∷ bs) s x = refl
+
+-- nothing but an item follows a whole list
+pub list_not_ended : (bs : List ℕ) (l : ListSyntax) → 0 < length bs → EndsWrites bs → term_reading bs (after_list l) ≡ None
+list_not_ended [] l h e = absurd (omega (arith, h))
+list_not_ended (b ∷ bs) l h e = rw e refl
 
 pub list_base : (bs : List ℕ) (s : Side) (x : List ℕ) → term_reading bs (after_symbol s x in_list) ≡ term_reading bs (after_list (BareList s x))
 list_base [] s x = refl

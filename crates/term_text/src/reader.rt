@@ -1,18 +1,20 @@
 //! Reading a whole text.
 
-ghost use Rattle.std.specs.Prelude.{◌≡◌, IfOk};
-ghost use Rattle.term_text.specs.Machine.{TermMadeAs, IsRead, Goes, term_reading, expect, in_array, in_list, whole_polynomial};
+ghost use Rattle.std.specs.Prelude.{◌≡◌, map, IfOk};
+ghost use Rattle.term_text.specs.Machine.{TermMadeAs, IsRead, Goes, EndsWrites, term_reading, expect, in_array, in_list};
+ghost use Rattle.term_text.specs.Machine.{whole_polynomial};
 ghost use Rattle.term_text.specs.Machine.{whole_array, at_polynomial, at_array, at_list, at_symbol, after_array, after_list};
 ghost use Rattle.term_text.specs.TermTexts.{Polynomial, ArrayTerm, ListSyntax, polynomial, array, list};
 ghost use Rattle.term_text.specs.SpellableTerms.{SpellsTermText};
 ghost use Rattle.term_text.specs.View.{written_polynomial_in, written_array_in, written_list_in, base_in, list_base_in};
+ghost use Rattle.term_text.specs.View.{pushed_all};
 
 use crate::brackets::is_shallow;
 use crate::fault::ReadError;
 use crate::parts::push_item;
 use crate::scan::{expect, expect_three, word};
-use crate::signs::close_brace;
-use crate::terms::{polynomial, writes};
+use crate::signs::behind;
+use crate::terms::{braced, polynomial, writes};
 use crate::tree::{WrittenArray, WrittenBase, WrittenList, WrittenListBase, WrittenPolynomial};
 use nf_terms::tree::Side;
 use std::alloc::Global;
@@ -91,6 +93,23 @@ fn list_base<'a>(bytes: &'a [u8]) -> Result<(WrittenListBase<'a>, &'a [u8]), Rea
     }
 }
 
+// The list that nothing follows.
+#[tactic(auto, using(crate::proofs::Steps::list_not_ended))]
+fn ended<'a>(
+    base: WrittenListBase<'a>,
+    items: Vec<WrittenPolynomial<'a>>,
+    bytes: &'a [u8],
+) -> Result<WrittenList<'a>, ReadError>
+    requires { EndsWrites bytes.now }
+    ensures { IsRead (after_list (pushed_all (list_base_in base.entry) (map written_polynomial_in items.entry.items)))
+        (λ t. list (written_list_in t)) result bytes.now }
+{
+    match bytes {
+        [] => Ok(WrittenList { base, items }),
+        [_, ..] => Err(ReadError::BadTerm),
+    }
+}
+
 // The list of a base and of items up to the end.
 fn items<'a>(
     alloc: Global,
@@ -102,15 +121,13 @@ fn items<'a>(
     let mut items = Vec::new(alloc);
     let mut rest = bytes;
     loop {
-        match rest {
-            [] => return Ok(WrittenList { base, items }),
-            [b'{', after @ ..] => {
-                let (item, after) = polynomial(alloc, after)?;
-                let after = close_brace(after)?;
+        match behind(rest, b'{') {
+            Some(after) => {
+                let (item, after) = braced(alloc, after)?;
                 push_item(&mut items, item)?;
                 rest = after;
             }
-            _ => return Err(ReadError::BadTerm),
+            None => return ended(base, items, rest),
         }
     }
 }

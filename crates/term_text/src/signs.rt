@@ -1,8 +1,9 @@
 //! The signs between the parts of a term.
 
-ghost use Rattle.std.specs.Prelude.{◌≡◌, ◌==◌, ◌||◌, ◌<◌, length, IfOk};
+ghost use Rattle.std.specs.Prelude.{◌≡◌, ◌==◌, ◌||◌, ◌<◌, length, option_map, IfOk, IfSome};
 ghost use Rattle.fs_model.specs.Words.{is_digit};
-ghost use Rattle.term_text.specs.Machine.{ForPolynomial, ForArray, ForAtom, term_reading, begins, Goes, EndsWrites, IsNoArray};
+ghost use Rattle.term_text.specs.Machine.{ForPolynomial, ForArray, ForAtom, term_reading, begins, behind, Goes, EndsWrites};
+ghost use Rattle.term_text.specs.Machine.{IsNoArray};
 ghost use Rattle.term_text.specs.Machine.{at_polynomial, at_monomial, at_sign, after_array, after_list, after_polynomial};
 ghost use Rattle.term_text.specs.Machine.{atom_done, monomial_of_sum, read_of, dividend, divisor, modulend, modulus, index};
 ghost use Rattle.term_text.specs.Machine.{place, value, item};
@@ -98,6 +99,18 @@ pub fn open_bracket(bytes: &[u8]) -> Result<&[u8], ReadError>
     }
 }
 
+/// What stands behind a byte, where that is the first.
+#[inline(always)]
+pub fn behind(bytes: &[u8], byte: u8) -> Option<&[u8]>
+    ensures rest { option_map (λ r. r.now) result ≡ behind byte bytes.now }
+    ensures shorter { IfSome result (λ r. length r.now < length bytes.now) }
+{
+    match bytes {
+        [] => None,
+        [first, rest @ ..] => if *first == byte { Some(rest) } else { None },
+    }
+}
+
 /// Takes `+ ` or `- `: whether it is the latter.
 pub fn sign(bytes: &[u8]) -> Result<(bool, &[u8]), ReadError>
     ensures goes { (s : Sum) (k : ForPolynomial)
@@ -105,9 +118,15 @@ pub fn sign(bytes: &[u8]) -> Result<(bool, &[u8]), ReadError>
     ensures shorter { IfOk result (λ x. length x.1.now < length bytes.now) }
 {
     match bytes {
-        [b'+', rest @ ..] => Ok((false, expect(rest, b' ')?)),
-        [b'-', rest @ ..] => Ok((true, expect(rest, b' ')?)),
-        _ => Err(ReadError::BadTerm),
+        [] => Err(ReadError::BadTerm),
+        [first, rest @ ..] => {
+            let rest = expect(rest, b' ')?;
+            match *first {
+                b'+' => Ok((false, rest)),
+                b'-' => Ok((true, rest)),
+                _ => Err(ReadError::BadTerm),
+            }
+        }
     }
 }
 

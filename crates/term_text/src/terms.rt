@@ -2,12 +2,13 @@
 
 ghost use Rattle.std.specs.Prelude.{◌<◌, ◌≤◌, map, length, IfOk};
 ghost use Rattle.term_text.specs.Machine.{ForPolynomial, ForArray, ForMonomial, ForAtom, in_atom, term_reading, Goes, EndsWrites};
-ghost use Rattle.term_text.specs.Machine.{EndsMonomial, EndsTermSum, at_polynomial, at_monomial, at_atom, at_symbol, at_sign};
-ghost use Rattle.term_text.specs.Machine.{after_array, after_monomial, after_sum, after_polynomial, atom_done, monomial_done};
-ghost use Rattle.term_text.specs.Machine.{expect, first_monomial_for, read_of, dividend, modulend, place};
-ghost use Rattle.term_text.specs.TermTexts.{Sum, Polynomial, ArrayTerm, Read, Quotient, Remainder, Written};
+ghost use Rattle.term_text.specs.Machine.{at_polynomial, at_monomial, at_atom, at_symbol, at_sign, item};
+ghost use Rattle.term_text.specs.Machine.{after_array, after_list, after_monomial, after_sum, after_polynomial, atom_done};
+ghost use Rattle.term_text.specs.Machine.{monomial_done, expect, first_monomial_for, read_of, dividend, modulend, place, value};
+ghost use Rattle.term_text.specs.TermTexts.{Monomial, Sum, Polynomial, ArrayTerm, ListSyntax, Read, Quotient, Remainder, Written};
+ghost use Rattle.term_text.specs.TermTexts.{Pushed};
 ghost use Rattle.term_text.specs.View.{written_atom_in, head_in, written_monomial_in, written_polynomial_in, written_array_in};
-ghost use Rattle.term_text.specs.View.{base_in, written_term_in, sum_of, more_sum};
+ghost use Rattle.term_text.specs.View.{base_in, times_all, first_sum, more_sum};
 
 use crate::fault::ReadError;
 use crate::parts::{
@@ -15,8 +16,8 @@ use crate::parts::{
 };
 use crate::scan::{expect, expect_three, number, word};
 use crate::signs::{
-    begins_with_digit, begins_with_zero_or_minus, close_brace, close_bracket, close_paren, colon,
-    comma, goes_on_as_array, open_bracket, sign,
+    begins_with_digit, begins_with_zero_or_minus, behind, close_brace, close_bracket, close_paren,
+    colon, comma, goes_on_as_array, open_bracket, sign,
 };
 use crate::tree::{
     WrittenArray, WrittenAtom, WrittenBase, WrittenHead, WrittenMonomial, WrittenPolynomial,
@@ -32,15 +33,18 @@ fn atom<'a>(alloc: Global, bytes: &'a [u8]) -> Result<(WrittenAtom<'a>, &'a [u8]
     ensures shorter { IfOk result (λ x. length x.1.now < length bytes.now) }
 {
     match bytes {
-        [b'L', rest @ ..] => symbol(alloc, Side::Left, rest),
-        [b'R', rest @ ..] => symbol(alloc, Side::Right, rest),
-        [b'd', rest @ ..] => quotient(alloc, expect_three(rest, b'i', b'v', b'(')?),
-        [b'r', rest @ ..] => remainder(alloc, expect_three(rest, b'e', b'm', b'(')?),
-        [b'z', rest @ ..] => {
-            let rest = expect_three(rest, b'e', b'r', b'o')?;
-            read(alloc, WrittenBase::Zero, rest)
-        }
-        _ => Err(ReadError::BadTerm),
+        [] => Err(ReadError::BadTerm),
+        [first, rest @ ..] => match *first {
+            b'L' => symbol(alloc, Side::Left, rest),
+            b'R' => symbol(alloc, Side::Right, rest),
+            b'd' => quotient(alloc, expect_three(rest, b'i', b'v', b'(')?),
+            b'r' => remainder(alloc, expect_three(rest, b'e', b'm', b'(')?),
+            b'z' => {
+                let rest = expect_three(rest, b'e', b'r', b'o')?;
+                read(alloc, WrittenBase::Zero, rest)
+            }
+            _ => Err(ReadError::BadTerm),
+        },
     }
 }
 
@@ -109,13 +113,13 @@ pub fn writes<'a>(
     let mut writes = Vec::new(alloc);
     let mut rest = bytes;
     loop {
-        match rest {
-            [b'{', after @ ..] => {
+        match behind(rest, b'{') {
+            Some(after) => {
                 let (index, value, after) = write(alloc, after)?;
                 push_write(&mut writes, index, value)?;
                 rest = after;
             }
-            _ => return Ok((WrittenArray { base, writes }, rest)),
+            None => return Ok((WrittenArray { base, writes }, rest)),
         }
     }
 }
@@ -143,8 +147,24 @@ fn value<'a>(alloc: Global, bytes: &'a [u8]) -> Result<(WrittenPolynomial<'a>, &
         (λ x. term_reading x.1.now (after_array (Written a i (written_polynomial_in x.0)) k)) }
     ensures shorter { IfOk result (λ x. length x.1.now < length bytes.now) }
 {
-    let (value, rest) = polynomial(alloc, colon(bytes)?)?;
-    Ok((value, close_brace(rest)?))
+    braced(alloc, colon(bytes)?)
+}
+
+/// The value of a write or an item, up to the closing brace, and what follows that.
+#[cycle(terms)]
+pub fn braced<'a>(
+    alloc: Global,
+    bytes: &'a [u8],
+) -> Result<(WrittenPolynomial<'a>, &'a [u8]), ReadError>
+    ensures write { (a : ArrayTerm) (i : Polynomial) (k : ForArray)
+        → Goes result (term_reading bytes.now (at_polynomial (value a i k)))
+        (λ x. term_reading x.1.now (after_array (Written a i (written_polynomial_in x.0)) k)) }
+    ensures item { (l : ListSyntax) → Goes result (term_reading bytes.now (at_polynomial (item l)))
+        (λ x. term_reading x.1.now (after_list (Pushed l (written_polynomial_in x.0)))) }
+    ensures shorter { IfOk result (λ x. length x.1.now < length bytes.now) }
+{
+    let (made, rest) = polynomial(alloc, bytes)?;
+    Ok((made, close_brace(rest)?))
 }
 
 #[cycle(terms)]
@@ -205,32 +225,30 @@ fn head<'a>(alloc: Global, bytes: &'a [u8]) -> Result<(WrittenHead<'a>, &'a [u8]
     }
 }
 
-// The atoms of a monomial.
+// The atoms of a monomial after its head.
 #[cycle(terms)]
 #[inline(always)]
-fn factors<'a>(alloc: Global, bytes: &'a [u8]) -> Result<(WrittenMonomial<'a>, &'a [u8]), ReadError>
-    ensures goes { (k : ForMonomial) → Goes result (term_reading bytes.now (at_monomial k))
-        (λ x. term_reading x.1.now (after_monomial (written_monomial_in x.0) k)) }
-    ensures shorter { IfOk result (λ x. length x.1.now < length bytes.now) }
-    ensures ends { IfOk result (λ x. EndsMonomial x.1.now) }
+fn atoms<'a>(alloc: Global, bytes: &'a [u8]) -> Result<(Vec<WrittenAtom<'a>>, &'a [u8]), ReadError>
+    ensures goes { (m : Monomial) (k : ForMonomial) → Goes result (term_reading bytes.now (after_monomial m k))
+        (λ x. term_reading x.1.now (monomial_done (times_all m (map written_atom_in x.0.items)) k)) }
+    ensures shorter { IfOk result (λ x. length x.1.now ≤ length bytes.now) }
 {
-    let (head, mut rest) = head(alloc, bytes)?;
     let mut atoms = Vec::new(alloc);
+    let mut rest = bytes;
     loop {
-        match rest {
-            [b'*', after @ ..] => {
+        match behind(rest, b'*') {
+            Some(after) => {
                 let (next, after) = atom(alloc, after)?;
                 push_atom(&mut atoms, next)?;
                 rest = after;
             }
-            _ => return Ok((WrittenMonomial { head, atoms }, rest)),
+            None => return Ok((atoms, rest)),
         }
     }
 }
 
 /// A monomial, and what follows it.
 #[cycle(terms)]
-#[tactic(auto, using(crate::proofs::Steps::monomial_ends))]
 #[inline(always)]
 pub fn monomial<'a>(
     alloc: Global,
@@ -240,8 +258,9 @@ pub fn monomial<'a>(
         (λ x. term_reading x.1.now (monomial_done (written_monomial_in x.0) k)) }
     ensures shorter { IfOk result (λ x. length x.1.now < length bytes.now) }
 {
-    let (made, rest) = factors(alloc, bytes)?;
-    Ok((made, rest))
+    let (head, rest) = head(alloc, bytes)?;
+    let (atoms, rest) = atoms(alloc, rest)?;
+    Ok((WrittenMonomial { head, atoms }, rest))
 }
 
 /// A monomial that is not the first of a sum, from its sign on.
@@ -262,36 +281,36 @@ pub fn further<'a>(
     Ok((minus, next, rest))
 }
 
-// A sum, after the sign of its first monomial.
+// A sum after its first monomial.
 #[cycle(terms)]
-#[tactic(auto, using(crate::proofs::Steps::first_monomial))]
 fn monomials<'a>(
     alloc: Global,
     minus: bool,
+    first: WrittenMonomial<'a>,
     bytes: &'a [u8],
-) -> Result<(Vec<(bool, WrittenMonomial<'a>)>, &'a [u8]), ReadError>
-    ensures goes { (k : ForPolynomial) → Goes result (term_reading bytes.now (at_monomial (first_monomial_for minus k)))
-        (λ x. term_reading x.1.now (after_sum (sum_of (map written_term_in x.0.items)) k)) }
-    ensures some { IfOk result (λ x. 0 < length x.0.items) }
-    ensures shorter { IfOk result (λ x. length x.1.now < length bytes.now) }
-    ensures ends { IfOk result (λ x. EndsTermSum x.1.now) }
+) -> Result<(WrittenPolynomial<'a>, &'a [u8]), ReadError>
+    ensures goes { (k : ForPolynomial)
+        → Goes result (term_reading bytes.now (after_sum (first_sum (minus, written_monomial_in first.entry)) k))
+        (λ x. term_reading x.1.now (after_polynomial (written_polynomial_in x.0) k)) }
+    ensures shorter { IfOk result (λ x. length x.1.now ≤ length bytes.now) }
 {
-    let (first, mut rest) = monomial(alloc, bytes)?;
     let mut monomials = first_of(alloc, minus, first)?;
+    let mut rest = bytes;
     loop {
-        match rest {
-            [b' ', after @ ..] => {
+        match behind(rest, b' ') {
+            Some(after) => {
                 let (minus, next, after) = further(alloc, after)?;
                 push_monomial(&mut monomials, minus, next)?;
                 rest = after;
             }
-            _ => return Ok((monomials, rest)),
+            None => return Ok((WrittenPolynomial { monomials }, rest)),
         }
     }
 }
 
+// A sum, after the sign of its first monomial.
 #[cycle(terms)]
-#[tactic(auto, using(crate::proofs::Steps::sum_ends, crate::proofs::Steps::sum_whole))]
+#[tactic(auto, using(crate::proofs::Steps::first_monomial))]
 fn sum<'a>(
     alloc: Global,
     minus: bool,
@@ -301,8 +320,8 @@ fn sum<'a>(
         (λ x. term_reading x.1.now (after_polynomial (written_polynomial_in x.0) k)) }
     ensures shorter { IfOk result (λ x. length x.1.now < length bytes.now) }
 {
-    let (monomials, rest) = monomials(alloc, minus, bytes)?;
-    Ok((WrittenPolynomial { monomials }, rest))
+    let (first, rest) = monomial(alloc, bytes)?;
+    monomials(alloc, minus, first, rest)
 }
 
 /// A polynomial at the beginning of bytes, and what follows it.

@@ -3,9 +3,9 @@ use Rattle.term_text.specs.Machine.{term_reading, after_list}
 use Rattle.term_text.specs.View.{list_base_in, written_polynomial_in, pushed_all}
 use Rattle.term_text.proofs.reader.items.Given as goal
 
-abbrev pub invariant-loop-rest : goal.invariant-loop-rest
-invariant-loop-rest l = term_reading l.bytes (after_list (list_base_in l.base))
+abbrev pub invariant-loop-after : goal.invariant-loop-after
+invariant-loop-after l = term_reading l.bytes (after_list (list_base_in l.base))
     ≡ term_reading l.rest (after_list (pushed_all (list_base_in l.base) (map written_polynomial_in l.items.items)))
 
-abbrev pub decreases-loop-rest : goal.decreases-loop-rest
-decreases-loop-rest l = length l.rest
+abbrev pub decreases-loop-after : goal.decreases-loop-after
+decreases-loop-after l = length l.rest
