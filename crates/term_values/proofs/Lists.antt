@@ -1,5 +1,8 @@
 -- A test of what a list makes is the test of its parts, and its value is made of theirs.
-use Rattle.std.proofs.Common.{◌≡◌, ℕ, Bool, true, false, ◌&&◌, List, [], ◌∷◌, map, refl, sym, ap, ◌∙◌}
+use Rattle.std.proofs.Common.{◌≡◌, ℕ, ◌+◌, ◌<◌, ◌≤◌, Bool, true, false, ◌&&◌, List, [], ◌∷◌, ◌++◌, map, drop, length, get_or, refl, sym, ap, ◌∙◌}
+use Rattle.std.proofs.Common.{append_assoc}
+use Rattle.std.proofs.lemmas.List.{drop_all, append-nil}
+use Rattle.fs_model.proofs.Lists.{map_drop_next}
 use Rattle.nf_terms.specs.NormalTerms as terms
 use Rattle.term_text.specs.declared.tree.WrittenBase.{WrittenBase}
 use Rattle.term_text.specs.declared.tree.WrittenBase.TheVariants as bases
@@ -182,3 +185,37 @@ list_is r l = λ k. record {
       (items_all_of r (list_base_in l.base) (map written_polynomial_in l.items.items)
       ∙ no_items_of r l.base (map (polynomial_value r) (map written_polynomial_in l.items.items))) k;
 }
+
+-- ---- a loop over a list: its next item
+
+pub one_more : {X Y A : Type 0} (f : X → Y) (g : Y → A) (old new : List A) (xs : List X) (i : ℕ) (x : X) → i < length xs → x ≡ get_or xs i x
+    → new ≡ old ++ g (f x) ∷ [] → new ++ map g (map f (drop (i + 1) xs)) ≡ old ++ map g (map f (drop i xs))
+one_more f g old new xs i x h e n =
+    ap (λ l. l ++ map g (map f (drop (i + 1) xs))) n
+    ∙ append_assoc old (g (f x) ∷ []) (map g (map f (drop (i + 1) xs)))
+    ∙ ap (λ l. old ++ map g l) (sym (map_drop_next f xs i x h e))
+
+pub whole_list : {X Y A : Type 0} (f : X → Y) (g : Y → A) (done : List A) (xs : List X) (i : ℕ) → length xs ≤ i
+    → done ++ map g (map f (drop i xs)) ≡ done
+whole_list f g done xs i h = ap (λ l. done ++ map g (map f l)) (drop_all i xs h) ∙ append-nil done
+
+module _ {X Y : Type 0} (f : X → Y) (test : Y → Bool) (all : List Y → Bool) (step : (y : Y) (ys : List Y) → all (y ∷ ys) ≡ (test y && all ys))
+    (xs : List X) (i : ℕ) (x : X) (inside : i < length xs) (is : x ≡ get_or xs i x) (whole : Bool) (left : whole ≡ all (map f (drop i xs))) where
+  next : whole ≡ (test (f x) && all (map f (drop (i + 1) xs)))
+  next = left ∙ ap all (map_drop_next f xs i x inside is) ∙ step (f x) (map f (drop (i + 1) xs))
+
+  pub passes : test (f x) ≡ true → whole ≡ all (map f (drop (i + 1) xs))
+  passes e = next ∙ ap (λ b. b && all (map f (drop (i + 1) xs))) e
+
+  pub stops : test (f x) ≡ false → false ≡ whole
+  stops e = sym (next ∙ ap (λ b. b && all (map f (drop (i + 1) xs))) e)
+
+pub all_pass : {X Y : Type 0} (f : X → Y) (all : List Y → Bool) (xs : List X) (i : ℕ) (whole : Bool) → whole ≡ all (map f (drop i xs)) → length xs ≤ i
+    → all [] ≡ true → true ≡ whole
+all_pass f all xs i whole left h e = sym (left ∙ ap (λ l. all (map f l)) (drop_all i xs h) ∙ e)
+
+pub both : (a b : Bool) → a ≡ true → b ≡ true → (a && b) ≡ true
+both a b e h = ap (λ c. c && b) e ∙ h
+
+pub second_stops : (a b : Bool) → a ≡ true → b ≡ false → (a && b) ≡ false
+second_stops a b e h = ap (λ c. c && b) e ∙ h

@@ -42,10 +42,7 @@ fn atom_passes<C: Check>(check: &C, atom: &WrittenAtom<'_>) -> bool
         WrittenAtom::Read(array, index) => {
             array_passes(check, array) && polynomial_passes(check, index)
         }
-        WrittenAtom::Quotient(left, right) => {
-            polynomial_passes(check, left) && polynomial_passes(check, right)
-        }
-        WrittenAtom::Remainder(left, right) => {
+        WrittenAtom::Quotient(left, right) | WrittenAtom::Remainder(left, right) => {
             polynomial_passes(check, left) && polynomial_passes(check, right)
         }
     }
@@ -144,7 +141,10 @@ pub fn array_passes<C: Check>(check: &C, array: &WrittenArray<'_>) -> bool
         return false;
     }
     for (index, value) in &array.writes {
-        if !polynomial_passes(check, index) || !polynomial_passes(check, value) {
+        if !polynomial_passes(check, index) {
+            return false;
+        }
+        if !polynomial_passes(check, value) {
             return false;
         }
     }

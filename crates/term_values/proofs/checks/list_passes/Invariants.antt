@@ -6,4 +6,4 @@ use Rattle.term_values.proofs.checks.list_passes.Given as goal
 
 abbrev pub invariant-loop-item : goal.invariant-loop-item
 invariant-loop-item g l = list_passes (g.C.Check.test l.check) (written_list_in l.list)
-    ≡ items_pass (g.C.Check.test l.check) (map written_polynomial_in (drop l.item-index l.list.items.items))
+    ≡ items_pass (g.C.Check.test l.check) (map written_polynomial_in (drop l.item-index l.item-items))
