@@ -1,6 +1,6 @@
 //! From written terms to trees of terms.
 
-ghost use Rattle.std.specs.Prelude.{◌≡◌, ◌++◌, map, pos, List, IfOk, unsigned_abs};
+ghost use Rattle.std.specs.Prelude.{◌≡◌, ◌++◌, ◌∷◌, [], map, pos, List, IfOk, unsigned_abs};
 ghost use Rattle.nf_terms.specs.NormalTerms as terms;
 ghost use Rattle.nf_terms.specs.View as view;
 ghost use Rattle.term_text.specs.View as text;
@@ -53,13 +53,40 @@ fn atom_tree<N: Names>(alloc: Global, names: &N, atom: &WrittenAtom<'_>) -> Resu
         }
         WrittenAtom::Quotient(left, right) => {
             let left = polynomial_tree(alloc, names, left)?;
-            make_quotient(alloc, left, polynomial_tree(alloc, names, right)?)
+            let (left, right) = add_tree(alloc, names, right, left)?;
+            make_quotient(alloc, left, right)
         }
         WrittenAtom::Remainder(left, right) => {
             let left = polynomial_tree(alloc, names, left)?;
-            make_remainder(alloc, left, polynomial_tree(alloc, names, right)?)
+            let (left, right) = add_tree(alloc, names, right, left)?;
+            make_remainder(alloc, left, right)
         }
     }
+}
+
+// A tree, and the tree of a polynomial.
+#[cycle(trees)]
+fn add_tree<N: Names>(
+    alloc: Global,
+    names: &N,
+    polynomial: &WrittenPolynomial<'_>,
+    tree: PolyTree,
+) -> Result<(PolyTree, PolyTree), NoMemory>
+    ensures same { IfOk result (λ p. view.polynomial_in p.0 ≡ view.polynomial_in tree) }
+    ensures tree { IfOk result
+        (λ p. view.polynomial_in p.1 ≡ polynomial_value (within_limit (N.find names.now))
+        (text.written_polynomial_in polynomial.now)) }
+{
+    Ok((tree, polynomial_tree(alloc, names, polynomial)?))
+}
+
+// One atom, as a list.
+fn one_atom(alloc: Global, atom: Atom) -> Result<Vec<Atom>, NoMemory>
+    ensures { IfOk result (λ v. map view.atom_in v.items ≡ view.atom_in atom ∷ []) }
+{
+    let mut atoms = Vec::new(alloc);
+    push_atom(&mut atoms, atom)?;
+    Ok(atoms)
 }
 
 // The atom that a monomial begins with, if it does.
@@ -73,12 +100,10 @@ fn head_atoms<N: Names>(
         (λ v. (rest : List terms.Atom) → terms.monomial_of (map view.atom_in v.items ++ rest)
         ≡ atoms_of (within_limit (N.find names.now)) (text.head_in head.now) (terms.monomial_of rest)) }
 {
-    let mut atoms = Vec::new(alloc);
     match head {
-        WrittenHead::Number(_) => {}
-        WrittenHead::One(atom) => push_atom(&mut atoms, atom_tree(alloc, names, atom)?)?,
+        WrittenHead::Number(_) => Ok(Vec::new(alloc)),
+        WrittenHead::One(atom) => one_atom(alloc, atom_tree(alloc, names, atom)?),
     }
-    Ok(atoms)
 }
 
 #[cycle(trees)]
@@ -141,7 +166,8 @@ pub fn array_tree<N: Names>(
     let mut writes = Vec::new(alloc);
     for (index, value) in &array.writes {
         let index = polynomial_tree(alloc, names, index)?;
-        push_write(&mut writes, index, polynomial_tree(alloc, names, value)?)?;
+        let (index, value) = add_tree(alloc, names, value, index)?;
+        push_write(&mut writes, index, value)?;
     }
     Ok(ArrTree {
         base: base_tree(names, &array.base),

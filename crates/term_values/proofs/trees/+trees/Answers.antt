@@ -40,7 +40,7 @@ array_tree-loop-index-preserved g t c =
     ap (λ ws. terms.Over (base_value r (text.base_in (out-WrittenArray c.args.array.now).base)) (terms.writes_of ws))
     (one_more text.written_write_in (write_value r) old _ c.deref-index-items.result.now c.loop-index.index-index c.loop-index-item.result
     c.loop-index-test.true c.loop-index-item.is
-    (c.in_ok-push_write.ensures ∙ (λ j. old ++ (c.in_ok-index.ensures j, c.in_ok-polynomial_tree.ensures j) ∷ [])))
+    (c.in_ok-push_write.ensures ∙ (λ j. old ++ ((c.in_ok-index-2.ensures.same ∙ c.in_ok-index.ensures) j, c.in_ok-index-2.ensures.tree j) ∷ [])))
     ∙ c.loop-index.invariant
 
 pub monomial_tree-returns : goal.monomial_tree-returns
