@@ -1,4 +1,4 @@
-use Rattle.std.proofs.Common.{◌≡◌, map, ap, sym, ◌∙◌}
+use Rattle.std.proofs.Common.{map, ap, sym, ◌∙◌}
 use Rattle.term_text.specs.Machine.{term_reading, after_list}
 use Rattle.term_text.specs.View.{list_base_in, written_polynomial_in, pushed_all}
 use Rattle.term_text.proofs.Steps.{found, list_goes_on}

@@ -1,4 +1,4 @@
-use Rattle.std.proofs.Common.{◌≡◌, map, ap, sym, ◌∙◌, arith}
+use Rattle.std.proofs.Common.{map, ap, sym, ◌∙◌, arith}
 use Rattle.term_text.specs.Machine.{first, times, term_reading, after_monomial, after_sum, after_array, after_polynomial, monomial_done}
 use Rattle.term_text.specs.TermTexts.{Atom, Monomial, Polynomial, ArrayTerm}
 use Rattle.term_text.specs.declared.tree.WrittenAtom.TheFolds.{fold-roll-WrittenMonomial, fold-roll-WrittenPolynomial, fold-roll-WrittenArray}

@@ -1,4 +1,4 @@
-use Rattle.std.proofs.Common.{◌≡◌, ◌&&◌, ap, sym, ◌∙◌, refl}
+use Rattle.std.proofs.Common.{◌&&◌, ap, sym, ◌∙◌, refl}
 use Rattle.term_text.specs.View.{written_atom_in, written_monomial_in, written_polynomial_in, written_term_in, written_write_in, written_array_in}
 use Rattle.term_values.specs.Checks.{atom_passes, monomial_passes, polynomial_passes, array_passes}
 use Rattle.term_values.specs.ListParts.{atoms_pass, monomials_pass, writes_pass}

@@ -1,4 +1,4 @@
-use Rattle.std.proofs.Common.{◌≡◌, sym, ◌∙◌, refl}
+use Rattle.std.proofs.Common.{sym, ◌∙◌, refl}
 use Rattle.term_text.specs.View.{written_polynomial_in, written_list_in}
 use Rattle.term_values.specs.Checks.{polynomial_passes, list_passes}
 use Rattle.term_values.specs.ListParts.{items_pass}
