@@ -2,7 +2,7 @@
 # Times `check` where the search meets an obstacle and all 832 stated candidates run for nearly 100,000 steps: bench/candidates.sh [FOLDER].
 set -eu
 cd "$(dirname "$0")/.."
-program=$PWD/crates/fsmd/out/fsmd
+program=${FSMD:-$PWD/crates/fsmd/out/fsmd}
 folder=${1:-$(mktemp -d)}
 mkdir -p "$folder"
 [ -x "$program" ] || { echo "build the program first: bin/build"; exit 1; }

@@ -3,7 +3,7 @@
 # refused, and looks whether the run ends with status 71 and prints nothing, or with the answer. It needs cc.
 set -eu
 cd "$(dirname "$0")/.."
-program=$PWD/crates/fsmd/out/fsmd
+program=${FSMD:-$PWD/crates/fsmd/out/fsmd}
 folder=$(mktemp -d)
 trap 'rm -rf "$folder"' EXIT
 [ -x "$program" ] || { echo "build the program first: bin/build"; exit 1; }

@@ -3,7 +3,7 @@
 # prints processor seconds and memory.
 set -eu
 cd "$(dirname "$0")/.."
-program=$PWD/crates/fsmd/out/fsmd
+program=${FSMD:-$PWD/crates/fsmd/out/fsmd}
 folder=${1:-$(mktemp -d)}
 mkdir -p "$folder"
 [ -x "$program" ] || { echo "build the program first: bin/build"; exit 1; }
