@@ -7,6 +7,7 @@ use fs_sample_machines::samples::SOLVER;
 use hls_sched::arrivals::count_arrivals;
 use hls_sched::lines::{Line, firsts, is_straight, item, trace_line};
 use std::alloc::Global;
+use std::test::Fail;
 
 fn number(text: &str) -> u32 {
     text.parse::<u32>().unwrap_or(u32::MAX)
@@ -44,24 +45,17 @@ fn has_lines(alloc: Global, m: &Machine, text: &str) -> bool {
     wanted.next().unwrap_or("").is_empty()
 }
 
-// Whether a text is a state and a number of assignments, as `2: 1`.
-fn is_entry(text: &str, state: u32, count: usize) -> bool {
-    let (first, second) = text.split_once(": ").unwrap_or((text, ""));
-    number(first) == state && second.parse::<usize>().ok() == Some(count)
-}
-
-// Whether the states of a machine that stand in lines, each with how many assignments it makes, are those of a text.
-fn has_straight(m: &Machine, text: &str) -> bool {
-    let mut wanted = text.split("; ");
-    for q in 0..m.state_count() {
-        if is_straight(m, StateId(q)) {
-            let count = item(m, StateId(q)).len();
-            if !is_entry(wanted.next().unwrap_or(""), q, count) {
-                return false;
-            }
+// The states of a machine that stand in lines, each with how many assignments it makes.
+fn straight(alloc: Global, text: &str) -> Result<String, Fail> {
+    let machine = machine(alloc, text)?;
+    let mut states = String::new(alloc);
+    for q in 0..machine.state_count() {
+        if is_straight(&machine, StateId(q)) {
+            let count = item(&machine, StateId(q)).len();
+            states.push_str(format!(in alloc; "{q}: {count}; ")?.as_str())?;
         }
     }
-    wanted.next().unwrap_or("").is_empty()
+    Ok(states)
 }
 
 // Two branches meet in a state that no line leads into, since two states lead to it.
@@ -110,16 +104,11 @@ fn lines_of_machines(rt: HostRuntime) {
     }
 }
 
-// Whether the machine of a text has these states in lines.
-fn stands(alloc: Global, text: &str, states: &str) -> bool {
-    match machine(alloc, text) {
-        Ok(machine) => has_straight(&machine, states),
-        Err(_) => false,
-    }
-}
-
 #[test]
-fn states_in_lines(rt: HostRuntime) {
-    assert!(rt; stands(rt.alloc(), MEETING, "2: 1; 3: 1; 4: 1; 5: 1; "));
-    assert!(rt; stands(rt.alloc(), FORKED, "1: 1; 2: 0; 3: 0; "));
+fn states_in_lines(rt: HostRuntime) -> Result<(), Fail> {
+    let meeting = straight(rt.alloc(), MEETING)?;
+    assert_eq!(rt; meeting.as_str(), "2: 1; 3: 1; 4: 1; 5: 1; ");
+    let forked = straight(rt.alloc(), FORKED)?;
+    assert_eq!(rt; forked.as_str(), "1: 1; 2: 0; 3: 0; ");
+    Ok(())
 }
