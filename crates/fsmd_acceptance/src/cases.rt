@@ -1,5 +1,6 @@
 //! Cases: what is asked of the program over files in memory, and whether it answers so.
 
+use crate::spelling::joined;
 use crate::statuses::status_of;
 use fs_base::memory::MemFiles;
 use fs_base::outside::Files;
@@ -34,16 +35,20 @@ fn part(case: &str, place: usize) -> &str {
 pub fn is_answered(alloc: Global, case: &str) -> Result<bool, AllocError> {
     let left = part(case, LEFT);
     let (front, rest) = left.split_once('▸').unwrap_or((left, ""));
-    let left = format!(in alloc; "{front}{rest}")?;
+    let text = joined(alloc, &[front, rest])?;
+    is_answered_to(alloc, case, text.as_bytes(), front)
+}
+
+// The same with these bytes for the left machine, and the place behind this text for `▸`.
+fn is_answered_to(alloc: Global, case: &str, left: &[u8], front: &str) -> Result<bool, AllocError> {
     let reply = with_place(alloc, part(case, REPLY), front)?;
+    is_replied(alloc, case, left, reply.as_str())
+}
+
+// The same with this reply.
+fn is_replied(alloc: Global, case: &str, left: &[u8], reply: &str) -> Result<bool, AllocError> {
     let cert = with_change(alloc, part(case, CERT))?;
-    is_told(
-        alloc,
-        case,
-        left.as_bytes(),
-        cert.as_bytes(),
-        reply.as_str(),
-    )
+    is_told(alloc, case, left, cert.as_bytes(), reply)
 }
 
 // The reply with the place behind this text for `▸`.
@@ -75,7 +80,7 @@ fn with_change(alloc: Global, text: &str) -> Result<String, AllocError> {
     };
     let (piece, other) = change.split_once('»').unwrap_or((change, ""));
     let (front, rest) = whole.split_once(piece).unwrap_or(("no such piece", ""));
-    format!(in alloc; "{front}{other}{rest}")
+    joined(alloc, &[front, other, rest])
 }
 
 /// The same with these bytes for the left machine and the certificate, and this reply.
@@ -86,8 +91,22 @@ pub fn is_told(
     cert: &[u8],
     reply: &str,
 ) -> Result<bool, AllocError> {
-    let mut files = files_of(alloc, case, left, cert)?;
-    let is_put = puts_last(alloc, case, &mut files, reply)?;
+    let mut files = MemFiles::new(alloc, numbers(alloc, part(case, FAILS))?);
+    if !are_held(&mut files, case, left, cert) {
+        return Err(AllocError);
+    }
+    is_told_over(alloc, case, &mut files, cert, reply)
+}
+
+// The same over these files.
+fn is_told_over(
+    alloc: Global,
+    case: &str,
+    files: &mut MemFiles,
+    cert: &[u8],
+    reply: &str,
+) -> Result<bool, AllocError> {
+    let is_put = puts_last(alloc, case, files, reply)?;
     let stored = files.get("c.json").unwrap_or(b"");
     if !is_put || !is_stored(stored, part(case, STORED), cert) {
         return Ok(false);
@@ -95,18 +114,14 @@ pub fn is_told(
     Ok(part(case, FAILS).is_empty() || files.load(alloc, "a.fsmd", 1_048_576).is_err())
 }
 
-fn files_of(alloc: Global, case: &str, left: &[u8], cert: &[u8]) -> Result<MemFiles, AllocError> {
-    let mut files = MemFiles::new(alloc, numbers(alloc, part(case, FAILS))?);
-    let are_held = add_each(&mut files, "a.fsmd p.prog", left)
-        && add_each(&mut files, "b.fsmd", part(case, RIGHT).as_bytes())
-        && add_each(
-            &mut files,
-            "i.json u.json m.json d.json o.fsmd",
-            part(case, INPUTS).as_bytes(),
-        )
-        && add_each(&mut files, "c.json", cert)
-        && add_each(&mut files, "x.fsmd x.json", b"");
-    if are_held { Ok(files) } else { Err(AllocError) }
+// Whether there is memory to add the files.
+fn are_held(files: &mut MemFiles, case: &str, left: &[u8], cert: &[u8]) -> bool {
+    let inputs = part(case, INPUTS).as_bytes();
+    add_each(files, "a.fsmd p.prog", left)
+        && add_each(files, "b.fsmd", part(case, RIGHT).as_bytes())
+        && add_each(files, "i.json u.json m.json d.json o.fsmd", inputs)
+        && add_each(files, "c.json", cert)
+        && add_each(files, "x.fsmd x.json", b"")
 }
 
 // Adds files of these names with these bytes.
@@ -150,11 +165,22 @@ fn puts(
     reply: &str,
 ) -> Result<bool, AllocError> {
     let words = words_of(alloc, words)?;
+    puts_by(alloc, words.as_slice(), takes, files, reply)
+}
+
+// The same of words in a list.
+fn puts_by(
+    alloc: Global,
+    words: &[String],
+    takes: &str,
+    files: &mut MemFiles,
+    reply: &str,
+) -> Result<bool, AllocError> {
     let mut out = MemSink::new(alloc, numbers(alloc, takes)?);
     if out.reserve(40_000).is_err() {
         return Err(AllocError);
     }
-    let status = drive(alloc, words.as_slice(), files, &mut out);
+    let status = drive(alloc, words, files, &mut out);
     Ok(status == status_of(reply, takes) && is_text(out.bytes(), reply))
 }
 

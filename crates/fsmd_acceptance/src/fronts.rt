@@ -1,5 +1,6 @@
 //! Each front of a text: cut inside a token, behind it, or where a file may end.
 
+use crate::spelling::{joined, push_all};
 use crate::tables::each_table;
 use std::alloc::{AllocError, Global};
 
@@ -57,9 +58,8 @@ fn push_inside(alloc: Global, rows: &mut String, text: &str, word: &str) -> Resu
 }
 
 // Adds the row of a front that ends where a token ends or in the blanks behind it.
-fn push_behind(alloc: Global, rows: &mut String, text: &str, why: &str) -> Result<(), AllocError> {
-    let row = format!(in alloc; "{text}▸¦{why}\n")?;
-    rows.push_str(row.as_str())
+fn push_behind(rows: &mut String, text: &str, why: &str) -> Result<(), AllocError> {
+    push_all(rows, &[text, "▸¦", why, "\n"])
 }
 
 fn split_blank(token: &str) -> (&str, &str) {
@@ -81,9 +81,9 @@ fn push_token(
     why: &str,
 ) -> Result<(), AllocError> {
     let (blank, word) = split_blank(token);
-    push_behind(alloc, rows, text.as_str(), why)?;
+    push_behind(rows, text.as_str(), why)?;
     text.push_str(blank)?;
-    push_behind(alloc, rows, text.as_str(), why)?;
+    push_behind(rows, text.as_str(), why)?;
     push_inside(alloc, rows, text.as_str(), word)?;
     text.push_str(word)
 }
@@ -113,12 +113,17 @@ fn push_part(
     Ok(())
 }
 
-fn table_of_fronts(alloc: Global) -> Result<String, AllocError> {
-    let mut rows = format!(in alloc; "{FRONT}\n:\n")?;
+fn push_parts(alloc: Global, rows: &mut String) -> Result<(), AllocError> {
     let mut text = String::new(alloc);
     for part in PARTS.lines() {
-        push_part(alloc, &mut rows, &mut text, part)?;
+        push_part(alloc, rows, &mut text, part)?;
     }
+    Ok(())
+}
+
+fn table_of_fronts(alloc: Global) -> Result<String, AllocError> {
+    let mut rows = joined(alloc, &[FRONT, "\n:\n"])?;
+    push_parts(alloc, &mut rows)?;
     Ok(rows)
 }
 

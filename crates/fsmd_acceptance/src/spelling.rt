@@ -5,9 +5,13 @@ use std::alloc::{AllocError, Global};
 /// A form with the cells of a line of the head and of a row in their places.
 pub fn fill(alloc: Global, form: &str, line: &str, row: &str) -> Result<String, AllocError> {
     let mut all = String::from_str(alloc, form)?;
-    put_cells(alloc, &mut all, line, "A B C")?;
-    put_cells(alloc, &mut all, row, "1 2 3 4")?;
+    put_rows(alloc, &mut all, line, row)?;
     spelled(alloc, all.as_str())
+}
+
+fn put_rows(alloc: Global, all: &mut String, line: &str, row: &str) -> Result<(), AllocError> {
+    put_cells(alloc, all, line, "A B C")?;
+    put_cells(alloc, all, row, "1 2 3 4")
 }
 
 fn put_cells(alloc: Global, all: &mut String, cells: &str, marks: &str) -> Result<(), AllocError> {
@@ -19,22 +23,50 @@ fn put_cells(alloc: Global, all: &mut String, cells: &str, marks: &str) -> Resul
 
 /// Puts a text in the place of its name between braces; each end of a line of the text is spelled `\n`.
 pub fn put_text(alloc: Global, all: &mut String, name: &str, text: &str) -> Result<(), AllocError> {
-    let place = format!(in alloc; "{{{name}}}")?;
     let line = text.replace(alloc, '\n', "\\n")?;
-    *all = all.as_str().replace(alloc, place.as_str(), line.as_str())?;
+    put_line(alloc, all, name, line.as_str())
+}
+
+fn put_line(alloc: Global, all: &mut String, name: &str, line: &str) -> Result<(), AllocError> {
+    let place = joined(alloc, &["{", name, "}"])?;
+    *all = all.as_str().replace(alloc, place.as_str(), line)?;
     Ok(())
+}
+
+/// Adds texts, one behind the other.
+pub fn push_all(all: &mut String, texts: &[&str]) -> Result<(), AllocError> {
+    for text in texts {
+        all.push_str(text)?;
+    }
+    Ok(())
+}
+
+/// Texts one behind the other.
+pub fn joined(alloc: Global, texts: &[&str]) -> Result<String, AllocError> {
+    let mut all = String::new(alloc);
+    push_all(&mut all, texts)?;
+    Ok(all)
 }
 
 fn spelled(alloc: Global, text: &str) -> Result<String, AllocError> {
     let whole = without_escapes(alloc, text)?;
-    let outer = with_runs(alloc, whole.as_str(), "(*", "*)")?;
-    with_runs(alloc, outer.as_str(), "<<", ">>")
+    with_all_runs(alloc, whole.as_str())
 }
 
 fn without_escapes(alloc: Global, text: &str) -> Result<String, AllocError> {
     let lines = text.replace(alloc, "\\n", "\n")?;
-    let tabs = lines.as_str().replace(alloc, "\\t", "\t")?;
+    without_blanks(alloc, lines.as_str())
+}
+
+fn without_blanks(alloc: Global, text: &str) -> Result<String, AllocError> {
+    let tabs = text.replace(alloc, "\\t", "\t")?;
     tabs.as_str().replace(alloc, "\\r", "\r")
+}
+
+// The text with each run round others, and then each of the others, written out.
+fn with_all_runs(alloc: Global, text: &str) -> Result<String, AllocError> {
+    let outer = with_runs(alloc, text, "(*", "*)")?;
+    with_runs(alloc, outer.as_str(), "<<", ">>")
 }
 
 // The text with each run between these marks written out.

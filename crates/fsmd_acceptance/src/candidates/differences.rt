@@ -1,9 +1,9 @@
 //! The first candidate that shows a difference of two machines.
 
 use crate::candidates::first::first_number;
+use fs_ast::machine::Machine;
 use fs_sample_machines::reading::machine;
 use std::alloc::Global;
-use std::test::Fail;
 
 const SUM: &str = "fsmd 1; input a, b; output y; local t; reset s0;
 state s0: goto s1: t = a + b;
@@ -46,15 +46,22 @@ state s0: goto s0: emit p a, emit p b;";
 const EMITS_EXCHANGED: &str = "fsmd 2; input a, b; port p; reset s0;
 state s0: goto s0: emit p b, emit p a;";
 
-// The number of the first candidate that shows a difference of two texts' machines.
-fn first(alloc: Global, left: &str, right: &str) -> Result<Option<u64>, Fail> {
-    first_number(alloc, &machine(alloc, left)?, &machine(alloc, right)?)
+// The number of the first candidate that shows a difference of a machine and that of a text.
+fn first_against(alloc: Global, left: &Machine, right: &str) -> Result<Option<u64>, &'static str> {
+    let right = machine(alloc, right)?;
+    first_number(alloc, left, &right)
+}
+
+// The same of two texts' machines.
+fn first(alloc: Global, left: &str, right: &str) -> Result<Option<u64>, &'static str> {
+    let left = machine(alloc, left)?;
+    first_against(alloc, &left, right)
 }
 
 // The least candidate counts, over scalars, arrays and ports. A value that no candidate has, and a run that does not end, show
 // nothing.
 #[test]
-fn least_candidates(rt: HostRuntime) -> Result<(), Fail> {
+fn least_candidates(rt: HostRuntime) -> Result<(), &'static str> {
     for (left, right, number) in [
         (SUM, SQUARES, Some(1)),
         (MOVED, MOVED_WRONGLY, Some(2)),

@@ -6,8 +6,8 @@ use fs_runs::inputs::Inputs;
 use fs_runs::values::Value;
 use fs_sample_machines::reading::machine;
 use fs_trials::candidates::Candidates;
+use fs_trials::differences::Found;
 use std::alloc::Global;
-use std::test::Fail;
 
 // The pool of two of these has 10 numbers, so that further candidates come from number 100 on. Further numbers are 0 to 10,
 // 12, 16, -1, -2, -3, -5, 99, 100 and 101.
@@ -53,7 +53,7 @@ fn given(alloc: Global, m: &Machine, j: u64, k: u32, i: i128) -> Option<i128> {
 
 // The first, one in the middle and the last, each at two scalars and at places of an array.
 #[test]
-fn numbers_of_further_candidates(rt: HostRuntime) -> Result<(), Fail> {
+fn numbers_of_further_candidates(rt: HostRuntime) -> Result<(), &'static str> {
     let machine = machine(rt.alloc(), CONSTANTS)?;
     for (j, k, i, number) in [
         (0, 0, 0, 99),
@@ -82,11 +82,31 @@ fn numbers_of_further_candidates(rt: HostRuntime) -> Result<(), Fail> {
     Ok(())
 }
 
-// Whether the first candidate that shows a difference of two texts' machines is this one, and gives the first input this number.
-fn is_first(alloc: Global, left: &str, right: &str, j: u64, number: i128) -> Result<bool, Fail> {
-    let left = machine(alloc, left)?;
+// The first candidate that shows a difference of a machine and that of a text.
+fn first_against(
+    alloc: Global,
+    left: &Machine,
+    right: &str,
+) -> Result<Option<Found>, &'static str> {
     let right = machine(alloc, right)?;
-    match first_found(alloc, &left, &right)? {
+    first_found(alloc, left, &right)
+}
+
+// The same of two texts' machines.
+fn first(alloc: Global, left: &str, right: &str) -> Result<Option<Found>, &'static str> {
+    let left = machine(alloc, left)?;
+    first_against(alloc, &left, right)
+}
+
+// Whether the first candidate that shows a difference of two texts' machines is this one, and gives the first input this number.
+fn is_first(
+    alloc: Global,
+    left: &str,
+    right: &str,
+    j: u64,
+    number: i128,
+) -> Result<bool, &'static str> {
+    match first(alloc, left, right)? {
         Some(found) => Ok(found.j == j && value_at(&found.inputs, 0, 0) == Some(number)),
         None => Ok(false),
     }
@@ -95,7 +115,7 @@ fn is_first(alloc: Global, left: &str, right: &str, j: u64, number: i128) -> Res
 // A loop must turn five times before the two differ. The pool is 0, 1, -1 and 2, so its 16 candidates show nothing: the second
 // of the further ones gives 6.
 #[test]
-fn only_a_further_candidate_differs(rt: HostRuntime) -> Result<(), Fail> {
+fn only_a_further_candidate_differs(rt: HostRuntime) -> Result<(), &'static str> {
     assert!(rt; is_first(rt.alloc(), POWERS, REGIONS, 17, 6)?);
     Ok(())
 }

@@ -1,9 +1,10 @@
 //! The positions of two machines.
 
+use fs_ast::machine::Machine;
 use fs_pair::positions::{Position, same_interface};
 use fs_sample_machines::reading::machine;
 use nf_terms::tree::Side;
-use std::test::Fail;
+use std::alloc::Global;
 
 const LEFT: &str = "fsmd 1; input a; local t, u; output y; reset s0;
 state s0: goto s0: y = a;";
@@ -44,14 +45,26 @@ R0 with 5
 R3
 ";
 
+// Whether two machines have the positions of a text.
+fn have_positions(alloc: Global, left: &Machine, right: &Machine, text: &str) -> bool {
+    match same_interface(alloc, left, right) {
+        Ok(pairing) => are_positions(pairing.positions(), text),
+        Err(_) => false,
+    }
+}
+
+// The same of a machine and that of a text.
+fn has_positions(alloc: Global, left: &Machine, right: &str, text: &str) -> bool {
+    match machine(alloc, right) {
+        Ok(right) => have_positions(alloc, left, &right, text),
+        Err(_) => false,
+    }
+}
+
 // The left machine's variables in order, each followed by the right one's of its name, and then the right one's others.
 #[test]
-fn positions_of_two_machines(rt: HostRuntime) -> Result<(), Fail> {
+fn positions_of_two_machines(rt: HostRuntime) -> Result<(), &'static str> {
     let left = machine(rt.alloc(), LEFT)?;
-    let right = machine(rt.alloc(), RIGHT)?;
-    let Ok(pairing) = same_interface(rt.alloc(), &left, &right) else {
-        return Err("other interfaces".into());
-    };
-    assert!(rt; are_positions(pairing.positions(), POSITIONS));
+    assert!(rt; has_positions(rt.alloc(), &left, RIGHT, POSITIONS));
     Ok(())
 }

@@ -1,6 +1,7 @@
 //! A certificate cut short at each byte, and damaged in each of its strings.
 
 use crate::certificates::moved_sum::CERTIFICATE;
+use crate::spelling::push_all;
 use crate::tables::each_table;
 use std::alloc::{AllocError, Global};
 
@@ -12,14 +13,19 @@ verify a.fsmd b.fsmd c.json¦{sum before a test}¦{sum behind a test}¦¦bad inp
 :
 ";
 
-fn table_of_fronts(alloc: Global) -> Result<String, AllocError> {
-    let mut table = String::from_str(alloc, FRONTS)?;
+// Adds the rows of the fronts.
+fn push_fronts(alloc: Global, table: &mut String) -> Result<(), AllocError> {
     let mut front = String::new(alloc);
     for letter in CERTIFICATE.chars() {
-        let row = format!(in alloc; "{front}¦\n")?;
-        table.push_str(row.as_str())?;
+        push_all(table, &[front.as_str(), "¦\n"])?;
         front.push(letter)?;
     }
+    Ok(())
+}
+
+fn table_of_fronts(alloc: Global) -> Result<String, AllocError> {
+    let mut table = String::from_str(alloc, FRONTS)?;
+    push_fronts(alloc, &mut table)?;
     Ok(table)
 }
 
@@ -46,23 +52,40 @@ fn rows_of_string(alloc: Global, front: &str, string: &str) -> Result<String, Al
     format!(in alloc; "{front}{rest}\n{front}?{string}{rest}\n{front}{string}?{rest}\n")
 }
 
+// Adds these rows.
+fn push_string(
+    alloc: Global,
+    table: &mut String,
+    front: &str,
+    string: &str,
+) -> Result<(), AllocError> {
+    let rows = rows_of_string(alloc, front, string)?;
+    table.push_str(rows.as_str())
+}
+
 // Adds a piece of the certificate and the quotation mark behind it.
 fn push_piece(front: &mut String, piece: &str) -> Result<(), AllocError> {
     front.push_str(piece)?;
     front.push('"')
 }
 
-fn table_of_strings(alloc: Global) -> Result<String, AllocError> {
-    let mut table = String::from_str(alloc, STRINGS)?;
+// Adds the rows of the strings.
+fn push_strings(alloc: Global, table: &mut String) -> Result<(), AllocError> {
     let mut front = String::new(alloc);
     let mut is_string = false;
     for piece in CERTIFICATE.split('"') {
         if is_string {
-            table.push_str(rows_of_string(alloc, front.as_str(), piece)?.as_str())?;
+            push_string(alloc, table, front.as_str(), piece)?;
         }
         push_piece(&mut front, piece)?;
         is_string = !is_string;
     }
+    Ok(())
+}
+
+fn table_of_strings(alloc: Global) -> Result<String, AllocError> {
+    let mut table = String::from_str(alloc, STRINGS)?;
+    push_strings(alloc, &mut table)?;
     Ok(table)
 }
 
