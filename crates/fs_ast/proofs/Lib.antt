@@ -3,6 +3,7 @@ pub mod Numbers
 pub mod Kept
 pub mod Naturals
 pub mod Numbered
+mod Ways
 pub mod Whole
 pub mod Shapes
 pub mod FirstBroken

@@ -21,7 +21,7 @@ use fs_rules::scope::Scope;
 use std::alloc::Global;
 
 /// Why no machine is built: a rule is broken, or memory was refused.
-#[derive(Clone, Copy, Debug)]
+#[derive(Clone, Copy)]
 pub enum BuildError {
     Check(CheckFault),
     NoMemory,

@@ -9,7 +9,6 @@
 
 pub mod build;
 mod constants;
-mod copies;
 pub mod laws;
 pub mod machine;
 mod resolve;

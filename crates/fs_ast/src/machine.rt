@@ -11,22 +11,29 @@ ghost use Rattle.fs_ast.specs.StoredBranches.{state_name_of, KeepsTypes};
 ghost use Rattle.fs_model.specs.Words.{is_name};
 
 use crate::constants::constants_of;
-use crate::copies::{copy_states, copy_variables};
 use crate::resolve::State;
 use crate::trees::branches;
+use fs_model::memory::{push_value, share};
 use fs_model::name::{Name, NoMemory};
 use fs_model::parts::{Branch, StateId, VarInfo};
 use std::alloc::Global;
 use std::marker::Model;
+use std::rc::Rc;
 
-/// A machine that keeps all rules. Contracts see its variables, its reset state and its transitions.
+// What a machine holds, its branches and its numbers beside its parts.
 #[derive(Drop)]
-pub struct Machine {
+struct StoredMachine {
     vars: Vec<VarInfo>,
     reset: StateId,
     states: Vec<State>,
     branches: Vec<Vec<Branch>>,
     constants: Vec<i128>,
+}
+
+/// A machine that keeps all rules. Contracts see its variables, its reset state and its transitions. Copies share what it holds.
+#[derive(Drop)]
+pub struct Machine {
+    stored: Rc<StoredMachine>,
 }
 
 impl Model for Machine {
@@ -41,11 +48,19 @@ impl Model for Machine {
 
     ghost coded = { coded_fsmd };
 
-    ghost view = { λ m. record { variables = m.vars.items; reset = m.reset.0; states = map resolved_state m.states.items } };
+    ghost view = { λ m. record {
+      variables = m.stored.value.vars.items;
+      reset = m.stored.value.reset.0;
+      states = map resolved_state m.stored.value.states.items;
+    } };
 
     ghost invariant = { λ m. IsStoredMachine
-        (record { variables = m.vars.items; reset = m.reset.0; states = map resolved_state m.states.items })
-        (map (λ b. map branch_of b.items) m.branches.items) m.constants.items };
+        (record {
+          variables = m.stored.value.vars.items;
+          reset = m.stored.value.reset.0;
+          states = map resolved_state m.stored.value.states.items;
+        })
+        (map (λ b. map branch_of b.items) m.stored.value.branches.items) m.stored.value.constants.items };
 }
 
 impl Machine {
@@ -54,7 +69,7 @@ impl Machine {
         ensures vars { result.now ≡ self.now.variables }
         ensures sound { IsSound self.now }
     {
-        self.vars.as_slice()
+        self.stored.vars.as_slice()
     }
 
     /// How many states there are. Takes no memory.
@@ -62,7 +77,7 @@ impl Machine {
         ensures count { result ≡ length self.now.states }
         ensures sound { IsSound self.now }
     {
-        self.states.len() as u32
+        self.stored.states.len() as u32
     }
 
     /// The name of a state. States are numbered in order of the text. Takes no memory.
@@ -71,7 +86,7 @@ impl Machine {
         ensures name { result.now ≡ state_name_of self.now s.0 }
         ensures sound { IsSound self.now }
     {
-        &self.states[s.0 as usize].name
+        &self.stored.states[s.0 as usize].name
     }
 
     /// The reset state. Takes no memory.
@@ -79,7 +94,7 @@ impl Machine {
         ensures reset { result.0 ≡ self.now.reset }
         ensures sound { IsSound self.now }
     {
-        self.reset
+        self.stored.reset
     }
 
     /// The branches of a state: the leaves of its decision tree, yes before no. Takes no memory.
@@ -88,7 +103,7 @@ impl Machine {
         ensures branches { map branch_of result.now ≡ branches_of (transitions_of self.now s.0) }
         ensures sound { IsSound self.now }
     {
-        self.branches[s.0 as usize].as_slice()
+        self.stored.branches[s.0 as usize].as_slice()
     }
 
     /// Every number of guards and assignments in order of the text, repeats included. Takes no memory.
@@ -96,16 +111,16 @@ impl Machine {
         ensures constants { result.now ≡ numbers_in_states self.now.states }
         ensures sound { IsSound self.now }
     {
-        self.constants.as_slice()
+        self.stored.constants.as_slice()
     }
 
     /// An equal machine. The only refusal is out of memory.
-    pub fn try_clone(&self, alloc: Global) -> Result<Machine, NoMemory>
+    pub fn try_clone(&self, _alloc: Global) -> Result<Machine, NoMemory>
         ensures { IfOk result (λ m. m ≡ self.now) }
     {
-        let vars = copy_variables(alloc, &self.vars)?;
-        let states = copy_states(alloc, &self.states)?;
-        Machine::of(alloc, vars, self.reset, states)
+        Ok(Machine {
+            stored: self.stored.clone()?,
+        })
     }
 
     /// The machine of these variables and states.
@@ -125,12 +140,15 @@ impl Machine {
         see_variable_names(vars.as_slice());
         see_state_names(states.as_slice());
         see_numbers(constants.as_slice());
-        Ok(Machine {
+        let stored = StoredMachine {
             vars,
             reset,
             states,
             branches,
             constants,
+        };
+        Ok(Machine {
+            stored: share(alloc, stored)?,
         })
     }
 }
@@ -142,7 +160,7 @@ fn all_branches(alloc: Global, states: &[State]) -> Result<Vec<Vec<Branch>>, NoM
 {
     let mut out = Vec::new(alloc);
     for state in states {
-        out.push(branches(alloc, state.lines.as_slice())?)?;
+        push_value(&mut out, branches(alloc, state.lines.as_slice())?)?;
     }
     Ok(out)
 }

@@ -10,7 +10,7 @@ ghost use Rattle.fs_rules.specs.Places.{names_stated};
 ghost use Rattle.fs_ast.specs.NumberedParts.{resolved_transition, state_with_line, spelled_state_with_line};
 
 use fs_model::copies::renamed_assignments;
-use fs_model::memory::share;
+use fs_model::memory::{push_value, share};
 use fs_model::name::{Name, NoMemory};
 use fs_model::parts::{Assign, Guard, RawLine, RawState, StateId, VarId};
 use fs_rules::scope::Scope;
@@ -51,20 +51,6 @@ fn condition(
     }
 }
 
-// Assignments over the numbers of variables.
-fn assignments(
-    alloc: Global,
-    scope: &Scope,
-    assigns: &[Assign<Name>],
-) -> Result<Vec<Assign<VarId>>, NoMemory>
-    requires { length scope.now.vars.items ≤ most_variables }
-    ensures { IfOk result
-        (λ out. map assignment_of out.items ≡ map (assignment_over (place_or_end (names_of scope.now.vars.items)))
-        (map named_assignment assigns.now)) }
-{
-    Ok(renamed_assignments(alloc, assigns, scope)?)
-}
-
 // Assignments over the numbers of variables, with one owner.
 fn shared_assignments(
     alloc: Global,
@@ -76,7 +62,7 @@ fn shared_assignments(
         (λ out. map assignment_of out.value.items ≡ map (assignment_over (place_or_end (names_of scope.now.vars.items)))
         (map named_assignment assigns.now)) }
 {
-    share(alloc, assignments(alloc, scope, assigns)?)
+    share(alloc, renamed_assignments(alloc, assigns, scope)?)
 }
 
 // A transition over numbers.
@@ -111,7 +97,7 @@ fn numbered_lines(
 {
     let mut out = Vec::new(alloc);
     for raw in lines {
-        out.push(numbered_line(alloc, scope, raw)?)?;
+        push_value(&mut out, numbered_line(alloc, scope, raw)?)?;
     }
     Ok(out)
 }
@@ -144,7 +130,7 @@ pub fn resolve(alloc: Global, scope: &Scope, states: &[RawState]) -> Result<Vec<
 {
     let mut out = Vec::new(alloc);
     for raw in states {
-        out.push(numbered_state(alloc, scope, raw)?)?;
+        push_value(&mut out, numbered_state(alloc, scope, raw)?)?;
     }
     Ok(out)
 }

@@ -11,6 +11,7 @@ ghost use Rattle.fs_ast.specs.Shapes.{forked_faults, endless_faults, skeleton, L
 use crate::resolve::{State, Transition};
 use crate::trees::count_leaves;
 use fs_model::limits::BRANCH_LIMIT;
+use fs_model::memory::push_value;
 use fs_model::name::NoMemory;
 use fs_rules::check::{CheckFault, CheckRule};
 use fs_rules::faults::Faults;
@@ -71,7 +72,7 @@ fn first_targets(alloc: Global, states: &[State]) -> Result<Vec<usize>, NoMemory
 {
     let mut next = Vec::new(alloc);
     for state in states {
-        next.push(first_transition_target(state.lines.as_slice()))?;
+        push_value(&mut next, first_transition_target(state.lines.as_slice()))?;
     }
     Ok(next)
 }

@@ -64,14 +64,4 @@ impl SharedLiteral {
     {
         Ok(self.negation.clone()?)
     }
-
-    /// One owner more of both. The one refusal is out of memory.
-    pub fn try_clone(&self) -> Result<SharedLiteral, NoMemory>
-        ensures { IfOk result (λ s. s ≡ self.now) }
-    {
-        Ok(SharedLiteral {
-            literal: self.literal.clone()?,
-            negation: self.negation.clone()?,
-        })
-    }
 }

@@ -1,28 +1,28 @@
 //! Decision trees of transitions, and their branches.
 
-ghost use Rattle.std.specs.Prelude.{◌≡◌, ◌++◌, [], map, IfOk};
+ghost use Rattle.std.specs.Prelude.{◌≡◌, ◌++◌, ◌∷◌, [], length, map, take, IfOk};
 ghost use Rattle.std.specs.Result.{OnOk};
 ghost use Rattle.fs_model.specs.View.{shared_literal_of, guard_of, branch_of};
 ghost use Rattle.fs_model.specs.Trees.{Leaf, Node, tree_of_guard, tree_of_condition, tree_of_transitions, leaves, branches_of};
-ghost use Rattle.fs_model.specs.Trees.{count_leaves};
+ghost use Rattle.fs_model.specs.Trees.{count_leaves, negated_literal};
 ghost use Rattle.fs_ast.specs.NumberedParts.{resolved_transition};
 ghost use Rattle.fs_ast.specs.Forks.{tree_of, leaves_by, leaves_by_condition, capped_leaves};
 
 use crate::resolve::Transition;
 use crate::shared_literal::SharedLiteral;
 use fs_model::limits::BRANCH_LIMIT;
-use fs_model::memory::{push_value, put_in_box};
+use fs_model::memory::{push_value, share};
 use fs_model::name::NoMemory;
 use fs_model::parts::{Branch, Guard, Lit, VarId};
 use std::alloc::Global;
 use std::rc::Rc;
 
-// A decision tree over transitions.
+// A decision tree over transitions. Subtrees that are alike have several owners.
 #[derive(Drop)]
 enum DecisionTree<'a> {
     Fail,
     Leaf(&'a Transition),
-    Test(SharedLiteral, Box<DecisionTree<'a>>, Box<DecisionTree<'a>>),
+    Test(SharedLiteral, Rc<DecisionTree<'a>>, Rc<DecisionTree<'a>>),
 }
 
 /// How many leaves the tree of transitions has, or 65 where there are more.
@@ -81,14 +81,14 @@ fn branches_of_tree(alloc: Global, tree: &DecisionTree) -> Result<Vec<Branch>, N
 fn tree_of_lines<'a>(
     alloc: Global,
     lines: &'a [Transition],
-) -> Result<Box<DecisionTree<'a>>, NoMemory>
+) -> Result<Rc<DecisionTree<'a>>, NoMemory>
     ensures { IfOk result (λ tree. tree_of tree.value ≡ tree_of_transitions (map resolved_transition lines.now)) }
 {
     match lines {
-        [] => put_in_box(alloc, DecisionTree::Fail),
+        [] => share(alloc, DecisionTree::Fail),
         [first, rest @ ..] => {
             let on_no = tree_of_lines(alloc, rest)?;
-            tree_of_line(alloc, first, on_no)
+            tree_of_line(alloc, first, &on_no)
         }
     }
 }
@@ -97,83 +97,76 @@ fn tree_of_lines<'a>(
 fn tree_of_line<'a>(
     alloc: Global,
     line: &'a Transition,
-    on_no: Box<DecisionTree<'a>>,
-) -> Result<Box<DecisionTree<'a>>, NoMemory>
+    on_no: &Rc<DecisionTree<'a>>,
+) -> Result<Rc<DecisionTree<'a>>, NoMemory>
     ensures { IfOk result
         (λ tree. tree_of tree.value ≡ tree_of_condition (resolved_transition line.now).guard
-        (Leaf (resolved_transition line.now).assignments (resolved_transition line.now).target) (tree_of on_no.entry.value)) }
+        (Leaf (resolved_transition line.now).assignments (resolved_transition line.now).target) (tree_of on_no.now.value)) }
 {
-    let on_yes = put_in_box(alloc, DecisionTree::Leaf(line))?;
+    let on_yes = share(alloc, DecisionTree::Leaf(line))?;
     match &line.guard {
         None => Ok(on_yes),
-        Some(guard) => tree_of_guard(alloc, guard, on_yes, on_no),
+        Some(guard) => tree_of_guard(alloc, guard, &on_yes, on_no),
     }
 }
 
-// The tree of a test over two subtrees.
-fn make_test<'a>(
+// The tree of a literal over two subtrees.
+fn tree_of_literal<'a>(
     alloc: Global,
     literal: SharedLiteral,
-    on_yes: Box<DecisionTree<'a>>,
-    on_no: Box<DecisionTree<'a>>,
-) -> Result<Box<DecisionTree<'a>>, NoMemory>
-    ensures { IfOk result (λ tree. tree_of tree.value ≡ Node literal (tree_of on_yes.entry.value) (tree_of on_no.entry.value)) }
+    on_yes: &Rc<DecisionTree<'a>>,
+    on_no: &Rc<DecisionTree<'a>>,
+) -> Result<Rc<DecisionTree<'a>>, NoMemory>
+    ensures { IfOk result (λ tree. tree_of tree.value ≡ Node literal (tree_of on_yes.now.value) (tree_of on_no.now.value)) }
 {
-    put_in_box(alloc, DecisionTree::Test(literal, on_yes, on_no))
+    let on_yes = on_yes.clone()?;
+    share(alloc, DecisionTree::Test(literal, on_yes, on_no.clone()?))
 }
 
-// The tree of a test that has one owner more, over two subtrees.
-fn copy_test<'a>(
-    alloc: Global,
-    literal: &SharedLiteral,
-    on_yes: Box<DecisionTree<'a>>,
-    on_no: Box<DecisionTree<'a>>,
-) -> Result<Box<DecisionTree<'a>>, NoMemory>
-    ensures { IfOk result
-        (λ tree. tree_of tree.value ≡ Node literal.now (tree_of on_yes.entry.value) (tree_of on_no.entry.value)) }
-{
-    make_test(alloc, literal.try_clone()?, on_yes, on_no)
-}
-
-// The tree of a guard over two subtrees. It takes them, and copies only what then stands in it twice: so its work is no more
-// than its size.
+// The tree of a guard over two subtrees, which may stand in it twice: each of them has then one owner more.
 fn tree_of_guard<'a>(
     alloc: Global,
-    guard: &'a Guard<VarId>,
-    on_yes: Box<DecisionTree<'a>>,
-    on_no: Box<DecisionTree<'a>>,
-) -> Result<Box<DecisionTree<'a>>, NoMemory>
+    guard: &Guard<VarId>,
+    on_yes: &Rc<DecisionTree<'a>>,
+    on_no: &Rc<DecisionTree<'a>>,
+) -> Result<Rc<DecisionTree<'a>>, NoMemory>
     ensures { IfOk result
         (λ tree. tree_of tree.value
-        ≡ tree_of_guard (guard_of guard.now) (tree_of on_yes.entry.value) (tree_of on_no.entry.value)) }
+        ≡ tree_of_guard (guard_of guard.now) (tree_of on_yes.now.value) (tree_of on_no.now.value)) }
 {
     match guard {
-        Guard::Lit(lit) => make_test(alloc, SharedLiteral::of(alloc, lit)?, on_yes, on_no),
+        Guard::Lit(lit) => tree_of_literal(alloc, SharedLiteral::of(alloc, lit)?, on_yes, on_no),
         Guard::Not(a) => tree_of_guard(alloc, a, on_no, on_yes),
         Guard::And(a, b) => {
-            let again = copy_tree(alloc, &on_no)?;
-            let inner = tree_of_guard(alloc, b, on_yes, again)?;
-            tree_of_guard(alloc, a, inner, on_no)
+            let inner = tree_of_guard(alloc, b, on_yes, on_no)?;
+            tree_of_guard(alloc, a, &inner, on_no)
         }
         Guard::Or(a, b) => {
-            let again = copy_tree(alloc, &on_yes)?;
-            let inner = tree_of_guard(alloc, b, again, on_no)?;
-            tree_of_guard(alloc, a, on_yes, inner)
+            let inner = tree_of_guard(alloc, b, on_yes, on_no)?;
+            tree_of_guard(alloc, a, on_yes, &inner)
         }
     }
 }
 
-fn copy_tree<'a>(alloc: Global, tree: &DecisionTree<'a>) -> Result<Box<DecisionTree<'a>>, NoMemory>
-    ensures { IfOk result (λ copy. tree_of copy.value ≡ tree_of tree.now) }
+// Adds a literal to a way.
+#[tactic(auto, using(crate::proofs::Ways::front_stays))]
+fn add_literal(literal: &SharedLiteral, way: &mut Vec<Rc<Lit<VarId>>>) -> Result<(), NoMemory>
+    ensures way { OnOk result
+        (map shared_literal_of way.new.items ≡ map shared_literal_of way.old.items ++ literal.now ∷ []) }
+    ensures before { OnOk result (take (length way.old.items) way.new.items ≡ way.old.items) }
 {
-    match tree {
-        DecisionTree::Fail => put_in_box(alloc, DecisionTree::Fail),
-        DecisionTree::Leaf(line) => put_in_box(alloc, DecisionTree::Leaf(*line)),
-        DecisionTree::Test(literal, on_yes, on_no) => {
-            let on_yes = copy_tree(alloc, on_yes)?;
-            copy_test(alloc, literal, on_yes, copy_tree(alloc, on_no)?)
-        }
-    }
+    push_value(way, literal.literal()?)
+}
+
+// Adds the negation of a literal to a way.
+#[tactic(auto, using(crate::proofs::Ways::front_stays))]
+fn add_negation(literal: &SharedLiteral, way: &mut Vec<Rc<Lit<VarId>>>) -> Result<(), NoMemory>
+    ensures way { OnOk result
+        (map shared_literal_of way.new.items
+        ≡ map shared_literal_of way.old.items ++ negated_literal literal.now ∷ []) }
+    ensures before { OnOk result (take (length way.old.items) way.new.items ≡ way.old.items) }
+{
+    push_value(way, literal.negation()?)
 }
 
 // Adds the branches below a way. The way is as before.
@@ -192,12 +185,13 @@ fn walk(
         DecisionTree::Fail => Ok(()),
         DecisionTree::Leaf(line) => { add_branch(alloc, way.as_slice(), line, out) }
         DecisionTree::Test(literal, on_yes, on_no) => {
-            push_value(way, literal.literal()?)?;
+            let before = way.len();
+            add_literal(literal, way)?;
             walk(alloc, on_yes, way, out)?;
-            let _ = way.pop();
-            push_value(way, literal.negation()?)?;
+            way.truncate(before);
+            add_negation(literal, way)?;
             walk(alloc, on_no, way, out)?;
-            let _ = way.pop();
+            way.truncate(before);
             Ok(())
         }
     }
