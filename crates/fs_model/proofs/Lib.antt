@@ -1,4 +1,5 @@
 pub mod Determined
+pub mod Filled
 pub mod Behaviour
 pub mod Leaves
 pub mod Renamed

@@ -7,7 +7,7 @@
 //! one is asked for; limits; out of memory by `?`.
 //!
 //! Rules: `specs/Machines`, `specs/Runs`, `specs/Trees`, `specs/WellFormed`, `specs/Limits`, `src/laws`,
-//! `src/assignment_copies`, `src/state_copies`.
+//! `src/assignment_copies`.
 //!
 //! Words:
 //! - assignment: a scalar gets a number, an array is written at an index, or a number is emitted to a port
@@ -48,5 +48,4 @@ pub mod memory;
 pub mod name;
 pub mod parts;
 pub mod sides;
-pub mod state_copies;
 pub mod well_formed;

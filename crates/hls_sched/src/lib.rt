@@ -8,6 +8,7 @@
 #![tactic(auto)]
 
 pub mod arrivals;
+pub mod copies;
 pub mod lines;
 mod moves;
 mod parts;

@@ -9,13 +9,12 @@ ghost use Rattle.hls_line_schedules.specs.SourceRows.{first_assignments, first_r
 ghost use Rattle.hls_line_schedules.specs.Sources.{state_with_row, states_by, source_by_rows};
 ghost use Rattle.hls_sched.specs.RowMoves.{joined_items, done_by, move_of, IsMoveAmong};
 
+use crate::copies::{add_assignments, copied_declarations, copied_state};
 use crate::lines::is_straight;
 use crate::moves::Move;
 use fs_ast::machine::Machine;
-use fs_model::assignment_copies::add_assignments;
 use fs_model::name::{Name, NoMemory};
 use fs_model::parts::{Assign, Parts, RawLine, RawState, StateId};
-use fs_model::state_copies::{copied_declarations, copied_state};
 use std::alloc::Global;
 
 // The move of a state, where there is one.

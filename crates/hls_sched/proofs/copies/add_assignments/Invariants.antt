@@ -1,7 +1,7 @@
 use Rattle.std.proofs.Common.{◌≡◌, ◌++◌, take}
 use Rattle.std.specs.Prelude.{map}
 use Rattle.fs_model.specs.View.{named_assignment}
-use Rattle.fs_model.proofs.assignment_copies.add_assignments.Given as goal
+use Rattle.hls_sched.proofs.copies.add_assignments.Given as goal
 
 abbrev pub invariant-loop-assign : goal.invariant-loop-assign
 invariant-loop-assign l = map named_assignment l.out.items ≡ map named_assignment l.initial.out.items ++ map named_assignment (take l.assign-index l.assigns)
