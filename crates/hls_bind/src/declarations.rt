@@ -10,6 +10,7 @@ ghost use Rattle.hls_bind.specs.BindingEntries.{binding_entry};
 
 use crate::binding::BoundLocal;
 use crate::renaming::{Registers, place, register_at};
+use fs_model::memory::push_value;
 use fs_model::name::{Name, NoMemory};
 use fs_model::parts::{Decl, Role, Sort};
 use std::alloc::Global;
@@ -30,7 +31,7 @@ fn names_left(alloc: Global, registers: &Registers, names: &[Name]) -> Result<Ve
     let mut out = Vec::new(alloc);
     for name in names {
         if stays(registers, name) {
-            out.push(name.try_clone(alloc)?)?;
+            push_value(&mut out, name.try_clone(alloc)?)?;
         }
     }
     Ok(out)
@@ -65,7 +66,7 @@ pub fn remaining(
     for decl in decls {
         let left = without(alloc, registers, decl)?;
         if left.names.len() != 0 {
-            out.push(left)?;
+            push_value(&mut out, left)?;
         }
     }
     Ok(out)
@@ -77,7 +78,7 @@ fn all_registers(alloc: Global, entries: &[BoundLocal]) -> Result<Vec<Name>, NoM
 {
     let mut out = Vec::new(alloc);
     for entry in entries {
-        out.push(entry.register.try_clone(alloc)?)?;
+        push_value(&mut out, entry.register.try_clone(alloc)?)?;
     }
     Ok(out)
 }

@@ -5,7 +5,6 @@ ghost use Rattle.hls_bind.specs.declared.faults.BindError.TheVariants as errors;
 
 use fs_model::name::NoMemory;
 use std::alloc::AllocError;
-use thiserror::Error;
 
 /// What is wrong at a name of a file.
 #[derive(Clone, Copy)]
@@ -21,25 +20,19 @@ pub enum Fault {
 }
 
 /// Why a file of a binding is refused.
-#[derive(Debug, Drop, Error)]
+#[derive(Drop)]
 pub enum BindError {
     /// The bytes are not text, or not JSON.
-    #[error("the binding is not JSON")]
     NotJson,
     /// The value of a name is no string. No local has the empty name: it stands here where the file is no object.
-    #[error("the value of `{name}` is no string")]
     Shape { name: String },
     /// No scalar local has the name.
-    #[error("`{name}` is no scalar local")]
     UnknownName { name: String },
     /// The value of a name is a string that is no name of a machine text, or longer than 32 bytes.
-    #[error("the register of `{name}` has a wrong name")]
     BadName { name: String },
     /// The value of a name is the name of a variable of the machine.
-    #[error("the register of `{name}` has the name of a variable")]
     Taken { name: String },
     /// There is no memory.
-    #[error("there is no memory")]
     NoMemory,
 }
 

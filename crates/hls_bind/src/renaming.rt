@@ -9,6 +9,7 @@ ghost use Rattle.hls_bind.specs.BindingEntries.{binding_entry, name_for};
 
 use crate::binding::BoundLocal;
 use fs_model::copies::{Rename, renamed_assignments};
+use fs_model::memory::push_value;
 use fs_model::name::{Name, NoMemory};
 use fs_model::parts::{Assign, Guard, RawLine, RawState, VarInfo};
 use std::alloc::Global;
@@ -112,7 +113,7 @@ fn renamed_lines(
 {
     let mut out = Vec::new(alloc);
     for line in lines {
-        out.push(renamed_line(alloc, registers, line)?)?;
+        push_value(&mut out, renamed_line(alloc, registers, line)?)?;
     }
     Ok(out)
 }
@@ -144,7 +145,7 @@ pub fn renamed_states(
 {
     let mut out = Vec::new(alloc);
     for state in states {
-        out.push(renamed_state(alloc, registers, state)?)?;
+        push_value(&mut out, renamed_state(alloc, registers, state)?)?;
     }
     Ok(out)
 }
