@@ -21,6 +21,7 @@ use crate::assignments::assignment;
 use crate::expressions::guard;
 use fs_grammar::fault::{ReadError, TextFault, TextKind};
 use fs_grammar::token::{Token, TokenKind, accept, front, line_of, refuse};
+use fs_model::memory::push_value;
 use fs_model::name::Name;
 use fs_model::parts::{Assign, Guard};
 use hls_program_parts::program::Stmt;
@@ -202,7 +203,7 @@ fn statements(
     let mut rest = tokens;
     'each: while !ends_block(rest) {
         let (one, after) = statement(alloc, depth, rest)?;
-        all.push(one)?;
+        push_value(&mut all, one)?;
         rest = after;
     }
     let rest = close_brace(rest)?;

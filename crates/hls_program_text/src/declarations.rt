@@ -12,6 +12,7 @@ ghost use Rattle.hls_program_text.specs.Fronts.{role_at};
 
 use fs_grammar::fault::ReadError;
 use fs_grammar::token::{Token, TokenKind, accept, front, line_of};
+use fs_model::memory::push_value;
 use fs_model::name::Name;
 use fs_model::parts::{Decl, Role, Sort};
 use std::alloc::Global;
@@ -89,7 +90,7 @@ pub fn declarations(alloc: Global, tokens: &[Token]) -> Result<(Vec<Decl>, &[Tok
     let mut rest = tokens;
     'each: while let Some(role) = role(rest) {
         let (one, after) = declaration(alloc, role, rest)?;
-        all.push(one)?;
+        push_value(&mut all, one)?;
         rest = after;
     }
     Ok((all, rest))

@@ -11,7 +11,7 @@ use fs_rules::check::CheckFault;
 pub use fs_grammar::fault::{TextFault as LangFault, TextKind as LangKind};
 
 /// Why a program is refused.
-#[derive(Clone, Copy, Debug)]
+#[derive(Clone, Copy)]
 pub enum LangError {
     /// The bytes spell no program: they are faulty here.
     Text(LangFault),

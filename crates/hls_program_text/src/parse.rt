@@ -1,16 +1,18 @@
 //! A program, from its tokens.
 
-ghost use Rattle.std.specs.Prelude.{◌<◌, []};
+ghost use Rattle.std.specs.Prelude.{◌≡◌, ◌<◌, List, None, []};
+ghost use Rattle.fs_model.specs.Source.{Declaration};
 ghost use Rattle.fs_grammar.specs.Tokens.{Gives, ParsesOn};
 ghost use Rattle.hls_program_laws.specs.Programs as plain;
-ghost use Rattle.hls_program_parts.specs.View.{program_of};
+ghost use Rattle.hls_program_parts.specs.View.{block_of, program_of};
 ghost use Rattle.hls_program_grammar.specs.ProgramGrammar.{program_reading, at_prog, after_prog, at_declaration, at_end};
+ghost use Rattle.hls_program_text.specs.Fronts.{role_at};
 
 use crate::blocks::block;
 use crate::declarations::declarations;
 use fs_grammar::fault::ReadError;
 use fs_grammar::token::{Token, TokenKind, accept, front, refuse};
-use hls_program_parts::program::Program;
+use hls_program_parts::program::{Program, Stmt};
 use std::alloc::Global;
 
 // The word `prog`.
@@ -43,15 +45,33 @@ fn end(tokens: &[Token]) -> Result<(), ReadError>
     }
 }
 
+// The head of a program.
+fn head(tokens: &[Token]) -> Result<&[Token], ReadError>
+    ensures { ParsesOn result (program_reading tokens.now at_prog) (λ r. program_reading r.now (at_declaration [])) }
+{
+    let rest = first_word(tokens)?;
+    head_end(rest)
+}
+
+// The outermost block, which ends the program.
+fn body(alloc: Global, tokens: &[Token]) -> Result<Vec<Stmt>, ReadError>
+    requires { role_at tokens.now ≡ None }
+    ensures { (ds : List Declaration)
+        → Gives (λ b. record { declarations = ds; body = block_of b.items }) result
+        (program_reading tokens.now (at_declaration ds)) }
+{
+    let (body, rest) = block(alloc, 0, tokens)?;
+    end(rest)?;
+    Ok(body)
+}
+
 /// The program that the tokens spell. `Text` is the fault at the first token that can follow in no program, is past the
 /// limit, or opens a block too deep in others; `NoMemory`: out of memory.
 pub fn parse(alloc: Global, tokens: &[Token]) -> Result<Program, ReadError>
     ensures { Gives program_of result (program_reading tokens.now at_prog) }
 {
-    let rest = first_word(tokens)?;
-    let rest = head_end(rest)?;
+    let rest = head(tokens)?;
     let (decls, rest) = declarations(alloc, rest)?;
-    let (body, rest) = block(alloc, 0, rest)?;
-    end(rest)?;
+    let body = body(alloc, rest)?;
     Ok(Program { decls, body })
 }
