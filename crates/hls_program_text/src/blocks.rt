@@ -250,9 +250,27 @@ fn choice(alloc: Global, depth: u32, tokens: &[Token]) -> Result<(Stmt, &[Token]
 {
     let line = line_of(tokens);
     let (guard, rest) = if_guard(alloc, tokens)?;
-    let (yes, rest) = block(alloc, depth + 1, rest)?;
-    let (no, rest) = otherwise(alloc, depth, rest)?;
+    let (yes, no, rest) = both_blocks(alloc, depth, rest)?;
     Ok((chosen(line, guard, yes, no), rest))
+}
+
+// The two blocks of a choice, behind its guard.
+#[cycle(blocks)]
+fn both_blocks(
+    alloc: Global,
+    depth: u32,
+    tokens: &[Token],
+) -> Result<(Vec<Stmt>, Vec<Stmt>, &[Token]), ReadError>
+    requires { depth ≤ most_depth }
+    ensures goes { (o : Open) (b : Named) (n : ℕ) (g : terms.Guard (List ℕ)) → depth_of o ≡ depth
+        → ParsesOn result (program_reading tokens.now (after (for_if o b n) (whole_guard g)))
+        (λ x. program_reading x.2.now
+        (at_statement o (join_blocks b (If n g (block_of x.0.items) (block_of x.1.items) End)))) }
+    ensures shorter { IfOk result (λ x. length x.2.now < length tokens.now) }
+{
+    let (yes, rest) = block(alloc, depth + 1, tokens)?;
+    let (no, rest) = otherwise(alloc, depth, rest)?;
+    Ok((yes, no, rest))
 }
 
 // The second block of a choice: the one behind `else`, or none.

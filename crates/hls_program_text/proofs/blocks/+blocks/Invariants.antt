@@ -15,6 +15,9 @@ decreases-statement l = 4 * length l.tokens.now + 2
 abbrev pub decreases-choice : goal.decreases-choice
 decreases-choice l = 4 * length l.tokens.now + 1
 
+abbrev pub decreases-both_blocks : goal.decreases-both_blocks
+decreases-both_blocks l = 4 * length l.tokens.now + 1
+
 abbrev pub decreases-repetition : goal.decreases-repetition
 decreases-repetition l = 4 * length l.tokens.now + 1
 
