@@ -12,7 +12,7 @@ use Rattle.sym_facts.specs.Facts.{FactPosition, Fact, may_be_kept}
 use Rattle.sym_facts.specs.FactParts.{IsKept}
 use Rattle.propagate.specs.declared.rebases.Marked.{Marked}
 use Rattle.propagate.specs.Rebases.{RebaseState, rebase}
-use Rattle.propagate.specs.RebaseSteps.{first_pass_from, second_from, third_from, conditions_kept, rebased_by}
+use Rattle.propagate.specs.RebaseSteps.{first_pass_from, second_from, third_from, conditions_kept, rebased_by, LeadsToRebase}
 use Rattle.propagate.proofs.RebaseTurns.{rebase_in_turn}
 use Rattle.propagate.proofs.Paired.{rebase_paired}
 use Rattle.propagate.proofs.Solved.{rebase_solved}
@@ -43,7 +43,7 @@ module _ (post : Post) (ps : List Position) where
   AfterFirst xs ms = after (second_of xs ms) (λ h. with_positions h) ≡ rebase post ps
 
   abbrev pub AfterSecond : List Marked → List (Pos × Nf) → Type 0
-  AfterSecond xs ms = after (third_of xs ms) (λ qs. with_literals ms qs) ≡ rebase post ps
+  AfterSecond xs ms = LeadsToRebase post ps xs ms
 
   abbrev pub AfterThird : List FactPosition → List (Pos × Nf) → List NormalLiteral → Type 0
   AfterThird qs ms ls = after (conditions_kept ms ls) (λ ks. made qs ks) ≡ rebase post ps

@@ -1,5 +1,5 @@
 -- A rebase as it is made, one position after the other.
-use Rattle.std.specs.Prelude.{Bool, true, false, is_some, List, [], ◌∷◌, ◌++◌, Option, Some, None}
+use Rattle.std.specs.Prelude.{◌≡◌, map, Bool, true, false, is_some, List, [], ◌∷◌, ◌++◌, Option, Some, None}
 use Rattle.fs_model.specs.declared.parts.Sort.{Sort}
 use Rattle.fs_pair.specs.declared.positions.Position.{Position}
 use Rattle.nf_terms.specs.Computed.{Computed, Done, after}
@@ -10,7 +10,8 @@ use Rattle.nf_substitution.specs.Vectors.{with_form}
 use Rattle.sym_paths.specs.Execution.{Post}
 use Rattle.sym_facts.specs.Facts.{FactPosition, Fact, own_symbol}
 use Rattle.propagate.specs.Rebases.{value_at, RebaseState, with_mark, symbol_found, Solution}
-use Rattle.propagate.specs.Rebases.{second_pass_solution}
+use Rattle.propagate.specs.declared.rebases.Marked.{Marked}
+use Rattle.propagate.specs.Rebases.{second_pass_solution, rebase}
 use Rattle.propagate.specs.Rebases.{equation_found, freed_with, with_equation}
 pub use Rattle.propagate_equations.specs.EquationSteps.{conditions_kept}
 
@@ -68,3 +69,10 @@ rebased_by post ps first =
     after (second_from post.vector ps first.free first.meanings)
     (λ h. after (third_from post.vector h.meanings ps h.free [])
     (λ qs. after (conditions_kept h.meanings post.conditions) (λ ls. Done (record { positions = qs; literals = ls }))))
+
+-- what these meanings lead to for positions that are marked so is the rebase
+abbrev pub LeadsToRebase : Post → List Position → List Marked → List (Pos × Nf) → Type 0
+LeadsToRebase post ps xs ms =
+    after (third_from post.vector ms (map (λ m. m.position) xs) (map (λ m. m.is_free) xs) [])
+    (λ qs. after (conditions_kept ms post.conditions) (λ ls. Done (record { positions = qs; literals = ls })))
+    ≡ rebase post ps

@@ -125,6 +125,21 @@ fn positions_joined(
     Ok(out)
 }
 
+// The same, by a substitution of its own.
+fn all_joined(
+    alloc: Global,
+    v: &Vector,
+    missing: &[u32],
+    positions: &[FactPosition],
+) -> Result<Vec<FactPosition>, NfStop>
+    requires { length positions.now ≤ most_sorted_positions }
+    ensures { Answers (answer_in_data (λ out. map position_in out.items) result)
+        (joined_from v.now 0 missing.now [] (map position_in positions.now)) }
+{
+    let mut s = Subst::new(alloc, v);
+    positions_joined(alloc, &mut s, v, missing, positions)
+}
+
 // The literals that are not at a missing index.
 fn literals_kept(alloc: Global, missing: &[u32], literals: &[NLit]) -> Result<Vec<NLit>, NoMemory>
     requires { length literals.now < 2 ^ 32 }
@@ -162,10 +177,8 @@ pub fn join(
 {
     p.holds();
     old.holds();
-    let mut s = Subst::new(alloc, &post.vector);
-    let positions = positions_joined(
+    let positions = all_joined(
         alloc,
-        &mut s,
         &post.vector,
         miss.equations.as_slice(),
         old.positions(),

@@ -7,7 +7,7 @@ ghost use Rattle.sym_facts.specs.View.{position_in};
 ghost use Rattle.propagate.specs.Rebases.{symbol_found, equation_found, rebase as rebased};
 ghost use Rattle.propagate.specs.RebaseSteps.{with_found, first_pass_from, second_turn, second_from, equation_given};
 ghost use Rattle.propagate.specs.RebaseSteps.{freed_by_rebase};
-ghost use Rattle.propagate.specs.RebaseSteps.{third_from};
+ghost use Rattle.propagate.specs.RebaseSteps.{third_from, LeadsToRebase};
 
 use fs_pair::positions::{Pairing, Position};
 use nf_substitution::shared_form::SharedForm;
@@ -216,6 +216,55 @@ fn third_pass(
     Ok(out)
 }
 
+// The fact over the meanings that two passes have given to symbols, by a substitution of these.
+fn fact_by(
+    alloc: Global,
+    s: &mut Subst<'_>,
+    post: &Post,
+    p: &Pairing,
+    meanings: &Vector,
+    positions: &[Marked],
+) -> Result<Fact, NfStop>
+    requires vector { s.old.vector ≡ meanings.now }
+    requires leads { LeadsToRebase (post_in post.now) p.now positions.now meanings.now }
+    ensures { Answers result (rebased (post_in post.now) p.now) }
+{
+    p.holds();
+    let positions = third_pass(alloc, s, &post.vector, meanings, positions)?;
+    let conds = conditions_kept(alloc, s, meanings, post.conds.as_slice())?;
+    Ok(Fact::of(positions, conds))
+}
+
+// The fact over the meanings that two passes have given to symbols.
+fn fact_over(
+    alloc: Global,
+    post: &Post,
+    p: &Pairing,
+    meanings: &Vector,
+    positions: &[Marked],
+) -> Result<Fact, NfStop>
+    requires { LeadsToRebase (post_in post.now) p.now positions.now meanings.now }
+    ensures { Answers result (rebased (post_in post.now) p.now) }
+{
+    let mut s = Subst::new(alloc, meanings);
+    fact_by(alloc, &mut s, post, p, meanings, positions)
+}
+
+// The fact that a post carries on, from no meanings yet.
+fn rebase_from(
+    alloc: Global,
+    post: &Post,
+    p: &Pairing,
+    meanings: &mut Vector,
+) -> Result<Fact, NfStop>
+    requires { meanings.old ≡ [] }
+    ensures { Answers result (rebased (post_in post.now) p.now) }
+{
+    let first = first_pass(alloc, &post.vector, meanings, p.positions())?;
+    let second = second_pass(alloc, &post.vector, meanings, first.as_slice())?;
+    fact_over(alloc, post, p, meanings, second.as_slice())
+}
+
 /// The fact whose symbols are the values where a post leads. In each pass the positions are taken in order. First a position
 /// whose value is a symbol that no position holds yet holds it and is free. Then a number that is such a symbol, or its negation,
 /// and symbols that are held, holds that symbol. Each other position gets its value over the held symbols as its equation, or
@@ -227,12 +276,6 @@ fn third_pass(
 pub fn rebase(alloc: Global, post: &Post, p: &Pairing) -> Result<Fact, NfStop>
     ensures { Answers result (rebased (post_in post.now) p.now) }
 {
-    p.holds();
     let mut meanings = Vector::new(alloc);
-    let first = first_pass(alloc, &post.vector, &mut meanings, p.positions())?;
-    let second = second_pass(alloc, &post.vector, &mut meanings, first.as_slice())?;
-    let mut s = Subst::new(alloc, &meanings);
-    let positions = third_pass(alloc, &mut s, &post.vector, &meanings, second.as_slice())?;
-    let conds = conditions_kept(alloc, &mut s, &meanings, post.conds.as_slice())?;
-    Ok(Fact::of(positions, conds))
+    rebase_from(alloc, post, p, &mut meanings)
 }
