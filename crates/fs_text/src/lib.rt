@@ -16,10 +16,13 @@ ghost use Rattle.fs_text_laws.specs.Limit.{SpellWithin, StopWithin};
 ghost use Rattle.fs_text_laws.specs.MachineTexts.{TextSpells, TextStops};
 ghost use Rattle.fs_text.specs.SourceOfText.{source_spelled, IfText};
 
+mod parse;
+mod states;
+
+use crate::parse::parse;
 use fs_grammar::fault::ReadError;
 use fs_lex::tokens;
 use fs_model::parts::Parts;
-use fs_text_parser::parse;
 use std::alloc::Global;
 
 /// The parts that the bytes spell, which are well formed; at most 1,048,576 bytes are read. `Text` comes

@@ -7,18 +7,19 @@ ghost use Rattle.fs_grammar.specs.declared.format.Format as formats;
 ghost use Rattle.fs_grammar.specs.Tokens.{Gives, ParsesOn};
 ghost use Rattle.fs_grammar.specs.Grammar.{with_states, reading, at_state, at_state_name, at_transition};
 
-use crate::transitions::transitions;
-use crate::words::colon;
 use fs_grammar::fault::ReadError;
 use fs_grammar::format::Format;
 use fs_grammar::token::{Token, TokenKind, accept, front, line_of, refuse};
+use fs_model::memory::push_value;
 use fs_model::name::Name;
 use fs_model::parts::RawState;
 use fs_phrase_text::declarations::name;
+use fs_text_parser::transitions::transitions;
+use fs_text_parser::words::colon;
 use std::alloc::Global;
 
 // The rest of the header of a state, after the word `state`.
-#[tactic(auto, using(crate::proofs::Steps::name_state))]
+#[tactic(auto, using(fs_text_parser::proofs::Steps::name_state))]
 fn state_name(alloc: Global, tokens: &[Token]) -> Result<(Name, &[Token]), ReadError>
     ensures goes { (f : formats.Format) (s : Source) (n : ℕ)
         → ParsesOn result (reading tokens.now (at_state_name f s n))
@@ -32,7 +33,7 @@ fn state_name(alloc: Global, tokens: &[Token]) -> Result<(Name, &[Token]), ReadE
 }
 
 // The rest of a state, after the word `state`.
-#[tactic(auto, using(crate::proofs::Steps::transitions_end))]
+#[tactic(auto, using(fs_text_parser::proofs::Steps::transitions_end))]
 fn state(
     alloc: Global,
     format: Format,
@@ -61,7 +62,7 @@ pub fn states(alloc: Global, format: Format, tokens: &[Token]) -> Result<Vec<Raw
             Some(TokenKind::State) => {
                 let after = accept(rest)?;
                 let (one, after) = state(alloc, format, line, after)?;
-                all.push(one)?;
+                push_value(&mut all, one)?;
                 rest = after;
             }
             Some(TokenKind::End) => return Ok(all),
