@@ -23,8 +23,8 @@ use fs_cut::cover::{Path, Point};
 use nf_refutation::refutation::is_refuted;
 use nf_terms::stop::{NfStop, NoMemory};
 use std::alloc::Global;
-use sym_facts::arrival::arrive;
-use sym_facts::entailment::entails;
+use sym_entailment::arrival::arrive;
+use sym_entailment::entailment::entails;
 use sym_paths::execution::Post;
 
 // The first that is missing, and then whether the rank falls.

@@ -29,7 +29,7 @@ use nf_terms::stop::{NfStop, NoMemory};
 use nf_terms::tree::Side;
 use search_tables::nodes::TableNode;
 use std::alloc::Global;
-use sym_facts::arrival::arrive;
+use sym_entailment::arrival::arrive;
 use sym_paths::execution::Post;
 
 // Whether a side moves alone in a mode.

@@ -11,8 +11,8 @@ use search_strengthening_tables::state::{State, add, change_fact};
 use search_strengthening_terms::stop::{Stop, within_limits};
 use search_strengthening_terms::work::Work;
 use std::alloc::Global;
-use sym_facts::arrival::arrive;
-use sym_facts::entailment::entails;
+use sym_entailment::arrival::arrive;
+use sym_entailment::entailment::entails;
 use sym_paths::execution::Post;
 
 // The units of work of a state on a path.

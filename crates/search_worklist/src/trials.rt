@@ -29,8 +29,9 @@ use search_places::nodes::{find, node_at};
 use search_tables::moves::Move;
 use search_tables::outcome::Budget;
 use std::alloc::Global;
-use sym_facts::arrival::arrive;
-use sym_facts::entailment::{Entail, entails};
+use sym_entailment::arrival::arrive;
+use sym_entailment::entailment::entails;
+use sym_facts::entailment::Entail;
 use sym_facts::fact::Fact;
 use sym_paths::execution::Post;
 

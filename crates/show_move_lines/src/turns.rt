@@ -22,8 +22,8 @@ use propagate::rebases::rebase;
 use search_tables::moves::Move;
 use search_tables::nodes::TableNode;
 use std::alloc::Global;
-use sym_facts::arrival::arrive;
-use sym_facts::entailment::entails;
+use sym_entailment::arrival::arrive;
+use sym_entailment::entailment::entails;
 use sym_paths::execution::Post;
 
 // What a post does that arrives where no node stands.

@@ -74,7 +74,7 @@ impl Model for Fact {
 }
 
 /// Why parts make no fact.
-#[derive(Clone, Copy, Debug)]
+#[derive(Clone, Copy)]
 pub enum FactError {
     /// A position that has a normal form is mentioned in one or in a literal: the place of the first such.
     NotSolved { place: u32 },

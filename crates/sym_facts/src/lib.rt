@@ -1,7 +1,7 @@
-//! Facts on the stores of two machines, what arrives by paths, and what of a fact it entails.
+//! Facts on the stores of two machines, substitution in their terms, and what it is that a post entails one.
 //!
-//! Promises: facts, what arrives by paths, what a post entails; the start fact holds of all start stores; what arrives
-//! is of the pairing.
+//! Promises: facts, substitution in forms and literals; the start fact holds of all start stores; what a post entails holds
+//! where it leads; what arrives is of the pairing.
 //!
 //! Rules: `specs/Facts`, `specs/Entailment`, `specs/Pairings`, `src/laws`.
 //!
@@ -12,7 +12,6 @@
 //! - solved: no position with an equation is mentioned
 #![tactic(auto)]
 
-pub mod arrival;
 pub mod entailment;
 pub mod fact;
 pub mod laws;

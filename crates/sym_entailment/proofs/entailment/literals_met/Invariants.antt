@@ -4,7 +4,7 @@ use Rattle.sym_paths.specs.View.{post_in}
 use Rattle.sym_paths.specs.Sequences.{each}
 use Rattle.sym_paths.proofs.Loops.{followed}
 use Rattle.sym_facts.specs.Entailment.{literal_met}
-use Rattle.sym_facts.proofs.entailment.literals_met.Given as goal
+use Rattle.sym_entailment.proofs.entailment.literals_met.Given as goal
 
 abbrev pub invariant-loop-literal : goal.invariant-loop-literal
 invariant-loop-literal l = record {

@@ -3,7 +3,7 @@ use Rattle.sym_paths.specs.Sequences.{each}
 use Rattle.sym_paths.proofs.Loops.{followed}
 use Rattle.sym_facts.specs.Entailment.{equation_met}
 use Rattle.sym_facts.specs.View.{position_in}
-use Rattle.sym_facts.proofs.entailment.equations_met.Given as goal
+use Rattle.sym_entailment.proofs.entailment.equations_met.Given as goal
 
 abbrev pub invariant-loop-position : goal.invariant-loop-position
 invariant-loop-position l = record {
