@@ -1,45 +1,38 @@
 -- What a file is read against, by the tables of names.
-use Rattle.std.proofs.Common.{◌≡◌, ℕ, ◌≤◌, List, [], ◌∷◌, length, Err, refl, ap, sym, subst, ◌∙◌}
-use Rattle.std.specs.Prelude.{Result}
+use Rattle.std.proofs.Common.{◌≡◌, ℕ, ◌≤◌, List, [], length, map, Vec, Global, Result, Ok, Err, refl, ap, sym, subst, ◌∙◌, arith}
+use Rattle.std.specs.Prelude.{IfOk}
+use Rattle.std.proofs.lemmas.List.{length-map}
 use Rattle.serde_json.specs.Data.{Data}
 use Rattle.fs_model.specs.Machines.{Fsmd}
-use Rattle.fs_ast.specs.Places.{first_place}
 use Rattle.fs_pair.specs.declared.positions.Position.{Position}
 use Rattle.fs_pair.specs.Positions.{positions}
 use Rattle.fs_model.specs.declared.sides.Side.{Side}
 use Rattle.term_values.specs.NameMeanings.{Find}
 use Rattle.cert_model.specs.Lawful.{IsLawful, most_nodes}
+use Rattle.cert_model.specs.declared.cert.Cert.{Cert}
+use Rattle.cert_model.specs.declared.cert.Node.{Node as CodeNode}
+use Rattle.cert_model.specs.View.{node_of}
 use Rattle.fs_model.specs.declared.sides.Side.TheVariants.{Left, Right}
 use Rattle.cert_bisimulation.specs.Tables.{Node}
 use Rattle.sym_facts.specs.Facts.{Fact}
 use Rattle.cert_json.specs.WrittenJson.{NodeText}
 use Rattle.cert_text.specs.declared.faults.CertError.{CertError}
-use Rattle.cert_text.specs.declared.table.NameTable.{NameTable}
 use Rattle.cert_text.specs.declared.context.Context.{Context as CodeContext}
 use Rattle.cert_text.specs.JsonParts.{file_nodes, file_format}
-use Rattle.cert_text.specs.CertificateNames.{names_on, machine_state_names, state_named, place_named, find_in}
-use Rattle.cert_text.specs.NameTables.{name_number, HasFirst}
-use Rattle.cert_text.specs.TextMeanings.{TextMeanings}
-use Rattle.cert_text.specs.CertificateReading.{nodes_read}
-use Rattle.cert_text.specs.TextFunctions.{meanings_by}
+use Rattle.cert_terms.specs.CertificateNames.{state_named, place_named, find_in}
+use Rattle.cert_terms.specs.NameTables.{name_number}
+use Rattle.cert_terms.specs.TextMeanings.{TextMeanings}
+use Rattle.cert_text.specs.CertificateReading.{Context, nodes_read}
+use Rattle.cert_terms.specs.TextFunctions.{meanings_by}
 use Rattle.cert_text.specs.Within.{AreNodesOf}
 use Rattle.cert_text.specs.PartAnswers.{Tells}
 use Rattle.cert_text.specs.declared.faults.Stop.{Stop}
 use Rattle.cert_text.specs.declared.faults.Stop.TheVariants as stop
 use Rattle.cert_text.specs.Refusals.{context_of, file_read, ComesTo, TellsNodes}
-use Rattle.cert_text.specs.View.{place_in_tables, context_in}
-use Rattle.cert_text.proofs.Readings.{only_texts}
+use Rattle.cert_terms.specs.View.{place_in_tables}
+use Rattle.cert_text.specs.View.{context_in}
+use Rattle.cert_terms.proofs.Readings.{only_texts}
 use Rattle.cert_text.proofs.LawfulNodes.{lawful}
-
-pub states_found : (m : Fsmd) (t : NameTable) (names : List (List ℕ)) → HasFirst t names → names ≡ machine_state_names m → (x : List ℕ)
-    → name_number t x ≡ state_named m x
-states_found m t names h e [] = refl
-states_found m t names h e (c ∷ cs) = h.first c cs ∙ ap (λ ns. first_place ns (c ∷ cs)) e
-
-pub positions_found : (a b : Fsmd) (side : Side) (ps : List Position) (t : NameTable) (names : List (List ℕ)) → HasFirst t names → names ≡ names_on a b side ps
-    → (x : List ℕ) → name_number t x ≡ place_named a b ps side x
-positions_found a b side ps t names h e [] = refl
-positions_found a b side ps t names h e (c ∷ cs) = h.first c cs ∙ ap (λ ns. first_place ns (c ∷ cs)) e
 
 -- tables that find the same make the same context
 pub same_context : (c : CodeContext) (a b : Fsmd) (ps : List Position) (format : ℕ) → ps ≡ positions a b → c.a.now ≡ a → c.b.now ≡ b
@@ -61,7 +54,7 @@ same_context c a b ps format same ea eb left right ep ef first second =
     by_side Right x = second x ∙ ap (λ qs. place_named a b qs Right x) same
 
 -- what comes of the nodes read by the tables is what they come to
-pub come_to : (a b : Fsmd) (d : Data) (c : CodeContext) (format : ℕ) (ns : List NodeText) (y : Result (List (Node Fact)) CertError)
+come_to : (a b : Fsmd) (d : Data) (c : CodeContext) (format : ℕ) (ns : List NodeText) (y : Result (List (Node Fact)) CertError)
     → context_in c ≡ context_of a b format (meanings_by (find_in (place_named a b (positions a b)) (positions a b) format)) → format ≡ file_format d
     → ns ≡ file_nodes d → nodes_read (context_in c) 0 [] ns ≡ y → ComesTo a b d y
 come_to a b d c format ns y same ef all told r h =
@@ -72,13 +65,34 @@ come_to a b d c format ns y same ef all told r h =
     (subst (λ ms. nodes_read (context_of a b (file_format d) (meanings_by (find (file_format d)))) 0 [] ms ≡ y) all
     (subst (λ k. nodes_read k 0 [] ns ≡ y) here told))
 
-pub stopped_to : {X : Type 0} (view : X → List (Node Fact)) (a b : Fsmd) (d : Data) (c : CodeContext) (format : ℕ) (ns : List NodeText) (e : Stop)
+stopped_to : (view : Cert → List (Node Fact)) (a b : Fsmd) (d : Data) (c : CodeContext) (format : ℕ) (e : Stop)
     → context_in c ≡ context_of a b format (meanings_by (find_in (place_named a b (positions a b)) (positions a b) format)) → format ≡ file_format d
-    → ns ≡ file_nodes d → Tells view (Err e) (nodes_read (context_in c) 0 [] ns) → TellsNodes a b d (Err e)
-stopped_to view a b d c format ns (stop.Refused e) same ef all told = come_to a b d c format ns (Err e) same ef all told
-stopped_to view a b d c format ns stop.NoMemory same ef all told = tt
+    → Tells view (Err e) (nodes_read (context_in c) 0 [] (file_nodes d)) → TellsNodes a b d (Err e)
+stopped_to view a b d c format (stop.Refused e) same ef told = come_to a b d c format (file_nodes d) (Err e) same ef refl told
+stopped_to view a b d c format stop.NoMemory same ef told = tt
+
+-- an answer on the nodes by the tables is one on the nodes of the file
+pub told_of : (a b : Fsmd) (d : Data) (c : CodeContext) (format : ℕ) (result : Result Cert Stop)
+    → context_in c ≡ context_of a b format (meanings_by (find_in (place_named a b (positions a b)) (positions a b) format)) → format ≡ file_format d
+    → Tells (λ x. map node_of x.nodes.items) result (nodes_read (context_in c) 0 [] (file_nodes d)) → TellsNodes a b d result
+told_of a b d c format (Ok x) same ef told = come_to a b d c format (file_nodes d) (Ok (map node_of x.nodes.items)) same ef refl told
+told_of a b d c format (Err e) same ef told = stopped_to (λ x. map node_of x.nodes.items) a b d c format e same ef told
+
+-- the same of nodes that are taken out of the file
+pub taken_stop : (c : Context) (ns ms : List NodeText) (e : Stop) → ns ≡ ms
+    → Tells {X = Vec CodeNode Global} (λ xs. map node_of xs.items) (Err e) (nodes_read c 0 [] ns)
+    → Tells {X = Cert} (λ x. map node_of x.nodes.items) (Err e) (nodes_read c 0 [] ms)
+taken_stop c ns ms (stop.Refused e) s h = ap (nodes_read c 0 []) (sym s) ∙ h
+taken_stop c ns ms stop.NoMemory s h = tt
 
 -- nodes that are lawful by the tables are lawful
-pub lawful_here : (a b : Fsmd) (c : CodeContext) (format : ℕ) (r : TextMeanings) (ns : List (Node Fact)) → context_in c ≡ context_of a b format r
+lawful_here : (a b : Fsmd) (c : CodeContext) (format : ℕ) (r : TextMeanings) (ns : List (Node Fact)) → context_in c ≡ context_of a b format r
     → AreNodesOf c.a.now c.b.now c.places.positions.now ns → length ns ≤ most_nodes → IsLawful a b ns
 lawful_here a b c format r ns same h few = lawful a b ns (subst (λ k. AreNodesOf k.states.a k.states.b k.terms.positions ns) same h) few
+
+pub lawful_of : (a b : Fsmd) (c : CodeContext) (format : ℕ) (r : TextMeanings) (result : Result Cert Stop) → context_in c ≡ context_of a b format r
+    → IfOk result (λ x. AreNodesOf c.a.now c.b.now c.places.positions.now (map node_of x.nodes.items))
+    → IfOk result (λ x. length x.nodes.items ≤ most_nodes) → IfOk result (λ x. IsLawful a b (map node_of x.nodes.items))
+lawful_of a b c format r (Ok x) same h few = let n : length (map node_of x.nodes.items) ≡ length x.nodes.items = length-map x.nodes.items node_of in
+    lawful_here a b c format r (map node_of x.nodes.items) same h (omega (arith, n, few))
+lawful_of a b c format r (Err e) same h few = tt

@@ -21,11 +21,12 @@ use Rattle.nf_rel.specs.Literals.{NormalLiteral}
 use Rattle.sym_facts.specs.Facts.{sort_of_terms, has_its_sort}
 use Rattle.sym_facts.specs.FactParts.{with_equations, equation_within}
 use Rattle.sym_facts.specs.Pairings.{is_position, form_within, literal_within}
-use Rattle.cert_text.specs.declared.names.Places.{Places}
-use Rattle.cert_text.specs.View.{place_in_tables, find_of}
-use Rattle.cert_text.specs.CertificateNames.{name_place, sorted_position, find_in}
-use Rattle.cert_text.specs.CertificateReading.{unwritten_of, unwritten_equation, sort_at}
-use Rattle.cert_text.specs.Within.{AllFoundPass, FormWithin, LiteralWithin, AreEquationsOf}
+use Rattle.cert_terms.specs.declared.names.Places.{Places}
+use Rattle.cert_terms.specs.View.{place_in_tables, find_of}
+use Rattle.cert_terms.specs.CertificateNames.{name_place, sorted_position, find_in, sort_at}
+use Rattle.cert_text.specs.CertificateReading.{unwritten_of, unwritten_equation}
+use Rattle.cert_terms.specs.Within.{AllFoundPass, FormWithin, LiteralWithin}
+use Rattle.cert_text.specs.Within.{AreEquationsOf}
 
 sort_itself : (s : TermSort) → same_term_sort s s ≡ true
 sort_itself term.Scalar = refl

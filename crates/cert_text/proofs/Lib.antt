@@ -1,12 +1,8 @@
-mod Symbols
-mod NameTables
 mod Facts
 mod Told
 mod LawfulNodes
 mod Shapes
 mod Contexts
 mod NodeLists
-mod Readings
 mod OneWay
 mod Refused
-mod Repeated

@@ -12,10 +12,10 @@ use Rattle.cert_text.specs.declared.faults.CertError.{CertError}
 use Rattle.cert_text.specs.declared.faults.CertError.TheVariants.{NotJson, Shape, UnknownState, NotCutpoint, UnknownName, SortOf, NotSolved, TwiceNode}
 use Rattle.cert_text.specs.declared.faults.CertError.TheVariants.{NumberTooBig, TooMany, NoMemory, BadTerm, NotNormal}
 use Rattle.cert_text.specs.JsonParts.{file_format}
-use Rattle.cert_text.specs.CertificateNames.{place_named, find_in}
-use Rattle.cert_text.specs.TextFunctions.{meanings_by}
+use Rattle.cert_terms.specs.CertificateNames.{place_named, find_in}
+use Rattle.cert_terms.specs.TextFunctions.{meanings_by}
 use Rattle.cert_text.specs.Refusals.{file_read, ComesTo, SpellsNodes, BreaksFirst, IsRefusedAsCertificate}
-use Rattle.cert_text.proofs.Readings.{texts_are_read}
+use Rattle.cert_terms.proofs.Readings.{texts_are_read}
 
 -- the nodes of a file come to one thing
 one_outcome : (a b : Fsmd) (d e : Data) (x y : Result (List (Node Fact)) CertError) → d ≡ e → ComesTo a b d x → ComesTo a b e y → x ≡ y

@@ -5,8 +5,6 @@ use Rattle.std.specs.Str.{bytes_eq}
 use Rattle.fs_model.specs.declared.parts.Sort.{Sort}
 use Rattle.fs_pair.specs.declared.positions.Position.{Position}
 use Rattle.fs_model.specs.declared.sides.Side.{Side}
-use Rattle.nf_terms.specs.declared.symbols.Sort.{Sort as TermSort}
-use Rattle.nf_terms.specs.declared.symbols.Sort.TheVariants as sort
 use Rattle.nf_terms.specs.declared.tree.SeqBase.TheVariants as base
 use Rattle.nf_terms.specs.declared.form.Nf.{Nf}
 use Rattle.nf_terms.specs.declared.form.Nf.TheVariants.{Seq}
@@ -15,16 +13,17 @@ use Rattle.nf_rel.specs.Literals.{NormalLiteral}
 use Rattle.cert_bisimulation.specs.declared.mode.Mode.{Mode}
 use Rattle.cert_bisimulation.specs.declared.mode.Mode.TheVariants as mode
 use Rattle.cert_bisimulation.specs.Tables.{Node}
-use Rattle.sym_facts.specs.Facts.{Fact, sort_of_terms}
+use Rattle.sym_facts.specs.Facts.{Fact}
 use Rattle.sym_facts.specs.FactParts.{fact_of, first_unsolved}
 use Rattle.term_values.specs.declared.faults.TermError.{TermError}
 use Rattle.term_values.specs.declared.faults.TermError.TheVariants as term
 use Rattle.cert_json.specs.WrittenJson.{NodeText}
 use Rattle.cert_text.specs.declared.faults.CertError.{CertError}
 use Rattle.cert_text.specs.declared.faults.CertError.TheVariants as errors
-use Rattle.cert_text.specs.CertificateNames.{is_in_format, name_place, place_by_key}
-use Rattle.cert_text.specs.TextMeanings.{TextMeanings}
+use Rattle.cert_terms.specs.CertificateNames.{is_in_format, name_place, place_by_key}
+use Rattle.cert_terms.specs.TextMeanings.{TextMeanings}
 use Rattle.cert_text.specs.NodePointNames.{StateTables, then_part, points_read}
+pub use Rattle.cert_terms.specs.CertificateNames.{sort_or_scalar, sort_at}
 
 -- what equations and conditions are read against: the places of names, the positions, the format, and what texts stand for
 pub record TermContext : Type 0 where
@@ -55,14 +54,6 @@ text_read i (Err e) = Err (error_at i e)
 abbrev pub known_place : ℕ → Option ℕ → Result ℕ CertError
 known_place i None = Err (errors.UnknownName i)
 known_place i (Some k) = Ok k
-
-abbrev pub sort_or_scalar : Option TermSort → TermSort
-sort_or_scalar None = sort.Scalar
-sort_or_scalar (Some s) = s
-
--- the sort of the terms at a place
-abbrev pub sort_at : List Position → ℕ → TermSort
-sort_at ps k = sort_or_scalar (option_map (λ p. sort_of_terms p.sort) (slice_get ps k))
 
 -- an equation: the place of its key, and its term
 abbrev pub equation_read : TermContext → ℕ → List ℕ × List ℕ → Result (ℕ × Nf) CertError

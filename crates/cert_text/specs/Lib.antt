@@ -1,13 +1,10 @@
 pub mod JsonParts
-pub mod CertificateNames
-pub mod TextMeanings
 pub mod PartAnswers
 pub mod NodePointNames
 pub mod CertificateReading
 pub mod Refusals
-pub mod NameKeys
-pub mod NameTables
 pub mod View
 pub mod Within
-pub mod TextFunctions
-pub mod Repeats
+pub use Rattle.cert_terms.specs.CertificateNames
+pub use Rattle.cert_terms.specs.TextMeanings
+pub use Rattle.cert_terms.specs.TextFunctions

@@ -15,16 +15,6 @@ Tells view (Ok x) y = y ≡ Ok (view x)
 Tells view (Err (stop.Refused e)) y = y ≡ Err e
 Tells view (Err stop.NoMemory) y = Unit {0}
 
--- the same of an answer on a text
-abbrev pub TellsText : {X Y : Type 0} → (X → Y) → Result X TermError → Result Y TermError → Type 0
-TellsText view (Ok x) y = y ≡ Ok (view x)
-TellsText view (Err term.BadTerm) y = y ≡ Err term.BadTerm
-TellsText view (Err term.NumberTooBig) y = y ≡ Err term.NumberTooBig
-TellsText view (Err term.UnknownName) y = y ≡ Err term.UnknownName
-TellsText view (Err term.SortOf) y = y ≡ Err term.SortOf
-TellsText view (Err term.NotNormal) y = y ≡ Err term.NotNormal
-TellsText view (Err term.NoMemory) y = Unit {0}
-
 -- why node i is refused where one of its texts is, or out of memory
 abbrev pub stop_of : ℕ → TermError → Stop
 stop_of i term.BadTerm = stop.Refused (errors.BadTerm i)

@@ -14,8 +14,8 @@ use Rattle.cert_text.specs.declared.faults.Stop.TheVariants as stop
 use Rattle.cert_model.specs.declared.cert.Cert.{Cert}
 use Rattle.cert_model.specs.View.{node_of}
 use Rattle.cert_text.specs.JsonParts.{file_nodes, file_format}
-use Rattle.cert_text.specs.CertificateNames.{state_named, place_named, find_in}
-use Rattle.cert_text.specs.TextMeanings.{TextMeanings, AreRead}
+use Rattle.cert_terms.specs.CertificateNames.{state_named, place_named, find_in}
+use Rattle.cert_terms.specs.TextMeanings.{TextMeanings, AreRead}
 use Rattle.cert_text.specs.CertificateReading.{Context, nodes_read}
 
 -- a file of two machines is read against their states, their positions by name, its format and what texts stand for

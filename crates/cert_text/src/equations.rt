@@ -8,20 +8,21 @@ ghost use Rattle.nf_terms.specs.Forms.{sort_of_form};
 ghost use Rattle.nf_rel.specs.View.{literal_in};
 ghost use Rattle.sym_facts.specs.Facts.{may_be_kept};
 ghost use Rattle.cert_text.specs.JsonParts.{texts_of};
-ghost use Rattle.cert_text.specs.CertificateNames.{name_place, place_by_key};
+ghost use Rattle.cert_terms.specs.CertificateNames.{name_place, place_by_key, sort_at as sort_of_place};
+ghost use Rattle.cert_terms.specs.View.{place_in_tables, find_of};
+ghost use Rattle.cert_terms.specs.Repeats.{AreLast};
+ghost use Rattle.cert_terms.specs.Within.{FormWithin, LiteralWithin};
 ghost use Rattle.cert_text.specs.PartAnswers.{Tells};
 ghost use Rattle.cert_text.specs.CertificateReading.{known_place as known, unwritten_equation as unwritten_at, unwritten_of};
-ghost use Rattle.cert_text.specs.CertificateReading.{sort_at as sort_of_place, equation_read, equation_put, equations_read};
-ghost use Rattle.cert_text.specs.CertificateReading.{conditions_read};
-ghost use Rattle.cert_text.specs.View.{place_in_tables, find_of, terms_in};
-ghost use Rattle.cert_text.specs.Repeats.{AreLast};
-ghost use Rattle.cert_text.specs.Within.{FormWithin, LiteralWithin, AreEquationsOf};
+ghost use Rattle.cert_text.specs.CertificateReading.{equation_read, equation_put, equations_read, conditions_read};
+ghost use Rattle.cert_text.specs.View.{terms_in};
+ghost use Rattle.cert_text.specs.Within.{AreEquationsOf};
 
 use crate::faults::{CertError, Stop};
-use crate::forms::read_condition;
-use crate::names::{Places, is_in_format, place_of_key};
+use crate::forms::{read_condition, read_form};
 use crate::parts::text_of;
-use crate::repeats::{ReadText, read_at};
+use cert_terms::names::{Places, is_in_format, place_of_key};
+use cert_terms::repeats::ReadText;
 use fs_model::parts::Sort;
 use fs_pair::positions::Position;
 use nf_rel::literals::NLit;
@@ -87,7 +88,7 @@ fn read_equation(
     ensures last { OnOk result (AreLast places.now last.new.items) }
 {
     let place = known_place(places, node, key)?;
-    let form = read_at(alloc, places, node, place, text, last)?;
+    let form = read_form(alloc, places, node, place, text, last)?;
     Ok((place, form))
 }
 

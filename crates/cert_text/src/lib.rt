@@ -2,8 +2,7 @@
 //!
 //! Promises: `read_cert`: the lawful certificate that bytes spell, or the first rule that is broken.
 //!
-//! Rules: `specs/JsonParts`, `specs/NodePointNames`, `specs/CertificateNames`, `specs/CertificateReading`,
-//! `specs/Refusals`, `specs/TextFunctions`, `specs/Repeats`.
+//! Rules: `specs/JsonParts`, `specs/NodePointNames`, `specs/CertificateReading`, `specs/Refusals`.
 //!
 //! Words:
 //! - cutpoint (in `NotCutpoint`): a state that is a point: it has more than one branch, and is not the reset state
@@ -14,10 +13,7 @@ mod equations;
 pub mod faults;
 mod forms;
 pub mod laws;
-mod names;
 mod nodes;
 mod parts;
 mod points;
 pub mod reader;
-mod repeats;
-mod table;

@@ -15,18 +15,20 @@ ghost use Rattle.cert_text.specs.NodePointNames.{node_is_at};
 ghost use Rattle.cert_text.specs.CertificateReading.{mode_named as mode_of, unwritten_equation, equations_read, fact_read};
 ghost use Rattle.cert_text.specs.CertificateReading.{node_fact};
 ghost use Rattle.cert_text.specs.CertificateReading.{node_read, node_added, nodes_read};
-ghost use Rattle.cert_text.specs.Repeats.{AreLast};
-ghost use Rattle.cert_text.specs.View.{find_of, terms_in, context_in};
-ghost use Rattle.cert_text.specs.Within.{LiteralWithin, AreEquationsOf, IsNodeOf, AreNodesOf};
+ghost use Rattle.cert_terms.specs.Repeats.{AreLast};
+ghost use Rattle.cert_terms.specs.View.{find_of};
+ghost use Rattle.cert_terms.specs.Within.{LiteralWithin};
+ghost use Rattle.cert_text.specs.View.{terms_in, context_in};
+ghost use Rattle.cert_text.specs.Within.{AreEquationsOf, IsNodeOf, AreNodesOf};
 
 use crate::context::Context;
 use crate::equations::{all_unwritten, put_equations, read_conditions};
 use crate::faults::{CertError, Stop};
 use crate::parts::{items_at, members_at, number_at, text_at};
 use crate::points::read_points;
-use crate::repeats::{ReadText, none_read};
 use cert_bisimulation::mode::Mode;
 use cert_model::cert::Node;
+use cert_terms::repeats::{ReadText, none_read};
 use nf_rel::literals::NLit;
 use nf_terms::form::Nf;
 use serde_json::Value;
@@ -229,8 +231,8 @@ pub fn read_nodes(alloc: Global, c: &Context<'_>, values: Vec<Value>) -> Result<
     ensures of { IfOk result (λ ns. AreNodesOf c.now.a.now c.now.b.now c.now.places.positions.now (map node_of ns.items)) }
     ensures count { IfOk result (λ ns. length ns.items ≡ length values.items) }
 {
-    let mut nodes = Vec::new(alloc);
     let mut last = none_read(alloc, &c.places)?;
+    let mut nodes = Vec::new(alloc);
     let mut rest = values.into_iter();
     while let Some(value) = rest.next() {
         push_value(alloc, c, nodes.len() as u32, &mut nodes, value, &mut last)?;

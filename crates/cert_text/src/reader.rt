@@ -1,15 +1,19 @@
 //! Reading a certificate.
 
-ghost use Rattle.std.specs.Prelude.{◌≡◌, true, false, map, IfOk, IfErr};
+ghost use Rattle.std.specs.Prelude.{◌≡◌, ◌≤◌, [], true, false, length, map, IfOk, IfErr};
 ghost use Rattle.serde_json.specs.View.{view};
 ghost use Rattle.fs_pair.specs.Positions.{positions};
-ghost use Rattle.cert_model.specs.Lawful.{IsLawful};
+ghost use Rattle.cert_model.specs.Lawful.{IsLawful, most_nodes};
 ghost use Rattle.cert_model.specs.View.{node_of};
 ghost use Rattle.cert_json.specs.Shape.{is_file, has_too_many};
+ghost use Rattle.cert_text.specs.JsonParts.{file_nodes};
+ghost use Rattle.cert_text.specs.CertificateReading.{nodes_read};
 ghost use Rattle.cert_text.specs.Refusals.{TellsNodes, SpellsNodes, IsRefusedAsCertificate};
-ghost use Rattle.cert_text.specs.PartAnswers.{error_of_file as error_from_file, error_of as error_from};
+ghost use Rattle.cert_text.specs.PartAnswers.{Tells, error_of_file as error_from_file, error_of as error_from};
+ghost use Rattle.cert_text.specs.View.{context_in};
+ghost use Rattle.cert_text.specs.Within.{AreNodesOf};
 
-use crate::context::context_of;
+use crate::context::{Context, context_of};
 use crate::faults::{CertError, Stop};
 use crate::nodes::read_nodes;
 use crate::parts::{number_at, take_items};
@@ -21,8 +25,23 @@ use fs_pair::positions::Pairing;
 use serde_json::Value;
 use std::alloc::Global;
 
+// The certificate of a file, of which the nodes are taken out, over what it is read against.
+#[tactic(auto, using(crate::proofs::Shapes::file_shapes))]
+fn read_against(alloc: Global, c: &Context<'_>, value: &mut Value) -> Result<Cert, Stop>
+    requires pairing { c.now.pairing.now ≡ c.now.places.positions.now }
+    requires shape { is_file (view value.old) ≡ true }
+    requires few { has_too_many (view value.old) ≡ false }
+    ensures told { Tells (λ cert. map node_of cert.nodes.items) result
+        (nodes_read (context_in c.now) 0 [] (file_nodes (view value.old))) }
+    ensures of { IfOk result
+        (λ cert. AreNodesOf c.now.a.now c.now.b.now c.now.places.positions.now (map node_of cert.nodes.items)) }
+    ensures few { IfOk result (λ cert. length cert.nodes.items ≤ most_nodes) }
+{
+    let nodes = read_nodes(alloc, c, take_items(alloc, value, "nodes"))?;
+    Ok(Cert { nodes })
+}
+
 // The certificate of a file, of which the nodes are taken out.
-#[tactic(auto, using(crate::proofs::Contexts::come_to, crate::proofs::Shapes::file_shapes, crate::proofs::LawfulNodes::lawful))]
 fn read_value(
     alloc: Global,
     value: &mut Value,
@@ -37,8 +56,7 @@ fn read_value(
     ensures lawful { IfOk result (λ c. IsLawful a.now b.now (map node_of c.nodes.items)) }
 {
     let context = context_of(alloc, a, b, p, number_at(value, "format"))?;
-    let nodes = read_nodes(alloc, &context, take_items(alloc, value, "nodes"))?;
-    Ok(Cert { nodes })
+    read_against(alloc, &context, value)
 }
 
 // Why a file is refused before its nodes are looked at.

@@ -3,7 +3,7 @@ use Rattle.cert_json.specs.JsonTexts.{named_texts_of}
 use Rattle.serde_json.specs.View.{members_view}
 use Rattle.cert_text.specs.CertificateReading.{equations_read}
 use Rattle.cert_text.specs.View.{terms_in}
-use Rattle.cert_text.specs.Repeats.{AreLast}
+use Rattle.cert_terms.specs.Repeats.{AreLast}
 use Rattle.cert_text.specs.Within.{AreEquationsOf}
 use Rattle.cert_text.proofs.equations.put_equations.Given as goal
 

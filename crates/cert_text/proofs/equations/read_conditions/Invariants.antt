@@ -5,8 +5,9 @@ use Rattle.nf_rel.specs.View.{literal_in}
 use Rattle.sym_facts.specs.Facts.{may_be_kept}
 use Rattle.cert_text.specs.JsonParts.{texts_of}
 use Rattle.cert_text.specs.CertificateReading.{conditions_read}
-use Rattle.cert_text.specs.View.{find_of, terms_in}
-use Rattle.cert_text.specs.Within.{LiteralWithin}
+use Rattle.cert_terms.specs.View.{find_of}
+use Rattle.cert_terms.specs.Within.{LiteralWithin}
+use Rattle.cert_text.specs.View.{terms_in}
 use Rattle.cert_text.proofs.equations.read_conditions.Given as goal
 
 abbrev pub invariant-loop-item : goal.invariant-loop-item

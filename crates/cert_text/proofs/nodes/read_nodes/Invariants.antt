@@ -6,7 +6,7 @@ use Rattle.cert_json.specs.Shape.{are_nodes, some_has_many}
 use Rattle.cert_text.specs.JsonParts.{node_texts}
 use Rattle.cert_text.specs.CertificateReading.{nodes_read}
 use Rattle.cert_text.specs.View.{context_in}
-use Rattle.cert_text.specs.Repeats.{AreLast}
+use Rattle.cert_terms.specs.Repeats.{AreLast}
 use Rattle.cert_text.specs.Within.{AreNodesOf}
 use Rattle.cert_text.proofs.nodes.read_nodes.Given as goal
 

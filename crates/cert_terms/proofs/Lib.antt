@@ -1,0 +1,5 @@
+mod NameTables
+mod Symbols
+pub mod Readings
+mod Told
+mod Repeated

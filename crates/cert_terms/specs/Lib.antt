@@ -1,0 +1,9 @@
+pub mod CertificateNames
+pub mod NameKeys
+pub mod NameTables
+pub mod TextMeanings
+pub mod TextFunctions
+pub mod TextAnswers
+pub mod Within
+pub mod View
+pub mod Repeats

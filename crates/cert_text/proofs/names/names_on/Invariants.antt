@@ -1,8 +1,0 @@
-use Rattle.std.proofs.Common.{◌≡◌, ◌++◌, map, drop}
-use Rattle.cert_text.specs.CertificateNames.{names_on}
-use Rattle.cert_text.proofs.names.names_on.Given as goal
-
-abbrev pub invariant-loop-position : goal.invariant-loop-position
-invariant-loop-position l = record {
-  rest : map (λ n. n.now) l.out.items ++ names_on l.a l.b l.side (drop l.position-index l.positions) ≡ names_on l.a l.b l.side l.positions;
-}

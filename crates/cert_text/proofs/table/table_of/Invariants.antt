@@ -1,6 +1,0 @@
-use Rattle.std.proofs.Common.{map, take}
-use Rattle.cert_text.specs.NameTables.{HasFirst}
-use Rattle.cert_text.proofs.table.table_of.Given as goal
-
-abbrev pub invariant-loop-number : goal.invariant-loop-number
-invariant-loop-number l = HasFirst l.table (map (λ n. n.now) (take l.number l.names))
