@@ -19,10 +19,10 @@ use Rattle.term_text.specs.Machine.{term_reading}
 use Rattle.term_text.specs.Reached.{SpellsTerm}
 use Rattle.term_text.proofs.Walks.{beginning, read_again}
 use Rattle.term_text.proofs.Sound.{polynomial_is_spelled, array_is_spelled, list_is_spelled}
-use Rattle.term_condition_text.specs.ConditionTexts as conditions
-use Rattle.term_condition_text.specs.ConditionTexts.{Integer, Condition, False, Compared}
-use Rattle.term_condition_text.specs.ConditionParts.{condition_parts}
-use Rattle.term_condition_text.proofs.Whole.{false_spelled, comparison_spelled, only_false, no_parts, spelled_parts, front_spelled}
+use Rattle.term_values.specs.ConditionTexts as conditions
+use Rattle.term_values.specs.ConditionTexts.{Integer, Condition, False, Compared}
+use Rattle.term_values.specs.ConditionParts.{condition_parts}
+use Rattle.term_values.proofs.Whole.{false_spelled, comparison_spelled, only_false, no_parts, spelled_parts, front_spelled}
 use Rattle.term_values.specs.declared.faults.TermError.{TermError}
 use Rattle.term_values.specs.declared.faults.TermError.TheVariants.{BadTerm, NumberTooBig, UnknownName, SortOf, NotNormal, NoMemory}
 use Rattle.term_values.specs.NameMeanings.{Find}

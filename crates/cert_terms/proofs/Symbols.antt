@@ -21,7 +21,7 @@ use Rattle.sym_facts.specs.Pairings.{literal_within}
 use Rattle.term_text.specs.TermTexts as text
 use Rattle.term_text.specs.TermTexts.{Symbol, Read, Quotient, Remainder, Number, One, Times, Positive, Negative, Plus, Minus, Zero, Of, ZeroArray, Bare}
 use Rattle.term_text.specs.TermTexts.{Written, EmptyList, BareList, Pushed, polynomial, array, list}
-use Rattle.term_condition_text.specs.ConditionTexts.{Condition, False, Compared}
+use Rattle.term_values.specs.ConditionTexts.{Condition, False, Compared}
 use Rattle.term_values.specs.declared.faults.TermError.{TermError}
 use Rattle.term_values.specs.declared.faults.TermError.TheVariants.{NumberTooBig, UnknownName, SortOf, NotNormal}
 use Rattle.term_values.specs.NameMeanings.{Find, position_meant, position, name_has_sort}

@@ -13,8 +13,8 @@ use Rattle.nf_rel.specs.declared.kind.Kind.{Kind}
 use Rattle.term_text.specs.TermTexts.{TermSyntax, polynomial, array, list}
 use Rattle.term_text.specs.Brackets.{most_open}
 use Rattle.term_text.specs.Machine.{Owed, term_reading, at_polynomial, whole_polynomial, at_array, at_list}
-use Rattle.term_condition_text.specs.ConditionTexts.{Integer, Condition, False, Compared}
-use Rattle.term_condition_text.specs.ConditionParts.{condition_parts}
+use Rattle.term_values.specs.ConditionTexts.{Integer, Condition, False, Compared}
+use Rattle.term_values.specs.ConditionParts.{condition_parts}
 use Rattle.term_values.specs.declared.faults.TermError.{TermError}
 use Rattle.term_values.specs.declared.faults.TermError.TheVariants.{BadTerm}
 use Rattle.term_values.specs.NameMeanings.{Find}

@@ -5,16 +5,16 @@ use Rattle.std.specs.List.{list_all, slice_index_or}
 use Rattle.std.proofs.lemmas.Bool.{and_from}
 use Rattle.fs_model.proofs.Booleans.{and_first, and_second}
 use Rattle.fs_model.proofs.Quantifiers.{list_all_weaker}
-use Rattle.fs_ast.specs.SoundParts.{IsSound, scalar_at, array_at, port_at, input_at, is_text_number, scalars_in, arrays_in, scalars_in_assignment}
-use Rattle.fs_ast.specs.SoundParts.{arrays_in_assignment, port_in, numbers_in_assignment, changed_by}
+use Rattle.sym_paths.specs.SoundParts.{IsSound, scalar_at, array_at, port_at, input_at, is_text_number, scalars_in, arrays_in, scalars_in_assignment}
+use Rattle.sym_paths.specs.SoundParts.{arrays_in_assignment, port_in, numbers_in_assignment, changed_by}
 use Rattle.fs_model.specs.Machines.{Fsmd, transitions_of}
 use Rattle.fs_model.specs.Terms.{Term, Number, Variable, Read, Sum, Difference, Product, Quotient, Remainder, Negative, Literal, Assignment, Assign, ArrayWrite}
 use Rattle.fs_model.specs.Terms.{Emit}
 use Rattle.fs_model.specs.Trees.{Branch, branches_of}
 use Rattle.fs_model.specs.PartFolds.{scalars, arrays, numbers, uses_in_literal}
-use Rattle.fs_ast.specs.Branches.{is_sound_literal, is_sound_assignment}
-use Rattle.fs_ast.proofs.Lifted.{branch_sound}
-use Rattle.fs_cut.specs.Paths.{Path, BranchStep, state_of, branch_at, steps_in}
+use Rattle.sym_paths.specs.Branches.{is_sound_literal, is_sound_assignment}
+use Rattle.sym_paths.proofs.Lifted.{branch_sound}
+use Rattle.sym_paths.specs.Paths.{Path, BranchStep, state_of, branch_at, steps_in}
 use Rattle.fs_pair.specs.declared.positions.Position.{Position}
 use Rattle.fs_pair.specs.Positions.{positions}
 use Rattle.fs_pair.specs.Partners.{variables_on}

@@ -6,7 +6,7 @@ pub mod FactParts
 pub mod View
 pub mod Codes
 pub mod PositionSets
-pub use Rattle.fs_ast.specs.SoundParts
+pub use Rattle.sym_paths.specs.SoundParts
 pub use Rattle.sym_paths.specs.Execution
 pub use Rattle.sym_paths.specs.ValuationStores
 pub use Rattle.nf_substitution.specs.Vectors

@@ -2,10 +2,10 @@
 
 ghost use Rattle.std.specs.Prelude.{◌≡◌, ℕ, Bool, IsTrue, true, List, [], Option, None};
 ghost use Rattle.std.specs.List.{list_all};
-ghost use Rattle.fs_ast.specs.SoundParts.{IsSound};
+ghost use Rattle.sym_paths.specs.SoundParts.{IsSound};
 ghost use Rattle.fs_model.specs.Machines.{Fsmd};
 ghost use Rattle.fs_model.specs.Runs.{Inputs, start};
-ghost use Rattle.fs_cut.specs.Paths.{Path, BranchStep, branch_at};
+ghost use Rattle.sym_paths.specs.Paths.{Path, BranchStep, branch_at};
 ghost use Rattle.fs_pair.specs.Interfaces.{interface_fault};
 ghost use Rattle.fs_pair.specs.Positions.{positions};
 ghost use Rattle.nf_terms.specs.TermMeaning.{Valuation};

@@ -2,3 +2,4 @@ pub mod Values
 pub mod Changes
 pub mod Arrivals
 pub mod Loops
+pub use Rattle.fs_ast.proofs.Lifted

@@ -8,3 +8,4 @@ mod LiteralForms
 mod Faultless
 mod Sizes
 mod Tallies
+pub use Rattle.term_condition_text.proofs.Whole

@@ -7,3 +7,5 @@ pub mod Conditions
 pub mod TermFaults
 pub mod TermTests
 pub mod SumTallies
+pub use Rattle.term_condition_text.specs.ConditionParts
+pub use Rattle.term_condition_text.specs.ConditionTexts
