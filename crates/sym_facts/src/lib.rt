@@ -1,7 +1,7 @@
-//! Facts on the stores of two machines, substitution in their terms, and what it is that a post entails one.
+//! Facts on the stores of two machines, substitution in forms and literals, and when a post entails a fact.
 //!
-//! Promises: facts, substitution in forms and literals; the start fact holds of all start stores; what a post entails holds
-//! where it leads; what arrives is of the pairing.
+//! Promises: facts; substitution; the start fact holds of all start stores; what a post entails holds where it leads; what
+//! arrives is of the pairing.
 //!
 //! Rules: `specs/Facts`, `specs/Entailment`, `specs/Pairings`, `src/laws`.
 //!
