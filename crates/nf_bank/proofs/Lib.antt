@@ -5,4 +5,5 @@ pub mod Growing
 pub mod Nodes
 pub mod Closed
 pub mod Turns
+pub mod Absent
 mod Made

@@ -1,9 +1,19 @@
-use Rattle.std.proofs.Common.{ap, ◌∙◌}
-use Rattle.nf_terms.specs.NormalTerms.{polynomial_of, writes_of}
-use Rattle.nf_terms.specs.View.{monomial_in, polynomial_in}
-use Rattle.nf_bank.specs.AtomNumbers.{scaled_monomial_over, write_over, monomial_over, sum_over}
+use Rattle.std.proofs.Common.{map, ap, ◌∙◌}
+use Rattle.nf_terms.specs.NormalTerms.{monomial_of, polynomial_of, writes_of, Over}
+use Rattle.nf_terms.specs.View.{atom_in, monomial_in, polynomial_in, term_in, write_in}
+use Rattle.nf_terms.proofs.Degrees.{monomial_in-is}
+use Rattle.nf_terms.proofs.Loops.{all_there}
+use Rattle.nf_terms.proofs.TreeParts.{polynomial_of_terms, array_over_writes}
+use Rattle.nf_bank.specs.AtomNumbers.{atom_of_number, scaled_monomial_over, write_over, monomial_over, sum_over}
 use Rattle.nf_bank.proofs.Made.{one_made}
 use Rattle.nf_bank.proofs.trees.+trees.Goals as goal
+
+pub mono_tree-returns : goal.mono_tree-returns
+mono_tree-returns t c =
+    monomial_in-is _
+    ∙ ap monomial_of
+    (all_there (atom_of_number c.args.bank.now) (map atom_in c.loop-id.atoms.items) c.args.ids.now c.loop-id.id-index c.loop-id-test.false)
+    ∙ c.loop-id.invariant
 
 pub sum_tree-loop-term-preserved : goal.sum_tree-loop-term-preserved
 sum_tree-loop-term-preserved t c =
@@ -15,6 +25,13 @@ sum_tree-loop-term-preserved t c =
     c.term-item.is (λ k. (m k, x.coefficient)) c.in_ok-push_term.ensures)
     ∙ c.loop-term.invariant
 
+pub sum_tree-returns : goal.sum_tree-returns
+sum_tree-returns t c =
+    polynomial_of_terms _
+    ∙ ap polynomial_of
+    (all_there (scaled_monomial_over c.args.bank.now) (map term_in c.loop-term.monos.items) c.args.terms.now c.loop-term.term-index c.loop-term-test.false)
+    ∙ c.loop-term.invariant
+
 pub array_tree-loop-write-preserved : goal.array_tree-loop-write-preserved
 array_tree-loop-write-preserved t c =
     let b = c.args.bank.now in
@@ -24,3 +41,13 @@ array_tree-loop-write-preserved t c =
     (one_made (write_over b) _ _ c.as_slice-write-items.result.now c.loop-write.write-index c.write-item.result
     (polynomial_in c.in_ok-index.index, polynomial_in c.in_ok-value.value) c.loop-write-test.true c.write-item.is (λ k. (i k, v k)) c.in_ok-push_write.ensures)
     ∙ c.loop-write.invariant
+
+pub array_tree-returns : goal.array_tree-returns
+array_tree-returns t c =
+    let b = c.args.bank.now in
+    let base = c.args.array.now.base in
+    array_over_writes _
+    ∙ ap (λ ws. Over base (writes_of ws))
+    (all_there (write_over b) (map write_in c.loop-write.writes.items) c.as_slice-write-items.result.now c.loop-write.write-index c.loop-write-test.false)
+    ∙ ap (Over base) c.loop-write.invariant
+    ∙ ap (λ ws. Over base (writes_of (map (write_over b) ws))) c.as_slice-write-items.ensures
