@@ -14,7 +14,7 @@ use Rattle.term_text.specs.declared.tree.WrittenMonomial.{WrittenMonomial}
 use Rattle.term_text.specs.declared.tree.WrittenPolynomial.{WrittenPolynomial}
 use Rattle.term_text.specs.View.{times_all, written_all, sum_all, sum_of, first_sum, more_sum, polynomial_all, pushed_all, written_atom_in}
 use Rattle.term_text.specs.View.{written_polynomial_in, written_term_in, written_write_in}
-use Rattle.term_text.specs.Machine.{begins, behind, at_sign, first_monomial_for, monomial_of_sum, ForPolynomial, ForMonomial, ForAtom, ForSymbol, in_atom}
+use Rattle.term_text.specs.Machine.{begins, rest_after, at_sign, first_monomial_for, monomial_of_sum, ForPolynomial, ForMonomial, ForAtom, ForSymbol, in_atom}
 use Rattle.term_text.specs.Machine.{in_array, in_list, after_list, ForArray, whole_polynomial, whole_array, read_of, place, item, times, positive, first}
 use Rattle.term_text.specs.Machine.{at_polynomial, at_monomial, at_atom}
 use Rattle.term_text.specs.Machine.{at_symbol, in_number, in_symbol, after_symbol, after_array, after_monomial, after_sum, after_polynomial, atom_done}
@@ -175,51 +175,51 @@ no_first_byte : (t : Bool) (c b : ℕ) (bs : List ℕ) → (b == c) ≡ t → co
 no_first_byte true c b bs h e = absurd cc
 no_first_byte false c b bs h e = h
 
-pub found : (r : Option (Bor (List ℕ))) (x : Bor (List ℕ)) (c : ℕ) (bs : List ℕ) → option_map (λ y. y.now) r ≡ behind c bs → r ≡ Some x
-    → behind c bs ≡ Some x.now
+pub found : (r : Option (Bor (List ℕ))) (x : Bor (List ℕ)) (c : ℕ) (bs : List ℕ) → option_map (λ y. y.now) r ≡ rest_after c bs → r ≡ Some x
+    → rest_after c bs ≡ Some x.now
 found r x c bs e is = sym e ∙ ap (option_map (λ y. y.now)) is
 
-pub missing : (r : Option (Bor (List ℕ))) (c : ℕ) (bs : List ℕ) → option_map (λ y. y.now) r ≡ behind c bs → r ≡ None → behind c bs ≡ None
+pub missing : (r : Option (Bor (List ℕ))) (c : ℕ) (bs : List ℕ) → option_map (λ y. y.now) r ≡ rest_after c bs → r ≡ None → rest_after c bs ≡ None
 missing r c bs e is = sym e ∙ ap (option_map (λ y. y.now)) is
 
-pub behind_shorter : (c : ℕ) (bs rest : List ℕ) → behind c bs ≡ Some rest → length rest < length bs
-behind_shorter c [] rest e = absurd cc
-behind_shorter c (b ∷ bs) rest e = let p = first_byte (b == c) c b bs rest refl e in omega (arith, ap length p.1)
+pub rest_after_shorter : (c : ℕ) (bs rest : List ℕ) → rest_after c bs ≡ Some rest → length rest < length bs
+rest_after_shorter c [] rest e = absurd cc
+rest_after_shorter c (b ∷ bs) rest e = let p = first_byte (b == c) c b bs rest refl e in omega (arith, ap length p.1)
 
 -- a monomial, a sum, an array and a list go on
-pub atoms_go_on : (bs rest : List ℕ) (m : Monomial) (k : ForMonomial) → behind 42 bs ≡ Some rest
+pub atoms_go_on : (bs rest : List ℕ) (m : Monomial) (k : ForMonomial) → rest_after 42 bs ≡ Some rest
     → term_reading bs (after_monomial m k) ≡ term_reading rest (at_atom (times m k))
 atoms_go_on [] rest m k e = absurd cc
 atoms_go_on (b ∷ bs) rest m k e = let p = first_byte (b == 42) 42 b bs rest refl e in rw (p.0, p.1) refl
 
-pub sum_goes_on : (bs rest : List ℕ) (s : Sum) (k : ForPolynomial) → behind 32 bs ≡ Some rest
+pub sum_goes_on : (bs rest : List ℕ) (s : Sum) (k : ForPolynomial) → rest_after 32 bs ≡ Some rest
     → term_reading bs (after_sum s k) ≡ term_reading rest (at_sign s k)
 sum_goes_on [] rest s k e = absurd cc
 sum_goes_on (b ∷ bs) rest s k e = let p = first_byte (b == 32) 32 b bs rest refl e in rw (p.0, p.1) refl
 
-pub array_goes_on : (bs rest : List ℕ) (a : ArrayTerm) (k : ForArray) → behind 123 bs ≡ Some rest
+pub array_goes_on : (bs rest : List ℕ) (a : ArrayTerm) (k : ForArray) → rest_after 123 bs ≡ Some rest
     → term_reading bs (after_array a k) ≡ term_reading rest (at_polynomial (place a k))
 array_goes_on [] rest a k e = absurd cc
 array_goes_on (b ∷ bs) rest a whole_array e = let p = first_byte (b == 123) 123 b bs rest refl e in rw (p.0, p.1) refl
 array_goes_on (b ∷ bs) rest a (read_of k) e = let p = first_byte (b == 123) 123 b bs rest refl e in rw (p.0, p.1) refl
 
-pub list_goes_on : (bs rest : List ℕ) (l : ListSyntax) → behind 123 bs ≡ Some rest
+pub list_goes_on : (bs rest : List ℕ) (l : ListSyntax) → rest_after 123 bs ≡ Some rest
     → term_reading bs (after_list l) ≡ term_reading rest (at_polynomial (item l))
 list_goes_on [] rest l e = absurd cc
 list_goes_on (b ∷ bs) rest l e = let p = first_byte (b == 123) 123 b bs rest refl e in rw (p.0, p.1) refl
 
 -- and end
-pub monomial_ended : (bs : List ℕ) (m : Monomial) (k : ForMonomial) → behind 42 bs ≡ None
+pub monomial_ended : (bs : List ℕ) (m : Monomial) (k : ForMonomial) → rest_after 42 bs ≡ None
     → term_reading bs (after_monomial m k) ≡ term_reading bs (monomial_done m k)
 monomial_ended [] m k e = refl
 monomial_ended (b ∷ bs) m k e = monomial_ends (b ∷ bs) m k (no_first_byte (b == 42) 42 b bs refl e)
 
-pub sum_ended : (bs : List ℕ) (s : Sum) (k : ForPolynomial) → behind 32 bs ≡ None
+pub sum_ended : (bs : List ℕ) (s : Sum) (k : ForPolynomial) → rest_after 32 bs ≡ None
     → term_reading bs (after_sum s k) ≡ term_reading bs (after_polynomial (Of s) k)
 sum_ended [] s k e = refl
 sum_ended (b ∷ bs) s k e = sum_ends (b ∷ bs) s k (no_first_byte (b == 32) 32 b bs refl e)
 
-pub writes_ended : (bs : List ℕ) → behind 123 bs ≡ None → EndsWrites bs
+pub writes_ended : (bs : List ℕ) → rest_after 123 bs ≡ None → EndsWrites bs
 writes_ended [] e = tt
 writes_ended (b ∷ bs) e = no_first_byte (b == 123) 123 b bs refl e
 

@@ -281,9 +281,9 @@ begins test [] = false
 begins test (b ∷ bs) = test b
 
 -- what stands behind a byte, where that is the first
-abbrev pub behind : ℕ → List ℕ → Option (List ℕ)
-behind c [] = None
-behind c (b ∷ bs) = cond (b == c) (Some bs) None
+abbrev pub rest_after : ℕ → List ℕ → Option (List ℕ)
+rest_after c [] = None
+rest_after c (b ∷ bs) = cond (b == c) (Some bs) None
 
 -- what a function returned is what is read of all bytes
 abbrev pub IsRead : {X : Type 0} → Owed → (X → TermSyntax) → Result X ReadError → List ℕ → Type 0

@@ -13,7 +13,7 @@ use crate::brackets::is_shallow;
 use crate::fault::ReadError;
 use crate::parts::push_item;
 use crate::scan::{expect, expect_three, word};
-use crate::signs::behind;
+use crate::signs::rest_after;
 use crate::terms::{braced, polynomial, writes};
 use crate::tree::{WrittenArray, WrittenBase, WrittenList, WrittenListBase, WrittenPolynomial};
 use nf_terms::tree::Side;
@@ -121,7 +121,7 @@ fn items<'a>(
     let mut items = Vec::new(alloc);
     let mut rest = bytes;
     loop {
-        match behind(rest, b'{') {
+        match rest_after(rest, b'{') {
             Some(after) => {
                 let (item, after) = braced(alloc, after)?;
                 push_item(&mut items, item)?;

@@ -2,7 +2,7 @@
 
 ghost use Rattle.std.specs.Prelude.{◌≡◌, ◌==◌, ◌||◌, ◌<◌, length, option_map, IfOk, IfSome};
 ghost use Rattle.fs_model.specs.Words.{is_digit};
-ghost use Rattle.term_text.specs.Machine.{ForPolynomial, ForArray, ForAtom, term_reading, begins, behind, Goes, EndsWrites};
+ghost use Rattle.term_text.specs.Machine.{ForPolynomial, ForArray, ForAtom, term_reading, begins, rest_after, Goes, EndsWrites};
 ghost use Rattle.term_text.specs.Machine.{IsNoArray};
 ghost use Rattle.term_text.specs.Machine.{at_polynomial, at_monomial, at_sign, after_array, after_list, after_polynomial};
 ghost use Rattle.term_text.specs.Machine.{atom_done, monomial_of_sum, read_of, dividend, divisor, modulend, modulus, index};
@@ -101,8 +101,8 @@ pub fn open_bracket(bytes: &[u8]) -> Result<&[u8], ReadError>
 
 /// What stands behind a byte, where that is the first.
 #[inline(always)]
-pub fn behind(bytes: &[u8], byte: u8) -> Option<&[u8]>
-    ensures rest { option_map (λ r. r.now) result ≡ behind byte bytes.now }
+pub fn rest_after(bytes: &[u8], byte: u8) -> Option<&[u8]>
+    ensures rest { option_map (λ r. r.now) result ≡ rest_after byte bytes.now }
     ensures shorter { IfSome result (λ r. length r.now < length bytes.now) }
 {
     match bytes {

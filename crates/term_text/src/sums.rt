@@ -28,6 +28,8 @@ fn after_sign<'a>(
 }
 
 /// The first monomial of a polynomial that does not begin with `0`, whether it is taken away, and what follows it.
+///
+/// `BadTerm` comes only where no polynomial begins so: no monomial stands there. `NoMemory` may come at any time.
 #[tactic(auto, using(crate::proofs::Steps::polynomial_starts))]
 pub fn first_term<'a>(
     alloc: Global,
@@ -48,6 +50,8 @@ pub fn first_term<'a>(
 }
 
 /// A monomial that is not the first of a sum, from its sign on: whether it is taken away, and what follows it.
+///
+/// `BadTerm` comes only where no sum goes on so: no sign with a monomial stands there. `NoMemory` may come at any time.
 #[inline(always)]
 pub fn next_term<'a>(
     alloc: Global,

@@ -16,8 +16,8 @@ use crate::parts::{
 };
 use crate::scan::{expect, expect_three, number, word};
 use crate::signs::{
-    begins_with_digit, begins_with_zero_or_minus, behind, close_brace, close_bracket, close_paren,
-    colon, comma, goes_on_as_array, open_bracket, sign,
+    begins_with_digit, begins_with_zero_or_minus, close_brace, close_bracket, close_paren, colon,
+    comma, goes_on_as_array, open_bracket, rest_after, sign,
 };
 use crate::tree::{
     WrittenArray, WrittenAtom, WrittenBase, WrittenHead, WrittenMonomial, WrittenPolynomial,
@@ -113,7 +113,7 @@ pub fn writes<'a>(
     let mut writes = Vec::new(alloc);
     let mut rest = bytes;
     loop {
-        match behind(rest, b'{') {
+        match rest_after(rest, b'{') {
             Some(after) => {
                 let (index, value, after) = write(alloc, after)?;
                 push_write(&mut writes, index, value)?;
@@ -236,7 +236,7 @@ fn atoms<'a>(alloc: Global, bytes: &'a [u8]) -> Result<(Vec<WrittenAtom<'a>>, &'
     let mut atoms = Vec::new(alloc);
     let mut rest = bytes;
     loop {
-        match behind(rest, b'*') {
+        match rest_after(rest, b'*') {
             Some(after) => {
                 let (next, after) = atom(alloc, after)?;
                 push_atom(&mut atoms, next)?;
@@ -297,7 +297,7 @@ fn monomials<'a>(
     let mut monomials = first_of(alloc, minus, first)?;
     let mut rest = bytes;
     loop {
-        match behind(rest, b' ') {
+        match rest_after(rest, b' ') {
             Some(after) => {
                 let (minus, next, after) = further(alloc, after)?;
                 push_monomial(&mut monomials, minus, next)?;
