@@ -1,24 +1,16 @@
 -- What is answered to what is asked.
 use Rattle.std.proofs.Common.{◌≡◌, ◌∙◌, ℕ, zero, suc, ◌+◌, ◌*◌, ◌≤◌, Bool, List, [], ◌∷◌, length, Option, Some, None, refl, sym, subst, arith}
-use Rattle.std.specs.Prelude.{Result, Ok, Err, is_some, option_map}
+use Rattle.std.specs.Prelude.{Result, is_some, option_map}
 use Rattle.fsmd_words.specs.AskedWords.{Asked, Check, Generate, Chain}
 use Rattle.fs_base.specs.Outside.{FilesTold}
 use Rattle.fsmd_replies.specs.declared.answer.Answer.{Answer}
 use Rattle.fsmd_replies.specs.AskedFiles.{in_links, files_of}
-use Rattle.fsmd_answers.specs.declared.refused.Refused.{Refused as Refusal}
-use Rattle.fsmd_answers.specs.declared.refused.Refused.TheVariants as refusal
-use Rattle.fsmd_answers.specs.Refusing.{answer_in}
-use Rattle.fsmd_answers.specs.ComparisonAnswers.{IsOfPair, IsOfLoops}
-use Rattle.fsmd_answers.specs.Links.{links_in, links_of}
-use Rattle.fsmd_answers.specs.Follows.{Ends, OpensMachine, OpensPair, OpensLinks, FollowsFrom}
-use Rattle.fsmd_commands.specs.Calls.{Call, call, IsCorrectInOrder, AnswersBy}
-use Rattle.fsmd_commands.proofs.InOrder.{ended_in_order}
-
--- what the answer that is given meets, or that is in a refusal
-pub in_answer : (P : Answer → Type 0) (r : Result Answer Refusal) (x : Answer) → answer_in r ≡ Some x → AnswersBy P r → P x
-in_answer P (Ok y) x e h = subst P (let k : y ≡ x = cc e in k) h
-in_answer P (Err (refusal.Answered y)) x e h = subst P (let k : y ≡ x = cc e in k) h
-in_answer P (Err refusal.NoMemory) x e h = absurd (let k : None ≡ Some x = e in cc)
+use Rattle.fsmd_machine_commands.specs.MadeAnswers.{Refusal}
+use Rattle.fsmd_machine_commands.specs.ComparisonAnswers.{IsOfPair, IsOfLoops}
+use Rattle.fsmd_machine_commands.specs.Links.{links_in, links_of}
+use Rattle.fsmd_machine_commands.specs.Follows.{Ends, OpensMachine, OpensPair, OpensLinks, FollowsFrom}
+use Rattle.fsmd_machine_commands.specs.Calls.{Call, call, IsCorrectInOrder, AnswersBy}
+use Rattle.fsmd_machine_commands.proofs.InOrder.{ended_in_order}
 
 -- what is answered to what is asked, where that is this
 pub answers_as : (o : Option Asked) (g : Call) (r : Result Answer Refusal) → g.asked ≡ o → AnswersBy (IsCorrectInOrder (FollowsFrom o) 0 g) r

@@ -13,25 +13,25 @@ use Rattle.cert_model.specs.Obligations.{Yes, verdict_on}
 use Rattle.hls_shrink.specs.Chains.{ChainEnds}
 use Rattle.fsmd_replies.specs.declared.answer.Answer.{Answer}
 use Rattle.fsmd_replies.specs.declared.answer.Answer.TheVariants.{Link}
-use Rattle.fsmd_answers.specs.declared.refused.Refused.{Refused as Refusal}
-use Rattle.fsmd_answers.specs.declared.refused.Refused.TheVariants.{Answered}
+use Rattle.fsmd_machine_commands.specs.MadeAnswers.{Refusal, IsAnsweredWith}
 use Rattle.fsmd_replies.specs.Statuses.{status_of}
 use Rattle.fsmd_replies.specs.AskedFiles.{operand}
-use Rattle.fsmd_answers.specs.MachineFiles.{SpellsMachine}
-use Rattle.fsmd_answers.specs.Readings.{Readable, Reading}
-use Rattle.fsmd_answers.specs.Refusals.{RefusesMachine, RefusesPair, RefusesCertificate, SpellsCertificate}
-use Rattle.fsmd_answers.specs.Refusing.{WhereAnswered}
-use Rattle.fsmd_answers.specs.Verdicts.{IsJudged}
-use Rattle.fsmd_answers.specs.Links.{AtLink, link_lines, links_in, links_of, IsOfChain}
-use Rattle.fsmd_answers.specs.Follows.{Opens, Refused, Spelled, ComparesPairs, SameInterface, Judges, Fails, Holds, OpensCertificate, OpensLink, OpensLinks}
-use Rattle.fsmd_answers.proofs.Maps.{answer_map, err_map}
-use Rattle.fsmd_commands.specs.Calls.{Call, call, OnlyRead, LoadsFrom, LoadsAtMost, known_at_start, MayHold, IsCorrectInOrder}
-use Rattle.fsmd_commands.specs.Loading.{GivesContent, NothingFollows, RefusesNext, RefusesLink}
+use Rattle.fsmd_machine_commands.specs.MachineFiles.{SpellsMachine}
+use Rattle.fsmd_machine_commands.specs.Readings.{Readable, Reading}
+use Rattle.fsmd_machine_commands.specs.Refusals.{RefusesMachine, RefusesPair, RefusesCertificate, SpellsCertificate}
+use Rattle.fsmd_machine_commands.specs.Refusing.{WhereAnswered}
+use Rattle.fsmd_machine_commands.specs.Verdicts.{IsJudged}
+use Rattle.fsmd_machine_commands.specs.Links.{AtLink, link_lines, links_in, links_of, IsOfChain}
+use Rattle.fsmd_machine_commands.specs.Follows.{Opens, Refused, Spelled, ComparesPairs, SameInterface, Judges, Fails, Holds}
+use Rattle.fsmd_machine_commands.specs.Follows.{OpensCertificate, OpensLink, OpensLinks}
+use Rattle.fsmd_machine_commands.proofs.Maps.{answer_map, err_map}
+use Rattle.fsmd_machine_commands.specs.Calls.{Call, call, OnlyRead, LoadsFrom, LoadsAtMost, known_at_start, MayHold, IsCorrectInOrder}
+use Rattle.fsmd_machine_commands.specs.Loading.{GivesContent, NothingFollows, RefusesNext, RefusesLink}
 use Rattle.fsmd_commands.specs.HoldingLinks.{LinkHolds}
-use Rattle.fsmd_commands.proofs.FromFiles.{opens_map, pairs_map}
-use Rattle.fsmd_commands.proofs.Later.{read_map, each_since}
-use Rattle.fsmd_commands.proofs.Loads.{loads_none, loads_on, at_most, at_most_on, fewer}
-use Rattle.fsmd_commands.proofs.InOrder.{ended_in_order}
+use Rattle.fsmd_machine_commands.proofs.FromFiles.{opens_map, pairs_map}
+use Rattle.fsmd_machine_commands.proofs.Later.{read_both, read_map, each_since}
+use Rattle.fsmd_machine_commands.proofs.Loads.{loads_none, loads_on, at_most, at_most_on, fewer}
+use Rattle.fsmd_machine_commands.proofs.InOrder.{ended_in_order}
 
 -- ---- the files of a link
 
@@ -106,10 +106,10 @@ module _ (o : Option Asked) (k : ℕ) (last : Fsmd) (P : Fsmd → (file : ℕ) �
       (λ f c e. at (RefusesCertificate last b f c) e) (λ v j s e. absurd e) i q p)) n r h
 
 pub link_refused : (o : Option Asked) (k : ℕ) (last : Fsmd) (P : Fsmd → (file : ℕ) → Reading → Answer → Type 0) (n : ℕ) (g : Call) (e told : Refusal)
-    → WhereAnswered (IsCorrectInOrder (RefusesLink last) n g) e → WhereAnswered (AtLink o k (λ stop. e ≡ Answered stop)) told
+    → WhereAnswered (IsCorrectInOrder (RefusesLink last) n g) e → WhereAnswered (AtLink o k (IsAnsweredWith e)) told
     → WhereAnswered (IsCorrectInOrder (OpensLink o k last P) n g) told
 link_refused o k last P n g e told h t =
-    answer_map (AtLink o k (λ stop. e ≡ Answered stop)) (IsCorrectInOrder (OpensLink o k last P) n g)
+    answer_map (AtLink o k (IsAnsweredWith e)) (IsCorrectInOrder (OpensLink o k last P) n g)
     (λ x l.
     let d : IsCorrectInOrder (RefusesLink last) n g l.stop = subst (WhereAnswered (IsCorrectInOrder (RefusesLink last) n g)) l.meets h in
     record {
@@ -218,13 +218,6 @@ pub record LinksLead (o : Option Asked) (m : Fsmd) (links : ℕ) (old : FilesTol
 
 read_none : (old : FilesTold) → OnlyRead old old
 read_none old = record { counts = λ name. omega arith; store_counts = λ name. omega arith; unchanged = λ name. refl }
-
-read_both : (old mid now : FilesTold) → OnlyRead old mid → OnlyRead mid now → OnlyRead old now
-read_both old mid now r s = record {
-  counts = λ name. omega (arith, r.counts name, s.counts name);
-  store_counts = λ name. omega (arith, r.store_counts name, s.store_counts name);
-  unchanged = λ name. s.unchanged name ∙ r.unchanged name;
-}
 
 module _ (o : Option Asked) (m : Fsmd) (links : ℕ) (old : FilesTold) where
   -- what follows behind the links that hold follows from all

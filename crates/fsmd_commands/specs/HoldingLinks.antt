@@ -6,9 +6,9 @@ use Rattle.cert_bisimulation.specs.Tables.{Node}
 use Rattle.sym_facts.specs.Facts.{Fact}
 use Rattle.cert_model.specs.Obligations.{Yes, verdict_on}
 use Rattle.fsmd_replies.specs.AskedFiles.{operand}
-use Rattle.fsmd_answers.specs.MachineFiles.{SpellsMachine}
-use Rattle.fsmd_answers.specs.Refusals.{SpellsCertificate}
-use Rattle.fsmd_commands.specs.Calls.{Call, known_at_start, MayHold}
+use Rattle.fsmd_machine_commands.specs.MachineFiles.{SpellsMachine}
+use Rattle.fsmd_machine_commands.specs.Refusals.{SpellsCertificate}
+use Rattle.fsmd_machine_commands.specs.Calls.{Call, known_at_start, MayHold}
 
 -- the files of the link that begins with this number spell the next machine, with the same inputs and outputs as the last one,
 -- and a lawful certificate of both, each where it is known what it holds; all its obligations hold, and so does Rest of the next

@@ -1,32 +1,26 @@
-//! What each command answers, from its files.
+//! What the commands of two machines answer, from their files.
 
 ghost use Rattle.std.specs.Prelude.{◌≡◌, None, ◌≤◌, Some};
 ghost use Rattle.fsmd_words.specs.AskedWords.{asked_of_ask};
 ghost use Rattle.fs_pair.specs.Interfaces.{interface_fault};
 ghost use Rattle.fs_pair.specs.Positions.{positions};
-ghost use Rattle.fs_write.specs.Canonical.{canonical};
-ghost use Rattle.fs_path_text.specs.PathTexts.{paths_text};
-ghost use Rattle.fsmd_replies.specs.declared.answer.Answer.TheVariants.{Text};
-ghost use Rattle.fsmd_answers.specs.ComparisonAnswers.{IsOfPair};
-ghost use Rattle.fsmd_answers.specs.Verdicts.{IsJudged};
-ghost use Rattle.fsmd_answers.specs.RunAnswers.{IsOfRun};
-ghost use Rattle.fsmd_answers.specs.Replays.{IsOfReplay};
-ghost use Rattle.fsmd_answers.specs.Follows.{Ends, OpensPair, OpensMachine, OpensParts, OpensInputs, OpensCertificate};
-ghost use Rattle.fsmd_commands.specs.Calls.{call, OnlyRead, LoadsAtMost, IsCorrectInOrder, AnswersBy};
+ghost use Rattle.fsmd_machine_commands.specs.ComparisonAnswers.{IsOfPair};
+ghost use Rattle.fsmd_machine_commands.specs.Verdicts.{IsJudged};
+ghost use Rattle.fsmd_machine_commands.specs.Replays.{IsOfReplay};
+ghost use Rattle.fsmd_machine_commands.specs.Follows.{Ends, OpensPair, OpensInputs, OpensCertificate};
+ghost use Rattle.fsmd_machine_commands.specs.Calls.{call, OnlyRead, LoadsAtMost, IsCorrectInOrder, AnswersBy};
 
-use crate::load::{load, load_certificate, load_inputs, load_machine};
-use crate::pair::{Pair, load_pair};
 use fs_ast::machine::Machine;
 use fs_base::outside::Files;
 use fs_pair::positions::Pairing;
-use fs_path_text::paths::list_paths;
-use fs_write::write_parts;
-use fsmd_answers::compare::compare;
-use fsmd_answers::judge::judge;
-use fsmd_answers::reading::Loaded;
-use fsmd_answers::refused::Refused;
-use fsmd_answers::runs::{replay_machines, run_machine};
-use fsmd_replies::answer::{Answer, Lines, Operand};
+use fsmd_machine_commands::compare::compare;
+use fsmd_machine_commands::judge::judge;
+use fsmd_machine_commands::load::{load_certificate, load_inputs};
+use fsmd_machine_commands::memory::made_answer;
+use fsmd_machine_commands::pair::{Pair, load_pair};
+use fsmd_machine_commands::refused::Refused;
+use fsmd_machine_commands::runs::replay_machines;
+use fsmd_replies::answer::{Answer, Operand};
 use fsmd_words::asking::Ask;
 use std::alloc::Global;
 
@@ -45,12 +39,17 @@ pub fn check<F: Files>(
     ensures only_read { OnlyRead (F.told files.old) (F.told files.new) }
     ensures at_most { LoadsAtMost (Some (asked_of_ask ask.now)) 0 2 (F.told files.old) (F.told files.new) }
 {
-    let Pair {
-        left,
-        right,
-        pairing,
-    } = load_pair(alloc, ask, files)?;
-    Ok(compare(alloc, &left, &right, &pairing, steps, keeps)?)
+    match load_pair(alloc, ask, files) {
+        Ok(pair) => {
+            let Pair {
+                left,
+                right,
+                pairing,
+            } = &pair;
+            made_answer(compare(alloc, left, right, pairing, steps, keeps))
+        }
+        Err(refused) => Err(refused),
+    }
 }
 
 // What a certificate of two machines answers to the file that spells it.
@@ -70,8 +69,10 @@ fn verify_from<F: Files>(
     ensures only_read { OnlyRead (F.told files.old) (F.told files.new) }
     ensures at_most { LoadsAtMost (Some (asked_of_ask ask.now)) 2 1 (F.told files.old) (F.told files.new) }
 {
-    let cert = load_certificate(alloc, Operand(2), ask, left, right, pairing, files)?;
-    Ok(judge(alloc, left, right, pairing, &cert)?)
+    match load_certificate(alloc, Operand(2), ask, left, right, pairing, files) {
+        Ok(cert) => made_answer(judge(alloc, left, right, pairing, &cert)),
+        Err(refused) => Err(refused),
+    }
 }
 
 /// What `verify` answers: whether a certificate shows that two machines have the same behaviour.
@@ -81,75 +82,10 @@ pub fn verify_files<F: Files>(alloc: Global, ask: &Ask, files: &mut F) -> Result
     ensures only_read { OnlyRead (F.told files.old) (F.told files.new) }
     ensures at_most { LoadsAtMost (Some (asked_of_ask ask.now)) 0 3 (F.told files.old) (F.told files.new) }
 {
-    let Pair {
-        left,
-        right,
-        pairing,
-    } = load_pair(alloc, ask, files)?;
-    verify_from(alloc, ask, &left, &right, &pairing, files)
-}
-
-/// What `fmt` answers: the canonical text of a machine.
-pub fn format_text<F: Files>(alloc: Global, ask: &Ask, files: &mut F) -> Result<Answer, Refused>
-    ensures answers { AnswersBy (IsCorrectInOrder (OpensParts (λ parts. Ends (λ answer. answer ≡ Text (canonical parts)))) 0
-        (call (Some (asked_of_ask ask.now)) (F.told files.old) (F.told files.new))) result }
-    ensures only_read { OnlyRead (F.told files.old) (F.told files.new) }
-    ensures at_most { LoadsAtMost (Some (asked_of_ask ask.now)) 0 1 (F.told files.old) (F.told files.new) }
-{
-    let Loaded { parts, .. } = load(alloc, Operand(0), ask, files)?;
-    match write_parts(alloc, &parts) {
-        Ok(text) => Ok(Answer::Text {
-            lines: Lines::of(text),
-        }),
-        Err(_) => Err(Refused::NoMemory),
+    match load_pair(alloc, ask, files) {
+        Ok(pair) => verify_from(alloc, ask, &pair.left, &pair.right, &pair.pairing, files),
+        Err(refused) => Err(refused),
     }
-}
-
-/// What `cuts` answers: the paths of a machine.
-pub fn cut_paths<F: Files>(alloc: Global, ask: &Ask, files: &mut F) -> Result<Answer, Refused>
-    ensures answers { AnswersBy (IsCorrectInOrder (OpensMachine (λ m. Ends (λ answer. answer ≡ Text (paths_text m)))) 0
-        (call (Some (asked_of_ask ask.now)) (F.told files.old) (F.told files.new))) result }
-    ensures only_read { OnlyRead (F.told files.old) (F.told files.new) }
-    ensures at_most { LoadsAtMost (Some (asked_of_ask ask.now)) 0 1 (F.told files.old) (F.told files.new) }
-{
-    let machine = load_machine(alloc, Operand(0), ask, files)?;
-    let lines = Lines::of(list_paths(alloc, &machine)?);
-    Ok(Answer::Text { lines })
-}
-
-// What a run of a machine answers to the file of its inputs.
-fn run_from<F: Files>(
-    alloc: Global,
-    ask: &Ask,
-    machine: &Machine,
-    steps: u64,
-    files: &mut F,
-) -> Result<Answer, Refused>
-    requires { 1 ≤ steps }
-    ensures answers { AnswersBy (IsCorrectInOrder (OpensInputs machine.now (λ ins. Ends (IsOfRun steps machine.now ins))) 1
-        (call (Some (asked_of_ask ask.now)) (F.told files.old) (F.told files.new))) result }
-    ensures only_read { OnlyRead (F.told files.old) (F.told files.new) }
-    ensures at_most { LoadsAtMost (Some (asked_of_ask ask.now)) 1 1 (F.told files.old) (F.told files.new) }
-{
-    let inputs = load_inputs(alloc, Operand(1), ask, machine, files)?;
-    Ok(run_machine(alloc, machine, &inputs, steps)?)
-}
-
-/// What `run` answers: the end of a machine's run of at most so many steps, or why it has none.
-pub fn run_files<F: Files>(
-    alloc: Global,
-    ask: &Ask,
-    steps: u64,
-    files: &mut F,
-) -> Result<Answer, Refused>
-    requires { 1 ≤ steps }
-    ensures answers { AnswersBy (IsCorrectInOrder (OpensMachine (λ m. OpensInputs m (λ ins. Ends (IsOfRun steps m ins)))) 0
-        (call (Some (asked_of_ask ask.now)) (F.told files.old) (F.told files.new))) result }
-    ensures only_read { OnlyRead (F.told files.old) (F.told files.new) }
-    ensures at_most { LoadsAtMost (Some (asked_of_ask ask.now)) 0 2 (F.told files.old) (F.told files.new) }
-{
-    let machine = load_machine(alloc, Operand(0), ask, files)?;
-    run_from(alloc, ask, &machine, steps, files)
 }
 
 // What runs of two machines with the same interface answer to the file of their inputs.
@@ -168,8 +104,10 @@ fn replay_from<F: Files>(
     ensures only_read { OnlyRead (F.told files.old) (F.told files.new) }
     ensures at_most { LoadsAtMost (Some (asked_of_ask ask.now)) 2 1 (F.told files.old) (F.told files.new) }
 {
-    let inputs = load_inputs(alloc, Operand(2), ask, left, files)?;
-    Ok(replay_machines(alloc, left, right, &inputs, steps)?)
+    match load_inputs(alloc, Operand(2), ask, left, files) {
+        Ok(inputs) => made_answer(replay_machines(alloc, left, right, &inputs, steps)),
+        Err(refused) => Err(refused),
+    }
 }
 
 /// What `replay` answers: the ends of two machines' runs of at most so many steps from the same inputs.
@@ -185,6 +123,8 @@ pub fn replay_files<F: Files>(
     ensures only_read { OnlyRead (F.told files.old) (F.told files.new) }
     ensures at_most { LoadsAtMost (Some (asked_of_ask ask.now)) 0 3 (F.told files.old) (F.told files.new) }
 {
-    let Pair { left, right, .. } = load_pair(alloc, ask, files)?;
-    replay_from(alloc, ask, &left, &right, steps, files)
+    match load_pair(alloc, ask, files) {
+        Ok(pair) => replay_from(alloc, ask, &pair.left, &pair.right, steps, files),
+        Err(refused) => Err(refused),
+    }
 }

@@ -8,23 +8,24 @@ ghost use Rattle.fs_pair.specs.Interfaces.{interface_fault};
 ghost use Rattle.fs_pair.specs.Positions.{positions};
 ghost use Rattle.cert_model.specs.View.{node_of};
 ghost use Rattle.fsmd_replies.specs.AskedFiles.{operand, file_word_of};
-ghost use Rattle.fsmd_answers.specs.MachineFiles.{SpellsMachine};
-ghost use Rattle.fsmd_answers.specs.Refusals.{SpellsCertificate};
-ghost use Rattle.fsmd_answers.specs.Refusing.{WhereAnswered};
-ghost use Rattle.fsmd_answers.specs.Links.{links_of};
-ghost use Rattle.fsmd_answers.specs.Follows.{OpensMachine, OpensLink, OpensLinks};
-ghost use Rattle.fsmd_commands.specs.Calls.{call, OnlyRead, LoadsFrom, LoadsAtMost, MayHold, IsCorrectInOrder, AnswersBy};
-ghost use Rattle.fsmd_commands.specs.Loading.{NothingFollows, RefusesLink};
+ghost use Rattle.fsmd_machine_commands.specs.MachineFiles.{SpellsMachine};
+ghost use Rattle.fsmd_machine_commands.specs.Refusals.{SpellsCertificate};
+ghost use Rattle.fsmd_machine_commands.specs.Refusing.{WhereAnswered};
+ghost use Rattle.fsmd_machine_commands.specs.Links.{links_of};
+ghost use Rattle.fsmd_machine_commands.specs.Follows.{OpensMachine, OpensLink, OpensLinks};
+ghost use Rattle.fsmd_machine_commands.specs.Calls.{call, OnlyRead, LoadsFrom, LoadsAtMost, MayHold, IsCorrectInOrder, AnswersBy};
+ghost use Rattle.fsmd_machine_commands.specs.Loading.{NothingFollows, RefusesLink};
 ghost use Rattle.fsmd_commands.specs.HoldingLinks.{LinkHolds};
 
-use crate::load::{load_certificate, load_machine};
-use crate::pair::{Next, load_next};
 use cert_model::cert::Cert;
 use fs_ast::machine::Machine;
 use fs_base::outside::Files;
 use fs_pair::positions::Pairing;
-use fsmd_answers::links::{add_link, at_link, chain_answer};
-use fsmd_answers::refused::Refused;
+use fsmd_machine_commands::links::{add_link, at_link, chain_answer};
+use fsmd_machine_commands::load::{load_certificate, load_machine};
+use fsmd_machine_commands::memory::made_answer;
+use fsmd_machine_commands::pair::{Next, load_next};
+use fsmd_machine_commands::refused::Refused;
 use fsmd_replies::answer::{Answer, Operand};
 use fsmd_words::asking::Ask;
 use hls_shrink::Chain;
@@ -99,16 +100,17 @@ fn add_next<F: Files>(
     ensures loads { OnOk result (LoadsFrom (Some (asked_of_ask ask.now)) (2 * held + 1) 2 (F.told files.old) (F.told files.new)) }
     ensures at_most { LoadsAtMost (Some (asked_of_ask ask.now)) (2 * held + 1) 2 (F.told files.old) (F.told files.new) }
 {
-    let link = match load_link(alloc, 2 * held + 1, ask, chain.last(), files) {
-        Ok(link) => link,
-        Err(refused) => return Err(at_link(alloc, ask, held + 1, refused)),
-    };
-    let Link {
-        machine,
-        pairing,
-        cert,
-    } = link;
-    add_link(alloc, ask, held + 1, chain, machine, &pairing, &cert)
+    match load_link(alloc, 2 * held + 1, ask, chain.last(), files) {
+        Ok(link) => {
+            let Link {
+                machine,
+                pairing,
+                cert,
+            } = link;
+            add_link(alloc, ask, held + 1, chain, machine, &pairing, &cert)
+        }
+        Err(refused) => Err(at_link(alloc, ask, held + 1, refused)),
+    }
 }
 
 // A chain of one machine. The one refusal is out of memory.
@@ -140,7 +142,7 @@ fn links_from<F: Files>(
     for held in 0..links {
         chain = add_next(alloc, ask, held, chain, files)?;
     }
-    Ok(chain_answer(alloc, &chain, links)?)
+    made_answer(chain_answer(alloc, &chain, links))
 }
 
 // How many links the words of a chain name behind its first machine.
@@ -168,6 +170,8 @@ pub fn chain_files<F: Files>(
     ensures at_most { LoadsAtMost (Some (asked_of_ask ask.now)) 0 (1 + 2 * links_of (map string_bytes words.now))
         (F.told files.old) (F.told files.new) }
 {
-    let first = load_machine(alloc, Operand(0), ask, files)?;
-    links_from(alloc, ask, first, link_count(words), files)
+    match load_machine(alloc, Operand(0), ask, files) {
+        Ok(first) => links_from(alloc, ask, first, link_count(words), files),
+        Err(refused) => Err(refused),
+    }
 }

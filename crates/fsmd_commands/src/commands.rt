@@ -2,16 +2,18 @@
 
 ghost use Rattle.std.specs.Prelude.{Some};
 ghost use Rattle.fsmd_words.specs.AskedWords.{IsWithinLimits, asked_of_ask};
-ghost use Rattle.fsmd_answers.specs.Follows.{FollowsFrom};
-ghost use Rattle.fsmd_commands.specs.Calls.{call, OnlyRead, LoadsNamed, IsCorrectInOrder, AnswersBy};
+ghost use Rattle.fsmd_machine_commands.specs.Follows.{FollowsFrom};
+ghost use Rattle.fsmd_machine_commands.specs.Calls.{call, OnlyRead, LoadsNamed, IsCorrectInOrder, AnswersBy};
 
-use crate::answers::{check, cut_paths, format_text, replay_files, run_files, verify_files};
+use crate::answers::{check, replay_files, verify_files};
 use crate::chain::chain_files;
 use crate::shrink::shrink_files;
-use crate::synthesis::{bind_files, compile_file, schedule_files};
 use fs_base::outside::Files;
-use fsmd_answers::generated::compare_generated;
-use fsmd_answers::refused::Refused;
+use fsmd_machine_commands::generated::compare_generated;
+use fsmd_machine_commands::machine::{cut_paths, format_text, run_files};
+use fsmd_machine_commands::memory::made_answer;
+use fsmd_machine_commands::refused::Refused;
+use fsmd_machine_commands::synthesis::{bind_files, compile_file, schedule_files};
 use fsmd_replies::answer::Answer;
 use fsmd_words::asking::Ask;
 use std::alloc::Global;
@@ -35,7 +37,7 @@ pub fn answer_command<F: Files>(alloc: Global, ask: &Ask, files: &mut F) -> Resu
         Ask::Replay { steps, .. } => replay_files(alloc, ask, *steps, files),
         Ask::Fmt { .. } => format_text(alloc, ask, files),
         Ask::Cuts { .. } => cut_paths(alloc, ask, files),
-        Ask::Generate { n } => Ok(compare_generated(alloc, *n)?),
+        Ask::Generate { n } => made_answer(compare_generated(alloc, *n)),
         Ask::Compile { .. } => compile_file(alloc, ask, files),
         Ask::Schedule { .. } => schedule_files(alloc, ask, files),
         Ask::Bind { .. } => bind_files(alloc, ask, files),

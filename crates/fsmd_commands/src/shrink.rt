@@ -4,15 +4,16 @@ ghost use Rattle.std.specs.Prelude.{◌≡◌, ◌≤◌, IsTrue, None, Some};
 ghost use Rattle.fsmd_words.specs.AskedWords.{asked_of_ask};
 ghost use Rattle.fs_pair.specs.Interfaces.{interface_fault};
 ghost use Rattle.hls_shrink.specs.Given.{has_no_input_port};
-ghost use Rattle.fsmd_answers.specs.Shrinks.{IsOfShrink};
-ghost use Rattle.fsmd_answers.specs.Follows.{Ends, OpensPair, OpensInputs};
-ghost use Rattle.fsmd_commands.specs.Calls.{call, OnlyRead, LoadsAtMost, IsCorrectInOrder, AnswersBy};
+ghost use Rattle.fsmd_machine_commands.specs.Shrinks.{IsOfShrink};
+ghost use Rattle.fsmd_machine_commands.specs.Follows.{Ends, OpensPair, OpensInputs};
+ghost use Rattle.fsmd_machine_commands.specs.Calls.{call, OnlyRead, LoadsAtMost, IsCorrectInOrder, AnswersBy};
 
-use crate::load::load_inputs;
-use crate::pair::{Pair, load_pair};
 use fs_base::outside::Files;
-use fsmd_answers::refused::Refused;
-use fsmd_answers::shrinks::shrink_inputs;
+use fsmd_machine_commands::load::load_inputs;
+use fsmd_machine_commands::memory::made_answer;
+use fsmd_machine_commands::pair::{Pair, load_pair};
+use fsmd_machine_commands::refused::Refused;
+use fsmd_machine_commands::shrinks::shrink_inputs;
 use fsmd_replies::answer::{Answer, Operand};
 use fsmd_words::asking::Ask;
 use std::alloc::Global;
@@ -39,8 +40,10 @@ fn shrink_from<F: Files>(
         right,
         pairing,
     } = pair;
-    let inputs = load_inputs(alloc, Operand(2), ask, left, files)?;
-    Ok(shrink_inputs(alloc, left, right, pairing, &inputs, steps)?)
+    match load_inputs(alloc, Operand(2), ask, left, files) {
+        Ok(inputs) => made_answer(shrink_inputs(alloc, left, right, pairing, &inputs, steps)),
+        Err(refused) => Err(refused),
+    }
 }
 
 /// What `shrink` answers: small inputs that still show a difference of two machines within so many steps, where those of the file
@@ -57,6 +60,8 @@ pub fn shrink_files<F: Files>(
     ensures only_read { OnlyRead (F.told files.old) (F.told files.new) }
     ensures at_most { LoadsAtMost (Some (asked_of_ask ask.now)) 0 3 (F.told files.old) (F.told files.new) }
 {
-    let pair = load_pair(alloc, ask, files)?;
-    shrink_from(alloc, ask, &pair, steps, files)
+    match load_pair(alloc, ask, files) {
+        Ok(pair) => shrink_from(alloc, ask, &pair, steps, files),
+        Err(refused) => Err(refused),
+    }
 }

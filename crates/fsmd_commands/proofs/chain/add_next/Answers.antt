@@ -2,7 +2,7 @@ use Rattle.std.proofs.Common.{◌+◌, ◌*◌, Some}
 use Rattle.std.specs.Prelude.{map}
 use Rattle.fsmd_words.specs.AskedWords.{asked_of_ask}
 use Rattle.cert_model.specs.View.{node_of}
-use Rattle.fsmd_commands.specs.Loading.{NothingFollows}
+use Rattle.fsmd_machine_commands.specs.Loading.{NothingFollows}
 use Rattle.fsmd_commands.proofs.Linked.{link_refused, link_made, link_unmade}
 use Rattle.fsmd_commands.proofs.chain.add_next.Goals as goal
 
@@ -21,14 +21,14 @@ add_link-requires-clause-interface g c = rw c.last.ensures.last at c.in-Ok.ensur
 pub add_link-requires-clause-lawful : goal.add_link-requires-clause-lawful
 add_link-requires-clause-lawful g c = rw c.last.ensures.last at c.in-Ok.ensures.certificate.meet.lawful
 
-pub returns-clause-holds : goal.returns-clause-holds
-returns-clause-holds g c =
+pub returns-in-Ok-clause-holds : goal.returns-in-Ok-clause-holds
+returns-in-Ok-clause-holds g c =
     link_made (2 * c.args.held + 1) _ c.args.chain.last c.last.result.now c.in-Ok.link.machine (map node_of c.in-Ok.link.cert.nodes.items)
     c.last.ensures.last c.in-Ok.ensures.spells c.in-Ok.ensures.alike c.in-Ok.ensures.certificate
     c.add_link.result c.add_link.ensures.holds c.add_link.ensures.last
 
-pub returns-clause-refused : goal.returns-clause-refused
-returns-clause-refused g c =
+pub returns-in-Ok-clause-refused : goal.returns-in-Ok-clause-refused
+returns-in-Ok-clause-refused g c =
     link_unmade (Some (asked_of_ask c.args.ask.now)) (c.args.held + 1) (2 * c.args.held + 1) _ c.args.chain.last c.last.result.now c.in-Ok.link.machine
     (map node_of c.in-Ok.link.cert.nodes.items) c.last.ensures.last c.in-Ok.ensures.spells c.in-Ok.ensures.alike c.in-Ok.ensures.certificate
     c.in-Ok.ensures.loads c.add_link.result c.add_link.ensures.fails

@@ -1,9 +1,11 @@
 use Rattle.std.proofs.Common.{◌≡◌, Some, rules, arith}
 use Rattle.fsmd_words.specs.AskedWords.{asked_of_ask}
-use Rattle.fsmd_answers.specs.Refusing.{WhereAnswered}
-use Rattle.fsmd_answers.specs.Follows.{OpensLinks}
-use Rattle.fsmd_commands.specs.Calls.{call, IsCorrectInOrder}
-use Rattle.fsmd_commands.proofs.Loads.{at_most_none}
+use Rattle.fsmd_machine_commands.specs.Refusing.{WhereAnswered}
+use Rattle.fsmd_machine_commands.specs.Links.{IsOfChain}
+use Rattle.fsmd_machine_commands.specs.Follows.{OpensLinks}
+use Rattle.fsmd_machine_commands.specs.Calls.{call, IsCorrectInOrder}
+use Rattle.fsmd_machine_commands.proofs.InOrder.{made_answers}
+use Rattle.fsmd_machine_commands.proofs.Loads.{at_most_none}
 use Rattle.fsmd_commands.proofs.Linked.{links_begin, links_next, links_stop, links_end, links_most, links_most_on}
 use Rattle.fsmd_commands.proofs.chain.links_from.Goals as goal
 
@@ -31,9 +33,11 @@ returns-in_err-chain-2-clause-answers g c =
 pub returns-clause-answers : goal.returns-clause-answers
 returns-clause-answers g c =
     let all : c.loop-held.held ≡ c.args.links = omega (arith, c.loop-held-test.false, c.loop-held.invariant.count) in
-    links_end (Some (asked_of_ask c.args.ask.now)) c.args.first c.args.links (g.F.Files.told c.args.files.now)
+    made_answers (IsOfChain c.loop-held.chain.first c.loop-held.chain.last c.args.links)
+    (IsCorrectInOrder (OpensLinks (Some (asked_of_ask c.args.ask.now)) c.args.first c.args.first 0 c.args.links) 1 _)
+    (links_end (Some (asked_of_ask c.args.ask.now)) c.args.first c.args.links (g.F.Files.told c.args.files.now)
     c.loop-held.chain.first c.loop-held.chain.last c.loop-held.held (g.F.Files.told c.loop-held.files)
-    c.loop-held.invariant all _ c.in_ok-chain_answer.ensures
+    c.loop-held.invariant all) c.chain_answer.result c.made_answer.result c.made_answer.ensures c.chain_answer.ensures
 
 pub returns-in_err-chain-clause-at_most : goal.returns-in_err-chain-clause-at_most
 returns-in_err-chain-clause-at_most g c = at_most_none _ 1 _ _
@@ -43,10 +47,6 @@ returns-in_err-chain-2-clause-at_most g c =
     links_most_on (Some (asked_of_ask c.args.ask.now)) c.args.first c.args.links (g.F.Files.told c.args.files.now)
     c.loop-held.chain.first c.loop-held.chain.last c.loop-held.held (g.F.Files.told c.loop-held.files) c.loop-held.invariant
     c.loop-held-test.true _ c.add_next.ensures.at_most
-
-pub returns-in_err-chain_answer-clause-at_most : goal.returns-in_err-chain_answer-clause-at_most
-returns-in_err-chain_answer-clause-at_most g c = links_most (Some (asked_of_ask c.args.ask.now)) c.args.first c.args.links (g.F.Files.told c.args.files.now)
-    c.loop-held.chain.first c.loop-held.chain.last c.loop-held.held (g.F.Files.told c.loop-held.files) c.loop-held.invariant
 
 pub returns-clause-at_most : goal.returns-clause-at_most
 returns-clause-at_most g c = links_most (Some (asked_of_ask c.args.ask.now)) c.args.first c.args.links (g.F.Files.told c.args.files.now)

@@ -1,9 +1,10 @@
 use Rattle.std.proofs.Common.{◌+◌, rules, Some, refl, arith}
 use Rattle.fsmd_words.specs.AskedWords.{asked_of_ask}
-use Rattle.fsmd_answers.specs.Refusing.{WhereAnswered}
-use Rattle.fsmd_commands.specs.Calls.{call, IsCorrectInOrder}
-use Rattle.fsmd_commands.specs.Loading.{RefusesLink}
-use Rattle.fsmd_commands.proofs.Loads.{loads_on, at_most_on, fewer}
+use Rattle.fsmd_machine_commands.specs.Refusing.{WhereAnswered}
+use Rattle.fsmd_machine_commands.specs.Calls.{call, IsCorrectInOrder}
+use Rattle.fsmd_machine_commands.specs.Loading.{RefusesLink}
+use Rattle.fsmd_machine_commands.proofs.Later.{read_both}
+use Rattle.fsmd_machine_commands.proofs.Loads.{loads_on, at_most_on, fewer}
 use Rattle.fsmd_commands.proofs.Linked.{next_refused_as, certificate_refused}
 use Rattle.fsmd_commands.proofs.chain.load_link.Goals as goal
 
@@ -37,3 +38,9 @@ returns-clause-at_most g c =
 pub returns-clause-loads : goal.returns-clause-loads
 returns-clause-loads g c =
     loads_on _ c.args.file 1 1 (c.args.file + 1) 2 _ _ _ refl (omega arith) c.load_next.ensures.loads c.load_certificate.ensures.loads
+
+pub returns-in_err-cert-clause-only_read : goal.returns-in_err-cert-clause-only_read
+returns-in_err-cert-clause-only_read g c = read_both _ _ _ c.load_next.ensures.only_read c.load_certificate.ensures.only_read
+
+pub returns-clause-only_read : goal.returns-clause-only_read
+returns-clause-only_read g c = read_both _ _ _ c.load_next.ensures.only_read c.load_certificate.ensures.only_read

@@ -2,7 +2,11 @@ use Rattle.std.proofs.Common.{◌∙◌, ap, sym, map, length, List, Some, Strin
 use Rattle.std.proofs.lemmas.List.{length-map}
 use Rattle.fsmd_words.specs.declared.asking.Ask.{Ask}
 use Rattle.fsmd_words.specs.AskedWords.{asked_of_ask, Chain}
-use Rattle.fsmd_commands.proofs.Loads.{at_most_none, loads_named}
+use Rattle.fsmd_machine_commands.specs.ComparisonAnswers.{IsOfLoops}
+use Rattle.fsmd_machine_commands.specs.Follows.{FollowsFrom}
+use Rattle.fsmd_machine_commands.specs.Calls.{IsCorrectInOrder}
+use Rattle.fsmd_machine_commands.proofs.InOrder.{made_answers}
+use Rattle.fsmd_machine_commands.proofs.Loads.{at_most_none, loads_named}
 use Rattle.fsmd_commands.proofs.Answering.{answers_as, check_answers, of_loops, chain_answers, enough}
 use Rattle.fsmd_commands.proofs.commands.answer_command.Goals as goal
 
@@ -11,9 +15,12 @@ returns-in-Check-clause-answers g c =
     check_answers _ _ string_bytes c.in-Check.cert c.in-Check.steps c.is_some.result _ c.check.result (ap (λ (k : Ask). Some (asked_of_ask k)) c.in-Check.is)
     c.is_some.ensures c.check.ensures.answers
 
-pub returns-in_ok-compare_generated-in-Generate-clause-answers : goal.returns-in_ok-compare_generated-in-Generate-clause-answers
-returns-in_ok-compare_generated-in-Generate-clause-answers g c =
-    of_loops _ _ c.in-Generate.n _ (ap (λ (k : Ask). Some (asked_of_ask k)) c.in-Generate.is) c.in_ok-compare_generated-in-Generate.ensures
+pub returns-in-Generate-clause-answers : goal.returns-in-Generate-clause-answers
+returns-in-Generate-clause-answers g c =
+    let asked = Some (asked_of_ask c.args.ask.now) in
+    made_answers (IsOfLoops c.in-Generate.n) (IsCorrectInOrder (FollowsFrom asked) 0 _)
+    (λ x p. of_loops asked _ c.in-Generate.n x (ap (λ (k : Ask). Some (asked_of_ask k)) c.in-Generate.is) p)
+    c.compare_generated.result c.made_answer.result c.made_answer.ensures c.compare_generated.ensures
 
 pub returns-in-Verify-clause-answers : goal.returns-in-Verify-clause-answers
 returns-in-Verify-clause-answers g c = answers_as _ _ c.verify_files.result
@@ -86,11 +93,8 @@ returns-in-Bind-clause-loads g c = loads_named _ _ 2 _ _ (ap (λ (k : Ask). Some
 pub returns-in-Shrink-clause-loads : goal.returns-in-Shrink-clause-loads
 returns-in-Shrink-clause-loads g c = loads_named _ _ 3 _ _ (ap (λ (k : Ask). Some (asked_of_ask k)) c.in-Shrink.is) (omega arith) c.shrink_files.ensures.at_most
 
-pub returns-in_err-compare_generated-in-Generate-clause-loads : goal.returns-in_err-compare_generated-in-Generate-clause-loads
-returns-in_err-compare_generated-in-Generate-clause-loads g c = at_most_none _ 0 _ _
-
-pub returns-in_ok-compare_generated-in-Generate-clause-loads : goal.returns-in_ok-compare_generated-in-Generate-clause-loads
-returns-in_ok-compare_generated-in-Generate-clause-loads g c = at_most_none _ 0 _ _
+pub returns-in-Generate-clause-loads : goal.returns-in-Generate-clause-loads
+returns-in-Generate-clause-loads g c = at_most_none _ 0 _ _
 
 pub returns-in-Chain-clause-loads : goal.returns-in-Chain-clause-loads
 returns-in-Chain-clause-loads g c =

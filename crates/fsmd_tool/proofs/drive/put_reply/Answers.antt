@@ -4,7 +4,7 @@ use Rattle.fsmd_commands.specs.Follows.{FollowsFrom}
 use Rattle.fsmd_commands.specs.Calls.{call, IsCorrectInOrder}
 use Rattle.fsmd_tool.specs.SinkReplies.{put_between}
 use Rattle.fsmd_tool.specs.CertificateStores.{NoneWritten}
-use Rattle.fsmd_commands.proofs.Answering.{in_answer}
+use Rattle.fsmd_commands.proofs.InOrder.{in_answer}
 use Rattle.fsmd_commands.proofs.Loads.{at_most_none}
 use Rattle.fsmd_tool.proofs.Putting.{answered, keeps, unwritten, answers_usage, to_words, keeps_to_words, unwritten_to_words, on_err}
 use Rattle.fsmd_tool.proofs.drive.put_reply.Goals as goal

@@ -2,7 +2,7 @@ use Rattle.std.proofs.Common.{map, string_bytes, sym, subst, Some}
 use Rattle.std.specs.Prelude.{IfOk}
 use Rattle.fsmd_tool.specs.Calls.{call, IsCorrectFrom}
 use Rattle.fsmd_tool.specs.SinkReplies.{put_between}
-use Rattle.fsmd_tool.proofs.Answering.{in_answer}
+use Rattle.fsmd_tool.proofs.InOrder.{in_answer}
 use Rattle.show_words.specs.ViewWords as words
 use Rattle.show_tool.specs.Views.{ShownFrom}
 use Rattle.show_tool.specs.ViewCalls.{PutsOf}

@@ -1,0 +1,11 @@
+pub mod FromFiles
+pub mod Later
+pub mod Loads
+pub mod InOrder
+pub use Rattle.fsmd_answers.proofs.Alike
+pub use Rattle.fsmd_answers.proofs.Behaviour
+pub use Rattle.fsmd_answers.proofs.Interfaces
+pub use Rattle.fsmd_answers.proofs.Loops
+pub use Rattle.fsmd_answers.proofs.Maps
+pub use Rattle.fsmd_answers.proofs.Once
+pub use Rattle.fsmd_answers.proofs.Ports
