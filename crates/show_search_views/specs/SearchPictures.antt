@@ -66,6 +66,12 @@ search_picture m marks moves =
     graph_text (table_node_lines m marks 0 (with_turns (positions_of m) m (first_table m) moves)
     ++ turns_edges (positions_of m) m (first_table m) moves)
 
+-- nodes stand out at which the search of two machines stops
+pub record AreMarks (m : MachinePair) (marks : List ℕ) : Type 0 where
+  pub outcome : Outcome
+  pub searched : IsSearchOutcome m outcome
+  pub are : marks ≡ marks_of outcome
+
 -- a legal list of moves is shown, and where the search stops stands out
 pub record IsPicture (m : MachinePair) (text : List ℕ) : Type 0 where
   pub outcome : Outcome

@@ -8,7 +8,7 @@ ghost use Rattle.search_tables.specs.SearchTables.{machines};
 ghost use Rattle.search_tables.specs.View.{table_in};
 ghost use Rattle.show_dot_text.specs.DotLines.{graph_text};
 ghost use Rattle.show_move_lines.specs.View.{side_machines};
-ghost use Rattle.show_search_views.specs.SearchPictures.{table_node_lines, search_picture, IsPicture};
+ghost use Rattle.show_search_views.specs.SearchPictures.{table_node_lines, search_picture, AreMarks, IsPicture};
 
 use crate::edges::draw_moves;
 use crate::marks::marks_of;
@@ -80,6 +80,37 @@ fn draw_with<'a>(
     draw(alloc, &sides, marks, moves)
 }
 
+// The nodes at which the search of two machines stops.
+fn search_marks(alloc: Global, a: &Machine, b: &Machine, p: &Pairing) -> Result<Vec<u32>, NoMemory>
+    requires paired { p.now ≡ positions a.now b.now }
+    requires interface { interface_fault a.now b.now ≡ None }
+    ensures { IfOk result (λ marks. AreMarks (machines a.now b.now) marks.items) }
+{
+    let outcome = search(alloc, a, b, p)?;
+    marks_of(alloc, &outcome)
+}
+
+// As `search_picture`, over the covers of the machines, with the nodes at which their search stops.
+fn picture_with(
+    alloc: Global,
+    a: &Machine,
+    b: &Machine,
+    p: &Pairing,
+    ca: &Cover,
+    cb: &Cover,
+    marks: &[u32],
+) -> Result<Vec<u8>, NoMemory>
+    requires paired { p.now ≡ positions a.now b.now }
+    requires interface { interface_fault a.now b.now ≡ None }
+    requires left_cover { ca.now ≡ cover_of a.now }
+    requires right_cover { cb.now ≡ cover_of b.now }
+    requires marks { AreMarks (machines a.now b.now) marks.now }
+    ensures { IfOk result (λ text. IsPicture (machines a.now b.now) text.items) }
+{
+    let ended = run(alloc, a, b, p, ca, cb)?;
+    draw_with(alloc, a, b, p, ca, cb, marks, ended.moves.as_slice())
+}
+
 // As `search_picture`, over the covers of the machines.
 fn picture_over(
     alloc: Global,
@@ -95,19 +126,8 @@ fn picture_over(
     requires right_cover { cb.now ≡ cover_of b.now }
     ensures { IfOk result (λ text. IsPicture (machines a.now b.now) text.items) }
 {
-    let outcome = search(alloc, a, b, p)?;
-    let marks = marks_of(alloc, &outcome)?;
-    let ended = run(alloc, a, b, p, ca, cb)?;
-    draw_with(
-        alloc,
-        a,
-        b,
-        p,
-        ca,
-        cb,
-        marks.as_slice(),
-        ended.moves.as_slice(),
-    )
+    let marks = search_marks(alloc, a, b, p)?;
+    picture_with(alloc, a, b, p, ca, cb, marks.as_slice())
 }
 
 /// The picture of the search of two machines with the same inputs and outputs, as a graph in DOT: a node for each node of the

@@ -4,6 +4,7 @@ ghost use Rattle.std.specs.Prelude.{◌≡◌, ◌≤◌, IfOk, None, is_some, o
 ghost use Rattle.fs_pair.specs.Interfaces.{interface_fault};
 ghost use Rattle.fs_pair.specs.Positions.{positions};
 ghost use Rattle.search_tables.specs.SearchTables.{machines};
+ghost use Rattle.search.specs.SearchOutcomes.{IsSearchOutcome};
 ghost use Rattle.show_search_views.specs.Why.{moves_of, history_of, heading_of, found_lines, why_lines, IsExplanation};
 
 use crate::certificate_lines::certificate_lines;
@@ -123,6 +124,26 @@ fn why_lines(
     Ok(lines)
 }
 
+// The answer that two machines get, and the lines of what led to it, by the outcome of their search.
+fn explain_search(
+    alloc: Global,
+    a: &Machine,
+    b: &Machine,
+    p: &Pairing,
+    steps: u64,
+    outcome: &Outcome,
+) -> Result<Explanation, NoMemory>
+    requires paired { p.now ≡ positions a.now b.now }
+    requires interface { interface_fault a.now b.now ≡ None }
+    requires steps { 1 ≤ steps }
+    requires searched { IsSearchOutcome (machines a.now b.now) outcome.now }
+    ensures { IfOk result (IsExplanation steps a.now b.now) }
+{
+    let answer = compare(alloc, a, b, p, steps)?;
+    let lines = why_lines(alloc, a, b, p, outcome, &answer)?;
+    Ok(Explanation { lines, answer })
+}
+
 /// The answer that two machines with the same inputs and outputs get, of runs of at most so many steps, as `compare` gives it,
 /// and the lines of what led to it: where the search stops at an obstacle its history, and where a certificate is found the
 /// nodes of that. The one refusal is out of memory.
@@ -139,7 +160,5 @@ pub fn explain(
     ensures { IfOk result (IsExplanation steps a.now b.now) }
 {
     let outcome = search(alloc, a, b, p)?;
-    let answer = compare(alloc, a, b, p, steps)?;
-    let lines = why_lines(alloc, a, b, p, &outcome, &answer)?;
-    Ok(Explanation { lines, answer })
+    explain_search(alloc, a, b, p, steps, &outcome)
 }
