@@ -27,7 +27,7 @@ use std::alloc::{AllocError, Global};
 // The canonical text of parts, as an answer. The one refusal is out of memory.
 fn canonical_text(alloc: Global, parts: &Parts) -> Result<Answer, AllocError>
     requires { IsTrue (is_well_formed (source_of parts.now)) }
-    ensures text { IfOk result (λ answer. answer ≡ Text (canonical (source_of parts.now))) }
+    ensures { IfOk result (λ answer. answer ≡ Text (canonical (source_of parts.now))) }
 {
     match write_parts(alloc, parts) {
         Ok(text) => Ok(Answer::Text {
@@ -39,7 +39,7 @@ fn canonical_text(alloc: Global, parts: &Parts) -> Result<Answer, AllocError>
 
 // The paths of a machine, as an answer. The one refusal is out of memory.
 fn text_of_paths(alloc: Global, machine: &Machine) -> Result<Answer, AllocError>
-    ensures text { IfOk result (λ answer. answer ≡ Text (paths_text machine.now)) }
+    ensures { IfOk result (λ answer. answer ≡ Text (paths_text machine.now)) }
 {
     let lines = Lines::of(list_paths(alloc, machine)?);
     Ok(Answer::Text { lines })

@@ -16,4 +16,4 @@ returns-in-Err-clause-answers g c =
 pub returns-in-Ok-clause-answers : goal.returns-in-Ok-clause-answers
 returns-in-Ok-clause-answers g c =
     made_last Fsmd RefusesMachine SpellsMachine (λ m answer. answer ≡ Text (paths_text m)) 0 _ c.in-Ok.machine c.load_machine.ensures.loads
-    c.in-Ok.ensures.spells c.text_of_paths.result c.made_answer.result c.made_answer.ensures c.text_of_paths.ensures.text
+    c.in-Ok.ensures.spells c.text_of_paths.result c.made_answer.result c.made_answer.ensures c.text_of_paths.ensures

@@ -18,4 +18,4 @@ returns-in-Err-clause-answers g c =
 pub returns-in-Ok-clause-answers : goal.returns-in-Ok-clause-answers
 returns-in-Ok-clause-answers g c =
     made_last Source RefusesMachine SpellsParts (λ parts answer. answer ≡ Text (canonical parts)) 0 _ (source_of c.in-Ok.loaded.parts) c.load.ensures.loads
-    (parts_held _ _ _ c.in-Ok.ensures.loaded) c.canonical_text.result c.made_answer.result c.made_answer.ensures c.canonical_text.ensures.text
+    (parts_held _ _ _ c.in-Ok.ensures.loaded) c.canonical_text.result c.made_answer.result c.made_answer.ensures c.canonical_text.ensures

@@ -2,5 +2,5 @@ use Rattle.std.proofs.Common.{◌∙◌, ap}
 use Rattle.fsmd_replies.specs.declared.answer.Answer.TheVariants.{Text}
 use Rattle.fsmd_machine_commands.proofs.machine.text_of_paths.Goals as goal
 
-pub returns-clause-text : goal.returns-clause-text
-returns-clause-text c = ap Text (c.of-lines.ensures ∙ c.in_ok-list_paths.ensures)
+pub returns : goal.returns
+returns c = ap Text (c.of-lines.ensures ∙ c.in_ok-list_paths.ensures)
