@@ -124,35 +124,40 @@ find_inner-returns-in_err-array-in-Read-clause-absent t c =
 pub find_inner-returns-in_err-index-in-Read-clause-absent : goal.find_inner-returns-in_err-index-in-Read-clause-absent
 find_inner-returns-in_err-index-in-Read-clause-absent t c =
     let b = c.args.bank.now in
-    passed_on c.from_residual-in_err-index-in-Read.result c.in_err-index-in-Read.field-0.0 (holds_inner (atom_in c.args.atom.now) b ≡ false) c.from_residual-in_err-index-in-Read.ensures.1
+    passed_on c.from_residual-in_err-index-in-Read.result c.in_err-index-in-Read.field-0.0 (holds_inner (atom_in c.args.atom.now) b ≡ false)
+    c.from_residual-in_err-index-in-Read.ensures.1
     (λ a. index_missing b c.args.atom.now c.in-Read.array c.in-Read.index c.in-Read.is
     (subst (λ x. holds_terms (polynomial_in x) b ≡ false) c.deref-in-Read.ensures (c.in_err-index-in-Read.ensures.absent a)))
 
 pub find_inner-returns-in_err-left-in-Div-clause-absent : goal.find_inner-returns-in_err-left-in-Div-clause-absent
 find_inner-returns-in_err-left-in-Div-clause-absent t c =
     let b = c.args.bank.now in
-    passed_on c.from_residual-in_err-left-in-Div.result c.in_err-left-in-Div.field-0.0 (holds_inner (atom_in c.args.atom.now) b ≡ false) c.from_residual-in_err-left-in-Div.ensures.1
+    passed_on c.from_residual-in_err-left-in-Div.result c.in_err-left-in-Div.field-0.0 (holds_inner (atom_in c.args.atom.now) b ≡ false)
+    c.from_residual-in_err-left-in-Div.ensures.1
     (λ a. dividend_missing b c.args.atom.now c.in-Div.left c.in-Div.right c.in-Div.is
     (subst (λ x. holds_terms (polynomial_in x) b ≡ false) c.deref-in-Div.ensures (c.in_err-left-in-Div.ensures.absent a)))
 
 pub find_inner-returns-in_err-right-in-Div-clause-absent : goal.find_inner-returns-in_err-right-in-Div-clause-absent
 find_inner-returns-in_err-right-in-Div-clause-absent t c =
     let b = c.args.bank.now in
-    passed_on c.from_residual-in_err-right-in-Div.result c.in_err-right-in-Div.field-0.0 (holds_inner (atom_in c.args.atom.now) b ≡ false) c.from_residual-in_err-right-in-Div.ensures.1
+    passed_on c.from_residual-in_err-right-in-Div.result c.in_err-right-in-Div.field-0.0 (holds_inner (atom_in c.args.atom.now) b ≡ false)
+    c.from_residual-in_err-right-in-Div.ensures.1
     (λ a. divisor_missing b c.args.atom.now c.in-Div.left c.in-Div.right c.in-Div.is
     (subst (λ x. holds_terms (polynomial_in x) b ≡ false) c.deref-in-Div-2.ensures (c.in_err-right-in-Div.ensures.absent a)))
 
 pub find_inner-returns-in_err-left-in-Rem-clause-absent : goal.find_inner-returns-in_err-left-in-Rem-clause-absent
 find_inner-returns-in_err-left-in-Rem-clause-absent t c =
     let b = c.args.bank.now in
-    passed_on c.from_residual-in_err-left-in-Rem.result c.in_err-left-in-Rem.field-0.0 (holds_inner (atom_in c.args.atom.now) b ≡ false) c.from_residual-in_err-left-in-Rem.ensures.1
+    passed_on c.from_residual-in_err-left-in-Rem.result c.in_err-left-in-Rem.field-0.0 (holds_inner (atom_in c.args.atom.now) b ≡ false)
+    c.from_residual-in_err-left-in-Rem.ensures.1
     (λ a. modulend_missing b c.args.atom.now c.in-Rem.left c.in-Rem.right c.in-Rem.is
     (subst (λ x. holds_terms (polynomial_in x) b ≡ false) c.deref-in-Rem.ensures (c.in_err-left-in-Rem.ensures.absent a)))
 
 pub find_inner-returns-in_err-right-in-Rem-clause-absent : goal.find_inner-returns-in_err-right-in-Rem-clause-absent
 find_inner-returns-in_err-right-in-Rem-clause-absent t c =
     let b = c.args.bank.now in
-    passed_on c.from_residual-in_err-right-in-Rem.result c.in_err-right-in-Rem.field-0.0 (holds_inner (atom_in c.args.atom.now) b ≡ false) c.from_residual-in_err-right-in-Rem.ensures.1
+    passed_on c.from_residual-in_err-right-in-Rem.result c.in_err-right-in-Rem.field-0.0 (holds_inner (atom_in c.args.atom.now) b ≡ false)
+    c.from_residual-in_err-right-in-Rem.ensures.1
     (λ a. modulus_missing b c.args.atom.now c.in-Rem.left c.in-Rem.right c.in-Rem.is
     (subst (λ x. holds_terms (polynomial_in x) b ≡ false) c.deref-in-Rem-2.ensures (c.in_err-right-in-Rem.ensures.absent a)))
 
@@ -161,28 +166,33 @@ find_mono-returns-in_err-id-clause-absent t c =
     let b = c.args.bank.now in
     passed_on c.from_residual.result c.in_err-id.field-0.0 (holds_monomial (monomial_in c.args.mono.now) b ≡ false) c.from_residual.ensures.1
     (λ a. sym c.loop-atom.invariant.there
-    ∙ atom_missing b c.deref-atom-items.result.now c.loop-atom.atom-index c.atom-item.result c.loop-atom-test.true c.atom-item.is (c.in_err-id.ensures.absent a))
+    ∙ atom_missing b c.deref-atom-items.result.now c.loop-atom.atom-index c.atom-item.result c.loop-atom-test.true c.atom-item.is
+    (c.in_err-id.ensures.absent a))
 
 pub find_sum-returns-in_err-atoms-clause-absent : goal.find_sum-returns-in_err-atoms-clause-absent
 find_sum-returns-in_err-atoms-clause-absent t c =
     let b = c.args.bank.now in
     passed_on c.from_residual.result c.in_err-atoms.field-0.0 (holds_terms (polynomial_in c.args.sum.now) b ≡ false) c.from_residual.ensures.1
     (λ a. sym c.loop-mono.invariant.there
-    ∙ monomial_missing b c.deref-mono-items.result.now c.loop-mono.mono-index c.loop-mono-item.result c.loop-mono-test.true c.loop-mono-item.is (c.in_err-atoms.ensures.absent a))
+    ∙ monomial_missing b c.deref-mono-items.result.now c.loop-mono.mono-index c.loop-mono-item.result c.loop-mono-test.true c.loop-mono-item.is
+    (c.in_err-atoms.ensures.absent a))
 
 pub find_array-returns-in_err-index-clause-absent : goal.find_array-returns-in_err-index-clause-absent
 find_array-returns-in_err-index-clause-absent t c =
     let b = c.args.bank.now in
     passed_on c.from_residual.result c.in_err-index.field-0.0 (holds_array (array_in c.args.array.now) b ≡ false) c.from_residual.ensures.1
     (λ a. sym c.loop-index.invariant.there
-    ∙ place_missing b c.deref-index-items.result.now c.loop-index.index-index c.loop-index-item.result c.loop-index-test.true c.loop-index-item.is (c.in_err-index.ensures.absent a))
+    ∙ place_missing b c.deref-index-items.result.now c.loop-index.index-index c.loop-index-item.result c.loop-index-test.true c.loop-index-item.is
+    (c.in_err-index.ensures.absent a))
 
 pub find_array-returns-in_err-value-clause-absent : goal.find_array-returns-in_err-value-clause-absent
 find_array-returns-in_err-value-clause-absent t c =
     let b = c.args.bank.now in
-    passed_on c.from_residual-in_err-value.result c.in_err-value.field-0.0 (holds_array (array_in c.args.array.now) b ≡ false) c.from_residual-in_err-value.ensures.1
+    passed_on c.from_residual-in_err-value.result c.in_err-value.field-0.0 (holds_array (array_in c.args.array.now) b ≡ false)
+    c.from_residual-in_err-value.ensures.1
     (λ a. sym c.loop-index.invariant.there
-    ∙ value_missing b c.deref-index-items.result.now c.loop-index.index-index c.loop-index-item.result c.loop-index-test.true c.loop-index-item.is (c.in_err-value.ensures.absent a))
+    ∙ value_missing b c.deref-index-items.result.now c.loop-index.index-index c.loop-index-item.result c.loop-index-test.true c.loop-index-item.is
+    (c.in_err-value.ensures.absent a))
 
 pub find_atom-returns-in_err-node-clause-absent : goal.find_atom-returns-in_err-node-clause-absent
 find_atom-returns-in_err-node-clause-absent t c =
