@@ -1,11 +1,10 @@
 //! Faults of bytes: those that begin no token, and those that are no text.
 
 use crate::cases::is_told;
-use crate::tables::each_table;
 use std::alloc::AllocError;
 
-// Bytes of a text that begin no token.
-const BAD_BYTES: &str =
+/// Bytes of a text that begin no token.
+pub static BAD_BYTES: &str =
     "check a.fsmd b.fsmd¦fsmd 1; input a, b; input array m; output y, z; output array n; reset s;\\nstate s: {1}▸{2}¦{machine}¦¦bad input: a.fsmd:▸: BadByte\\n
 :
 goto s: y = a ¦& b;
@@ -35,11 +34,6 @@ goto s;¦\u{c}
 goto s;¦\u{7f}
 goto s;¦\u{a0}
 ¦\u{1b}goto s;";
-
-#[test]
-fn a_byte_that_begins_no_token(rt: HostRuntime) -> Result<(), AllocError> {
-    each_table(&rt, rt.alloc(), BAD_BYTES)
-}
 
 #[test]
 fn bytes_that_are_no_text(rt: HostRuntime) -> Result<(), AllocError> {

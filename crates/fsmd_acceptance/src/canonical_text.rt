@@ -1,10 +1,8 @@
 //! The canonical text that `fmt` puts: its lines, its blanks, and exactly the brackets without which it would be read
 //! otherwise.
 
-use crate::tables::each_table;
-use std::alloc::AllocError;
-
-const TABLES: &str = r"# whole texts
+/// The tables.
+pub static TABLES: &str = r"# whole texts
 # The canonical text of a text, and that of the canonical text, which is itself.
 fmt a.fsmd¦{A}¦¦¦{2}
 + {1}
@@ -150,8 +148,3 @@ chain a.fsmd c.json b.fsmd d.json
 chain a.fsmd c.json b.fsmd --steps 5
 chain a.fsmd<<65 times: c.json b.fsmd>>
 --help";
-
-#[test]
-fn canonical_texts(rt: HostRuntime) -> Result<(), AllocError> {
-    each_table(&rt, rt.alloc(), TABLES)
-}

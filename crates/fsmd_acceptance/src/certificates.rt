@@ -1,5 +1,8 @@
 //! Certificates, stored by `check` and judged by `verify` and `chain`.
 
+use crate::tables::each_text;
+use std::alloc::AllocError;
+
 mod arrays;
 mod chains;
 mod damage;
@@ -14,3 +17,26 @@ mod terms;
 mod undecided;
 mod verdicts;
 mod writing;
+
+#[test]
+fn certificates_of_pairs(rt: HostRuntime) -> Result<(), AllocError> {
+    each_text(
+        &rt,
+        rt.alloc(),
+        &[
+            arrays::TABLES,
+            chains::TABLES,
+            damage::TABLES,
+            faults::TABLES,
+            lists::TABLES,
+            order::TABLES,
+            ranks::TABLES,
+            refusals::TABLES,
+            stored::TABLES,
+            terms::TABLES,
+            undecided::TABLES,
+            verdicts::TABLES,
+            writing::TABLES,
+        ],
+    )
+}

@@ -1,5 +1,8 @@
 //! Pairs of machines as `check` answers of them.
 
+use crate::tables::each_text;
+use std::alloc::AllocError;
+
 mod alike;
 mod arrays;
 mod differences;
@@ -10,3 +13,23 @@ mod obstacles;
 mod schedules;
 mod second_search;
 mod sums;
+
+#[test]
+fn pairs_of_machines(rt: HostRuntime) -> Result<(), AllocError> {
+    each_text(
+        &rt,
+        rt.alloc(),
+        &[
+            alike::TABLES,
+            arrays::TABLES,
+            differences::TABLES,
+            division::TABLES,
+            generated::TABLES,
+            lists::TABLES,
+            obstacles::TABLES,
+            schedules::TABLES,
+            second_search::TABLES,
+            sums::TABLES,
+        ],
+    )
+}

@@ -1,9 +1,7 @@
 //! Faults of texts: each kind, with its line and its column.
 
-use crate::tables::each_table;
-use std::alloc::AllocError;
-
-const TABLES: &str = r"# a word or a number past its limit
+/// The tables.
+pub static TABLES: &str = r"# a word or a number past its limit
 # A text of two cells, whose fault is at the first byte of the second.
 check a.fsmd b.fsmd¦{1}▸{2}¦{machine}¦¦bad input: a.fsmd:▸: {3}\n
 :
@@ -361,8 +359,3 @@ when a > ¦!b goto s;
 when a > ¦{b} goto s;
 when a > 0 ¦when b > 0 goto s;
 when a > 0 ¦state t: goto t;";
-
-#[test]
-fn faults_of_texts(rt: HostRuntime) -> Result<(), AllocError> {
-    each_table(&rt, rt.alloc(), TABLES)
-}

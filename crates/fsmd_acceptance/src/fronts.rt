@@ -1,134 +1,136 @@
 //! Each front of a text: cut inside a token, behind it, or where a file may end.
+//!
+//! The text is that of greatest common divisors by subtraction, and the other file the schedule of the whole text. A row begins
+//! with how many bytes the front has.
 
-use crate::spelling::{joined, push_all};
-use crate::tables::each_table;
-use std::alloc::{AllocError, Global};
+/// The tables.
+pub static TABLES: &str = r"# fronts that end too early
+# A front that ends behind a token or inside a name. A name that is cut short is a name as well.
+check a.fsmd b.fsmd¦<<0 to {1} of:fsmd 1; input a, b; output g; local x, y; reset s0;\nstate s0: goto s1: x = a, y = b;\nstate s1: when x == y goto s0: g = x; goto s2;\nstate s2: when x > y goto s3; goto s4;\nstate s3: goto s1: x = x - y;\nstate s4: goto s1: y = y - x;\n>>▸¦fsmd 1; input a, b; output g; local x, y; reset q0;\nstate q0: goto q1: x = a, y = b;\nstate q1: when x == y goto q0: g = x; goto q2;\nstate q2: when x > y goto q1: x = x - y; goto q1: y = y - x;\n¦¦bad input: a.fsmd:▸: Ended\n
+:
+⟪0 to 1:#
+⟫⟪4 to 9:#
+⟫⟪13 to 21:#
+⟫⟪26 to 31:#
+⟫⟪35 to 43:#
+⟫⟪47 to 51:#
+⟫⟪57 to 61:#
+⟫⟪66 to 84:#
+⟫⟪90 to 94:#
+⟫⟪99 to 103:#
+⟫⟪104 to 108:#
+⟫⟪111 to 122:#
+⟫⟪127 to 131:#
+⟫⟪137 to 141:#
+⟫⟪146 to 154:#
+⟫⟪157 to 161:#
+⟫⟪166 to 170:#
+⟫⟪176 to 180:#
+⟫⟪185 to 200:#
+⟫⟪206 to 210:#
+⟫⟪215 to 229:#
+⟫229
 
-// The other file is the schedule of the whole text.
-const FRONT: &str =
-    r"check a.fsmd b.fsmd¦{1}¦fsmd 1; input a, b; output g; local x, y; reset q0;\nstate q0: goto q1: x = a, y = b;\nstate q1: when x == y goto q0: g = x; goto q2;\nstate q2: when x > y goto q1: x = x - y; goto q1: y = y - x;\n¦¦{2}\n";
+# fronts that end inside a reserved word
+# A reserved word that is cut short is a name, which can't follow where the whole word can in this text, and the first sign of
+# `==` is no relation.
+check a.fsmd b.fsmd¦<<0 to {1} of:fsmd 1; input a, b; output g; local x, y; reset s0;\nstate s0: goto s1: x = a, y = b;\nstate s1: when x == y goto s0: g = x; goto s2;\nstate s2: when x > y goto s3; goto s4;\nstate s3: goto s1: x = x - y;\nstate s4: goto s1: y = y - x;\n>>¦fsmd 1; input a, b; output g; local x, y; reset q0;\nstate q0: goto q1: x = a, y = b;\nstate q1: when x == y goto q0: g = x; goto q2;\nstate q2: when x > y goto q1: x = x - y; goto q1: y = y - x;\n¦¦bad input: a.fsmd:{2}: Unexpected\n
+:
+1¦1:1
+2¦1:1
+3¦1:1
+9¦1:9
+10¦1:9
+11¦1:9
+12¦1:9
+21¦1:21
+22¦1:21
+23¦1:21
+24¦1:21
+25¦1:21
+31¦1:31
+32¦1:31
+33¦1:31
+34¦1:31
+43¦1:43
+44¦1:43
+45¦1:43
+46¦1:43
+53¦2:1
+54¦2:1
+55¦2:1
+56¦2:1
+63¦2:11
+64¦2:11
+65¦2:11
+86¦3:1
+87¦3:1
+88¦3:1
+89¦3:1
+96¦3:11
+97¦3:11
+98¦3:11
+103¦3:18
+108¦3:23
+109¦3:23
+110¦3:23
+124¦3:39
+125¦3:39
+126¦3:39
+133¦4:1
+134¦4:1
+135¦4:1
+136¦4:1
+143¦4:11
+144¦4:11
+145¦4:11
+154¦4:22
+155¦4:22
+156¦4:22
+163¦4:31
+164¦4:31
+165¦4:31
+172¦5:1
+173¦5:1
+174¦5:1
+175¦5:1
+182¦5:11
+183¦5:11
+184¦5:11
+202¦6:1
+203¦6:1
+204¦6:1
+205¦6:1
+212¦6:11
+213¦6:11
+214¦6:11
 
-// Greatest common divisors by subtraction, token by token, each with the blank before it. A part begins where a file may
-// end, but the first. Before it stands the answer to the file that ends there, or in the blanks that follow.
-const PARTS: &str =
-    r"bad input: a.fsmd:▸: Ended¦fsmd· 1·;· input· a·,· b·;· output· g·;· local· x·,· y·;· reset· s0·;
-bad input: a.fsmd:1: UnknownState¦\nstate· s0·:
-bad input: a.fsmd:2: NoElse¦ goto· s1·:· x· =· a·,· y· =· b·;
-bad input: a.fsmd:2: UnknownState¦\nstate· s1·:
-bad input: a.fsmd:3: NoElse¦ when· x· ==· y· goto· s0·:· g· =· x·;
-bad input: a.fsmd:3: NoElse¦ goto· s2·;
-bad input: a.fsmd:3: UnknownState¦\nstate· s2·:
-bad input: a.fsmd:4: NoElse¦ when· x· >· y· goto· s3·;
-bad input: a.fsmd:4: NoElse¦ goto· s4·;
-bad input: a.fsmd:4: UnknownState¦\nstate· s3·:
-bad input: a.fsmd:4: UnknownState¦ goto· s1·:· x· =· x· -· y·;
-bad input: a.fsmd:4: UnknownState¦\nstate· s4·:
-bad input: a.fsmd:6: NoElse¦ goto· s1·:· y· =· y· -· x·;
-equivalent: 4 nodes¦\n
-equivalent: 4 nodes¦
-";
-
-const RESERVED: &str = " fsmd input output local reset state when goto ";
-
-// Where the fault is in a front that ends inside this word, and its kind, behind the text and the word's letters. A reserved
-// word cut short is a name, which can't follow where the whole word can in this text, and the first sign of `==` is no
-// relation. A name cut short is a name as well.
-fn fault_inside(word: &str) -> (&'static str, &'static str, &'static str) {
-    if RESERVED.contains(word) || word == "==" {
-        ("▸", "", "Unexpected")
-    } else {
-        ("", "▸", "Ended")
-    }
-}
-
-// Adds the rows of the fronts that end inside this word behind the text.
-fn push_inside(alloc: Global, rows: &mut String, text: &str, word: &str) -> Result<(), AllocError> {
-    let (before, behind, kind) = fault_inside(word);
-    let mut begun = String::new(alloc);
-    for letter in word.chars() {
-        if !begun.is_empty() {
-            let row = format!(in alloc;
-                "{text}{before}{begun}{behind}¦bad input: a.fsmd:▸: {kind}\n"
-            )?;
-            rows.push_str(row.as_str())?;
-        }
-        begun.push(letter)?;
-    }
-    Ok(())
-}
-
-// Adds the row of a front that ends where a token ends or in the blanks behind it.
-fn push_behind(rows: &mut String, text: &str, why: &str) -> Result<(), AllocError> {
-    push_all(rows, &[text, "▸¦", why, "\n"])
-}
-
-fn split_blank(token: &str) -> (&str, &str) {
-    match token.strip_prefix(r"\n") {
-        Some(word) => (r"\n", word),
-        None => match token.strip_prefix(' ') {
-            Some(word) => (" ", word),
-            None => ("", token),
-        },
-    }
-}
-
-// Adds a token to the text, and the rows of the fronts that end in it.
-fn push_token(
-    alloc: Global,
-    rows: &mut String,
-    text: &mut String,
-    token: &str,
-    why: &str,
-) -> Result<(), AllocError> {
-    let (blank, word) = split_blank(token);
-    push_behind(rows, text.as_str(), why)?;
-    text.push_str(blank)?;
-    push_behind(rows, text.as_str(), why)?;
-    push_inside(alloc, rows, text.as_str(), word)?;
-    text.push_str(word)
-}
-
-// The answer to a front that ends before a token of a part: only before its first one may a file end.
-fn answer_before(is_first: bool, before: &str) -> &str {
-    if is_first {
-        before
-    } else {
-        "bad input: a.fsmd:▸: Ended"
-    }
-}
-
-// Adds the tokens of a part, and the rows of the fronts that end in it.
-fn push_part(
-    alloc: Global,
-    rows: &mut String,
-    text: &mut String,
-    part: &str,
-) -> Result<(), AllocError> {
-    let (before, tokens) = part.split_once('¦').unwrap_or(("", part));
-    let mut is_first = true;
-    for token in tokens.split('·') {
-        push_token(alloc, rows, text, token, answer_before(is_first, before))?;
-        is_first = false;
-    }
-    Ok(())
-}
-
-fn push_parts(alloc: Global, rows: &mut String) -> Result<(), AllocError> {
-    let mut text = String::new(alloc);
-    for part in PARTS.lines() {
-        push_part(alloc, rows, &mut text, part)?;
-    }
-    Ok(())
-}
-
-fn table_of_fronts(alloc: Global) -> Result<String, AllocError> {
-    let mut rows = joined(alloc, &[FRONT, "\n:\n"])?;
-    push_parts(alloc, &mut rows)?;
-    Ok(rows)
-}
-
-#[test]
-fn each_front_of_a_text(rt: HostRuntime) -> Result<(), AllocError> {
-    let table = table_of_fronts(rt.alloc())?;
-    each_table(&rt, rt.alloc(), table.as_str())
-}
+# fronts where a file may end
+check a.fsmd b.fsmd¦<<0 to {1} of:fsmd 1; input a, b; output g; local x, y; reset s0;\nstate s0: goto s1: x = a, y = b;\nstate s1: when x == y goto s0: g = x; goto s2;\nstate s2: when x > y goto s3; goto s4;\nstate s3: goto s1: x = x - y;\nstate s4: goto s1: y = y - x;\n>>¦fsmd 1; input a, b; output g; local x, y; reset q0;\nstate q0: goto q1: x = a, y = b;\nstate q1: when x == y goto q0: g = x; goto q2;\nstate q2: when x > y goto q1: x = x - y; goto q1: y = y - x;\n¦¦{2}\n
+:
+51¦bad input: a.fsmd:1: UnknownState
+52¦bad input: a.fsmd:1: UnknownState
+61¦bad input: a.fsmd:2: NoElse
+62¦bad input: a.fsmd:2: NoElse
+84¦bad input: a.fsmd:2: UnknownState
+85¦bad input: a.fsmd:2: UnknownState
+94¦bad input: a.fsmd:3: NoElse
+95¦bad input: a.fsmd:3: NoElse
+122¦bad input: a.fsmd:3: NoElse
+123¦bad input: a.fsmd:3: NoElse
+131¦bad input: a.fsmd:3: UnknownState
+132¦bad input: a.fsmd:3: UnknownState
+141¦bad input: a.fsmd:4: NoElse
+142¦bad input: a.fsmd:4: NoElse
+161¦bad input: a.fsmd:4: NoElse
+162¦bad input: a.fsmd:4: NoElse
+170¦bad input: a.fsmd:4: UnknownState
+171¦bad input: a.fsmd:4: UnknownState
+180¦bad input: a.fsmd:4: UnknownState
+181¦bad input: a.fsmd:4: UnknownState
+200¦bad input: a.fsmd:4: UnknownState
+201¦bad input: a.fsmd:4: UnknownState
+210¦bad input: a.fsmd:6: NoElse
+211¦bad input: a.fsmd:6: NoElse
+230¦equivalent: 4 nodes
+231¦equivalent: 4 nodes";

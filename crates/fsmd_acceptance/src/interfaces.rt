@@ -1,9 +1,7 @@
 //! Which of two files is looked at first, and machines whose inputs and outputs are not the same.
 
-use crate::tables::each_table;
-use std::alloc::AllocError;
-
-const TABLES: &str = r"# the left file first
+/// The tables.
+pub static TABLES: &str = r"# the left file first
 # The left file is read and checked whole before the right one, and both before the interfaces.
 check a.fsmd b.fsmd¦{1}¦{2}¦¦{3}
 :
@@ -41,8 +39,3 @@ input a;¦input A;¦a
 input a;¦output z; input a; input y;¦z
 local z; input a;¦input y; input a; local z;¦y
 input s;¦input t;¦s";
-
-#[test]
-fn interfaces_and_files(rt: HostRuntime) -> Result<(), AllocError> {
-    each_table(&rt, rt.alloc(), TABLES)
-}

@@ -1,9 +1,7 @@
 //! The limits of texts and machines: the last text within each, and the first past it.
 
-use crate::tables::each_table;
-use std::alloc::AllocError;
-
-const TABLES: &str = r"# bytes of a name
+/// The tables.
+pub static TABLES: &str = r"# bytes of a name
 # 32 bytes of a name are read and 33 are not.
 check a.fsmd b.fsmd¦{1}{A}{2}¦{1}{A}{2}¦¦equivalent: 2 nodes\n
 + abcdefghijklmnopqrstuvwxyzabcdef
@@ -313,8 +311,3 @@ fsmd <<1048571 times:a>>¦{machine}¦bad input: a.fsmd:1:6: BadWord
 {machine}<<1048531 times: >>¦¦bad input: a.fsmd: longer than 1048576 bytes
 {machine}¦{machine}<<1048531 times: >>¦bad input: b.fsmd: longer than 1048576 bytes
 ¦{machine}<<1048531 times: >>¦bad input: a.fsmd:1:1: Ended";
-
-#[test]
-fn limits_of_texts(rt: HostRuntime) -> Result<(), AllocError> {
-    each_table(&rt, rt.alloc(), TABLES)
-}

@@ -1,9 +1,7 @@
 //! Faults of loading: each call of a command that fails in turn, with the line that is put and the number of calls made.
 
-use crate::tables::each_table;
-use std::alloc::AllocError;
-
-const TABLES: &str = r"# commands with a file that fails
+/// The tables.
+pub static TABLES: &str = r"# commands with a file that fails
 # The files are loaded in the order of the words, but for a chain each machine before the certificate that leads to it. None
 # is loaded after one that fails.
 {1}¦{machine}¦{machine}¦{}¦{3}\n¦{}¦¦{2}
@@ -56,8 +54,3 @@ shrink x.fsmd b.fsmd i.json¦1
 schedule x.fsmd u.json¦1
 bind x.fsmd m.json¦1
 replay a.fsmd x.fsmd i.json¦2";
-
-#[test]
-fn files_that_fail(rt: HostRuntime) -> Result<(), AllocError> {
-    each_table(&rt, rt.alloc(), TABLES)
-}

@@ -1,10 +1,8 @@
 //! The paths that `cuts` puts. A point is the start, a state of more than one branch that is not the reset state, or the
 //! return to the reset state. A path goes by one branch of a point's state, and on to the next point.
 
-use crate::tables::each_table;
-use std::alloc::AllocError;
-
-const TABLES: &str = r"# paths of straight machines
+/// The tables.
+pub static TABLES: &str = r"# paths of straight machines
 # Among them: a left machine that may never end, a square of a sum, greatest common divisors by subtraction and their
 # schedule, a sum moved past a test, a guarded loop tested at the bottom, a solver of a differential equation and its
 # schedule.
@@ -76,8 +74,3 @@ cuts a.fsmd¦{1}¦¦¦{2}
 :
 fsmd 1; reset s; state s: goto¦bad input: a.fsmd:1:31: Ended\n
 fsmd 1; reset s;\nstate s: goto t;\nstate t: goto t;¦bad input: a.fsmd:3: EndlessLine\n";
-
-#[test]
-fn paths_that_are_cut(rt: HostRuntime) -> Result<(), AllocError> {
-    each_table(&rt, rt.alloc(), TABLES)
-}

@@ -1,9 +1,7 @@
 //! Ports: what is read, checked, written, run and replayed of machines that emit numbers.
 
-use crate::tables::each_table;
-use std::alloc::AllocError;
-
-const TABLES: &str = r#"# words of format 2
+/// The tables.
+pub static TABLES: &str = r#"# words of format 2
 # An `emit` and a `port` stand in a file of format 2 alone, and only where the grammar has them.
 check a.fsmd b.fsmd¦{1}▸{2}¦{machine}¦¦bad input: a.fsmd:▸: Unexpected\n
 :
@@ -154,8 +152,3 @@ port p;¦¦bad input: interface: p
 port p;¦port q;¦bad input: interface: p
 port p;¦port p;¦equivalent: 2 nodes
 port q, p;¦port p; port q;¦equivalent: 2 nodes"#;
-
-#[test]
-fn ports_and_lists(rt: HostRuntime) -> Result<(), AllocError> {
-    each_table(&rt, rt.alloc(), TABLES)
-}

@@ -1,9 +1,7 @@
 //! Rules on machines: each rule with its line, and which of several broken rules is answered.
 
-use crate::tables::each_table;
-use std::alloc::AllocError;
-
-const TABLES: &str = r"# declarations
+/// The tables.
+pub static TABLES: &str = r"# declarations
 check a.fsmd b.fsmd¦{1}¦{machine}¦¦bad input: a.fsmd:{2}\n
 :
 fsmd 1;\ninput a, a;\nreset s;\nstate s: goto s;¦2: TwiceNamed
@@ -177,8 +175,3 @@ state s: goto t; state t: when a > 0 goto t; goto t;
 state s: goto t; state t: when 0 > 1 goto u; goto u; state u: goto t;
 state t: goto u; state u: goto s; state s: goto t;
 state s: goto s; state t: goto u; state u: goto s;";
-
-#[test]
-fn rules_of_machines(rt: HostRuntime) -> Result<(), AllocError> {
-    each_table(&rt, rt.alloc(), TABLES)
-}

@@ -1,10 +1,8 @@
 //! What `run` and `replay` put: the outputs at the first return to the reset state, or why there is none within the
 //! limits, and what is wrong in a file of inputs.
 
-use crate::tables::each_table;
-use std::alloc::AllocError;
-
-const TABLES: &str = r#"# runs that return
+/// The tables.
+pub static TABLES: &str = r#"# runs that return
 run a.fsmd i.json¦{solver}¦¦{1}¦{2}
 :
 {"a": 2, "dx": 1, "ui": 1, "yi": 1}¦ended: 22 steps\nx = 2\nu = -2\ny = 0\n
@@ -191,8 +189,3 @@ replay a.fsmd b.fsmd i.json¦fsmd 1; input a; output y; reset s; state s: goto s
 :
 [¦bad input: i.json: NotJson\n
 {"y": 1}¦bad input: i.json: UnknownName y\n"#;
-
-#[test]
-fn runs_and_replays(rt: HostRuntime) -> Result<(), AllocError> {
-    each_table(&rt, rt.alloc(), TABLES)
-}

@@ -1,9 +1,7 @@
 //! What `shrink` puts: a smaller counterexample, or what `replay` puts of inputs that show no difference.
 
-use crate::tables::each_table;
-use std::alloc::AllocError;
-
-const TABLES: &str = r#"# square of a sum
+/// The tables.
+pub static TABLES: &str = r#"# square of a sum
 # The difference is twice the product of the inputs. A half is rounded toward zero.
 shrink a.fsmd b.fsmd i.json¦{square of a sum}¦{sum of squares}¦{1}¦{2}
 :
@@ -85,8 +83,3 @@ shrink a.fsmd b.fsmd i.json --steps {1}¦fsmd 1; input a; local i; output y; res
 10¦2
 11¦1
 12¦0"#;
-
-#[test]
-fn inputs_that_are_shrunk(rt: HostRuntime) -> Result<(), AllocError> {
-    each_table(&rt, rt.alloc(), TABLES)
-}

@@ -69,8 +69,8 @@ fn with_all_runs(alloc: Global, text: &str) -> Result<String, AllocError> {
     with_runs(alloc, outer.as_str(), "<<", ">>")
 }
 
-// The text with each run between these marks written out.
-fn with_runs(alloc: Global, text: &str, open: &str, close: &str) -> Result<String, AllocError> {
+/// A text with each run between these marks written out.
+pub fn with_runs(alloc: Global, text: &str, open: &str, close: &str) -> Result<String, AllocError> {
     let mut all = String::new(alloc);
     push_runs(alloc, &mut all, text, open, close)?;
     Ok(all)
@@ -93,10 +93,20 @@ fn push_runs(
 
 fn push_run(alloc: Global, all: &mut String, run: &str) -> Result<(), AllocError> {
     let (span, item) = run.split_once(':').unwrap_or(("", ""));
-    match span.strip_suffix(" times") {
-        Some(times) => push_times(all, item, number(times)),
+    if let Some(times) = span.strip_suffix(" times") {
+        return push_times(all, item, number(times));
+    }
+    match span.strip_suffix(" of") {
+        Some(span) => all.push_str(bytes_of(item, span)),
         None => push_numbered(alloc, all, item, span),
     }
+}
+
+// The bytes of a text from the first place of a span on up to its end, as `2 to 4`.
+fn bytes_of<'a>(text: &'a str, span: &str) -> &'a str {
+    let (first, end) = span.split_once(" to ").unwrap_or(("", ""));
+    text.get(number(first) as usize..number(end) as usize)
+        .unwrap_or("")
 }
 
 fn push_times(all: &mut String, item: &str, times: u32) -> Result<(), AllocError> {

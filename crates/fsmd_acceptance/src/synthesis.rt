@@ -1,9 +1,7 @@
 //! Programs that are compiled, and machines that are scheduled and bound.
 
-use crate::tables::each_table;
-use std::alloc::AllocError;
-
-const TABLES: &str = r#"# a loop is compiled and run
+/// The tables.
+pub static TABLES: &str = r#"# a loop is compiled and run
 # The next of a loop's last statement is the loop. What is put of a program is the text of a machine, which runs.
 compile p.prog¦{1}¦¦¦{2}
 :
@@ -247,8 +245,3 @@ schedule a.fsmd u.json¦fsmd 1; input a; output y; reset s0; state s0: goto s1; 
 {"add": -1}¦bad input: u.json: Shape add
 {"add": "1"}¦bad input: u.json: Shape add
 {"mul": -1, "add": -1}¦bad input: u.json: Shape add"#;
-
-#[test]
-fn programs_schedules_and_registers(rt: HostRuntime) -> Result<(), AllocError> {
-    each_table(&rt, rt.alloc(), TABLES)
-}

@@ -2,18 +2,31 @@
 
 use crate::cases::is_answered;
 use crate::named::with_names;
-use crate::spelling::fill;
+use crate::spelling::{fill, with_runs};
 use std::alloc::{AllocError, Global};
 use std::process::Abort;
 
-/// Asserts each case of each table of a text.
-pub fn each_table(rt: &impl Abort, alloc: Global, text: &str) -> Result<(), AllocError> {
+/// Asserts each case of each table of these texts.
+pub fn each_text(rt: &impl Abort, alloc: Global, texts: &[&str]) -> Result<(), AllocError> {
+    for text in texts {
+        each_table(rt, alloc, text)?;
+    }
+    Ok(())
+}
+
+fn each_table(rt: &impl Abort, alloc: Global, text: &str) -> Result<(), AllocError> {
     let text = with_names(alloc, text)?;
     each_named(rt, alloc, text.as_str())
 }
 
 // The same of a text whose names stand for nothing more.
 fn each_named(rt: &impl Abort, alloc: Global, text: &str) -> Result<(), AllocError> {
+    let text = with_runs(alloc, text, "⟪", "⟫")?;
+    each_written(rt, alloc, text.as_str())
+}
+
+// The same of a text whose rows are all written out.
+fn each_written(rt: &impl Abort, alloc: Global, text: &str) -> Result<(), AllocError> {
     for table in text.split("\n\n") {
         let (head, rows) = table.split_once("\n:\n").unwrap_or((table, "one case"));
         let broken = broken_row(alloc, head, rows)?;

@@ -1,9 +1,7 @@
 //! Certificates with arrays, quotients and remainders.
 
-use crate::tables::each_table;
-use std::alloc::AllocError;
-
-const TABLES: &str = r#"# writes and quotients
+/// The tables.
+pub static TABLES: &str = r#"# writes and quotients
 # The equations of the end.
 verify a.fsmd b.fsmd c.json¦fsmd 1; input i, u, v; input array n; output array m; output y; reset s; state s: goto s: m[i] = u, m[i + 1] = v, y = n[i] / 2;¦fsmd 1; input i, u, v; input array n; output array m; output y; reset s; state s: goto s: m[i + 1] = v, m[i] = u, y = n[i] / 2;¦¦{2}\n¦{"format":1,"nodes":[{"conds":[],"equations":{"L.m":"zero","L.y":"0","R.i":"L.i","R.m":"zero","R.n":"L.n","R.u":"L.u","R.v":"L.v","R.y":"0"},"left":"start","mode":"both","rank":0,"right":"start"},{"conds":[],"equations":{ {1} },"left":"done","mode":"end","rank":0,"right":"done"}]}
 :
@@ -36,8 +34,3 @@ L.n[0] <= 2¦no: obligation 6, condition 0
 L.i - L.n[L.i] >= -2¦no: obligation 6, condition 0
 false¦no: obligation 6, condition 0
 R.n[R.i] <= 2¦bad input: c.json: NotSolved node 2"#;
-
-#[test]
-fn arrays_and_quotients(rt: HostRuntime) -> Result<(), AllocError> {
-    each_table(&rt, rt.alloc(), TABLES)
-}

@@ -1,9 +1,7 @@
 //! Chains of certificates: each link is judged as `verify` judges it, and what is told of one has its number.
 
-use crate::tables::each_table;
-use std::alloc::AllocError;
-
-const TABLES: &str = r#"# a sum moved and kept
+/// The tables.
+pub static TABLES: &str = r#"# a sum moved and kept
 # A chain from the sum before a test over the sum behind it to the latter again, by the certificate of the first link, or a
 # damaged one, and the one that `check` stores of the second.
 check b.fsmd b.fsmd --cert d.json && chain a.fsmd c.json b.fsmd d.json b.fsmd¦{sum before a test}¦{sum behind a test}¦¦{1}\n¦{certificate of a sum past a test}{2}
@@ -61,8 +59,3 @@ chain a.fsmd d.json b.fsmd c.json a.fsmd¦{"format":1,"nodes":[]}¦link 1: no: o
 chain a.fsmd c.json o.fsmd c.json b.fsmd¦fsmd 1; input b; output y; reset s; state s: goto s: y = b;¦link 1: bad input: interface: a¦2
 chain a.fsmd c.json b.fsmd c.json o.fsmd c.json b.fsmd¦fsmd 1; input b; output y; reset s; state s: goto s: y = b;¦link 2: bad input: interface: a¦4
 chain a.fsmd c.json b.fsmd c.json a.fsmd b.fsmd b.fsmd c.json a.fsmd¦fsmd 1; input b; output y; reset s; state s: goto s: y = b;¦link 3: bad input: b.fsmd: NotJson¦7"#;
-
-#[test]
-fn chains_of_certificates(rt: HostRuntime) -> Result<(), AllocError> {
-    each_table(&rt, rt.alloc(), TABLES)
-}

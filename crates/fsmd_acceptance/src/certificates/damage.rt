@@ -1,96 +1,87 @@
 //! A certificate cut short at each byte, and damaged in each of its strings.
 
-use crate::certificates::moved_sum::CERTIFICATE;
-use crate::spelling::push_all;
-use crate::tables::each_table;
-use std::alloc::{AllocError, Global};
-
-// Each proper front is no JSON, and the whole certificate shows that the machines have the same behaviour.
-const FRONTS: &str =
-    r"verify a.fsmd b.fsmd c.json¦{sum before a test}¦{sum behind a test}¦¦yes\n¦{certificate of a sum past a test}
-
-verify a.fsmd b.fsmd c.json¦{sum before a test}¦{sum behind a test}¦¦bad input: c.json: NotJson\n¦{1}
+/// The tables.
+pub static TABLES: &str = r"# fronts of a certificate
+# The whole certificate shows that the machines have the same behaviour, and each proper front is no JSON.
+verify a.fsmd b.fsmd c.json¦{sum before a test}¦{sum behind a test}¦¦{2}\n¦<<0 to {1} of:{certificate of a sum past a test}>>
 :
-";
+503¦yes
+⟪0 to 502:#¦bad input: c.json: NotJson
+⟫502¦bad input: c.json: NotJson
 
-// Adds the rows of the fronts.
-fn push_fronts(alloc: Global, table: &mut String) -> Result<(), AllocError> {
-    let mut front = String::new(alloc);
-    for letter in CERTIFICATE.chars() {
-        push_all(table, &[front.as_str(), "¦\n"])?;
-        front.push(letter)?;
-    }
-    Ok(())
-}
-
-fn table_of_fronts(alloc: Global) -> Result<String, AllocError> {
-    let mut table = String::from_str(alloc, FRONTS)?;
-    push_fronts(alloc, &mut table)?;
-    Ok(table)
-}
-
-#[test]
-fn each_front(rt: HostRuntime) -> Result<(), AllocError> {
-    let table = table_of_fronts(rt.alloc())?;
-    each_table(&rt, rt.alloc(), table.as_str())
-}
-
-const STRINGS: &str =
-    r"verify a.fsmd b.fsmd c.json¦{sum before a test}¦{sum behind a test}¦¦bad input: c.json: …¦{1}
+# strings of a certificate
+# A string, by its first byte and the first one behind it, is left out, or gets a byte more at its front or at its end.
+verify a.fsmd b.fsmd c.json¦{sum before a test}¦{sum behind a test}¦¦bad input: c.json: …¦<<0 to {1} of:{certificate of a sum past a test}>>{A}<<{2} to 503 of:{certificate of a sum past a test}>>
++ 
++ ?{3}
++ {3}?
 :
-";
-
-// What stands in the certificate behind its front and this string.
-fn rest_behind(front: &str, string: &str) -> &'static str {
-    let behind = CERTIFICATE.strip_prefix(front).unwrap_or("");
-    behind.strip_prefix(string).unwrap_or("")
-}
-
-// The rows in which this string behind its front is left out, or gets a byte more at its front or at its end.
-fn rows_of_string(alloc: Global, front: &str, string: &str) -> Result<String, AllocError> {
-    let rest = rest_behind(front, string);
-    format!(in alloc; "{front}{rest}\n{front}?{string}{rest}\n{front}{string}?{rest}\n")
-}
-
-// Adds these rows.
-fn push_string(
-    alloc: Global,
-    table: &mut String,
-    front: &str,
-    string: &str,
-) -> Result<(), AllocError> {
-    let rows = rows_of_string(alloc, front, string)?;
-    table.push_str(rows.as_str())
-}
-
-// Adds a piece of the certificate and the quotation mark behind it.
-fn push_piece(front: &mut String, piece: &str) -> Result<(), AllocError> {
-    front.push_str(piece)?;
-    front.push('"')
-}
-
-// Adds the rows of the strings.
-fn push_strings(alloc: Global, table: &mut String) -> Result<(), AllocError> {
-    let mut front = String::new(alloc);
-    let mut is_string = false;
-    for piece in CERTIFICATE.split('"') {
-        if is_string {
-            push_string(alloc, table, front.as_str(), piece)?;
-        }
-        push_piece(&mut front, piece)?;
-        is_string = !is_string;
-    }
-    Ok(())
-}
-
-fn table_of_strings(alloc: Global) -> Result<String, AllocError> {
-    let mut table = String::from_str(alloc, STRINGS)?;
-    push_strings(alloc, &mut table)?;
-    Ok(table)
-}
-
-#[test]
-fn each_string(rt: HostRuntime) -> Result<(), AllocError> {
-    let table = table_of_strings(rt.alloc())?;
-    each_table(&rt, rt.alloc(), table.as_str())
-}
+2¦8¦format
+13¦18¦nodes
+23¦28¦conds
+34¦43¦equations
+47¦50¦L.x
+53¦54¦0
+57¦60¦L.y
+63¦64¦0
+67¦70¦R.a
+73¦76¦L.a
+79¦82¦R.b
+85¦88¦L.b
+91¦94¦R.c
+97¦100¦L.c
+103¦106¦R.x
+109¦110¦0
+113¦116¦R.y
+119¦120¦0
+124¦128¦left
+131¦136¦start
+139¦143¦mode
+146¦150¦left
+153¦157¦rank
+162¦167¦right
+170¦175¦start
+180¦185¦conds
+191¦200¦equations
+204¦207¦L.x
+210¦219¦L.a + L.b
+222¦225¦L.y
+228¦229¦0
+232¦235¦R.a
+238¦241¦L.a
+244¦247¦R.b
+250¦253¦L.b
+256¦259¦R.c
+262¦265¦L.c
+268¦271¦R.x
+274¦275¦0
+278¦281¦R.y
+284¦285¦0
+289¦293¦left
+296¦298¦s1
+301¦305¦mode
+308¦312¦both
+315¦319¦rank
+324¦329¦right
+332¦337¦start
+342¦347¦conds
+353¦362¦equations
+366¦369¦L.x
+372¦381¦L.a + L.b
+384¦387¦R.a
+390¦393¦L.a
+396¦399¦R.b
+402¦405¦L.b
+408¦411¦R.c
+414¦417¦L.c
+420¦423¦R.x
+426¦435¦L.a + L.b
+438¦441¦R.y
+444¦447¦L.y
+451¦455¦left
+458¦462¦done
+465¦469¦mode
+472¦475¦end
+478¦482¦rank
+487¦492¦right
+495¦499¦done";

@@ -1,9 +1,7 @@
 //! Faults of files and of the sink, where `check` stores a certificate and `verify` loads one.
 
-use crate::tables::each_table;
-use std::alloc::AllocError;
-
-const TABLES: &str = r"# each call of check
+/// The tables.
+pub static TABLES: &str = r"# each call of check
 check a.fsmd b.fsmd --cert c.json¦{sum before a test}¦{sum behind a test}¦¦fault: cannot {1}\n¦¦¦{2}
 :
 read a.fsmd¦0 1
@@ -54,8 +52,3 @@ c.json¦a.fsmd¦0 1
 c.json¦b.fsmd¦1 2
 c.json¦c.json¦2 3
 n.json¦n.json¦3";
-
-#[test]
-fn files_and_sinks_that_fail(rt: HostRuntime) -> Result<(), AllocError> {
-    each_table(&rt, rt.alloc(), TABLES)
-}

@@ -1,9 +1,7 @@
 //! Certificates of machines that emit, and the two formats.
 
-use crate::tables::each_table;
-use std::alloc::AllocError;
-
-const TABLES: &str = r#"# lists of numbers
+/// The tables.
+pub static TABLES: &str = r#"# lists of numbers
 verify a.fsmd b.fsmd c.json¦{emits in turn}¦{emits at once}¦¦{3}\n¦{certificate of emits}«{1}»{2}
 :
 "R.p":"L.p"¦"R.p":"none{L.a}{L.b}","L.p":"none{L.a}{L.b}"¦yes
@@ -38,8 +36,3 @@ verify a.fsmd b.fsmd c.json¦fsmd 2; input a; port p; output y; reset s; state s
 1¦yes
 2¦no: obligation 5, output p
 3¦bad input: c.json: Shape"#;
-
-#[test]
-fn lists_of_numbers(rt: HostRuntime) -> Result<(), AllocError> {
-    each_table(&rt, rt.alloc(), TABLES)
-}

@@ -1,9 +1,7 @@
 //! Which refusal is answered where several apply.
 
-use crate::tables::each_table;
-use std::alloc::AllocError;
-
-const TABLES: &str = r#"# machines before certificates
+/// The tables.
+pub static TABLES: &str = r#"# machines before certificates
 # The machines are read and compared before the certificate is.
 verify a.fsmd b.fsmd c.json¦{1}¦{2}¦¦bad input: {3}\n¦{4}
 :
@@ -77,8 +75,3 @@ verify a.fsmd b.fsmd c.json¦fsmd 1; input a, b, c; output y; local x; reset s0;
 "left":"s1","right":"start"¦¦"L.y[0] + L.z >= 170141183460469231731687303715884105728"¦NumberTooBig node 1
 "left":"s1","right":"start"¦¦"L.y[0] + L.z >= 0"¦UnknownName node 1
 "left":"s1","right":"start"¦¦"-L.y[0] >= 0"¦SortOf node 1"#;
-
-#[test]
-fn refusals_in_order(rt: HostRuntime) -> Result<(), AllocError> {
-    each_table(&rt, rt.alloc(), TABLES)
-}

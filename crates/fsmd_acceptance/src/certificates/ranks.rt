@@ -1,9 +1,7 @@
 //! Ranks: they fall where one machine moves alone, so that it does not do so for ever.
 
-use crate::tables::each_table;
-use std::alloc::AllocError;
-
-const TABLES: &str = r#"# a cycle of one machine
+/// The tables.
+pub static TABLES: &str = r#"# a cycle of one machine
 # A cycle has no ranks that fall.
 verify a.fsmd b.fsmd c.json¦{may never end}¦{ends at once}¦¦{3}\n¦{certificate of a cycle}«{1}»{2}
 :
@@ -30,8 +28,3 @@ verify a.fsmd b.fsmd c.json¦{copies}¦{tests and copies}¦¦{3}\n¦{certificate
 "rank":1¦"rank":0¦no: obligation 5, rank
 "rank":1¦"rank":4096¦yes
 "rank":0,"right":"s1"¦"rank":1,"right":"s1"¦no: obligation 5, rank"#;
-
-#[test]
-fn ranks_that_fall(rt: HostRuntime) -> Result<(), AllocError> {
-    each_table(&rt, rt.alloc(), TABLES)
-}

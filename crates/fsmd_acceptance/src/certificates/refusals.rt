@@ -1,9 +1,7 @@
 //! Certificates that are refused for their form, their points, or what their equations speak of.
 
-use crate::tables::each_table;
-use std::alloc::AllocError;
-
-const TABLES: &str = r#"# forms of a file
+/// The tables.
+pub static TABLES: &str = r#"# forms of a file
 # A file that is no JSON, and one that has another form than a certificate.
 verify a.fsmd b.fsmd c.json¦{machine}¦{machine}¦¦bad input: c.json: {2}\n¦{1}
 :
@@ -181,8 +179,3 @@ verify a.fsmd b.fsmd c.json¦fsmd 2; input a; input array m; output y; output ar
 "L.y":"R.y"¦¦no: obligation 3, no target node
 "L.y":"R.y","L.n":"R.n","L.p":"R.p"¦"R.y >= 0"¦no: obligation 3, no target node
 "L.m":"R.m","L.a":"R.a"¦"R.y == 0"¦no: obligation 3, no target node"#;
-
-#[test]
-fn certificates_that_are_refused(rt: HostRuntime) -> Result<(), AllocError> {
-    each_table(&rt, rt.alloc(), TABLES)
-}

@@ -1,9 +1,7 @@
 //! Certificates that `check` stores: only where it finds the same behaviour, and then exactly these bytes.
 
-use crate::tables::each_table;
-use std::alloc::AllocError;
-
-const TABLES: &str = r#"# of sums that were moved
+/// The tables.
+pub static TABLES: &str = r#"# of sums that were moved
 check a.fsmd b.fsmd --cert c.json¦{1}¦{2}¦¦{3}¦before¦{4}
 :
 {sum before a test}¦{sum behind a test}¦equivalent: 3 nodes\n¦{certificate of a sum past a test}
@@ -90,8 +88,3 @@ check a.fsmd b.fsmd --cert c.json && verify a.fsmd b.fsmd c.json¦{1}¦{2}¦¦ye
 :
 fsmd 1; input n; input array a; output y; local i, s; reset s0; state s0: goto s1: i = 0, s = 0; state s1: when i < n goto s2; goto s0: y = s; state s2: when a[i] > 0 goto s3: s = s + a[i]; goto s3; state s3: goto s1: i = i + 1;¦fsmd 1; input n; input array a; output y; local i, s, v; reset q0; state q0: goto q1: i = 0, s = 0; state q1: when i < n goto q2: v = a[i]; goto q0: y = s; state q2: when v > 0 goto q1: s = s + v, i = i + 1; goto q1: i = i + 1;
 fsmd 1; input n; input array a; output y; local i, s, v; reset q0; state q0: goto q1: i = 0, s = 0; state q1: when i < n goto q2: v = a[i]; goto q0: y = s; state q2: when v > 0 goto q1: s = s + v, i = i + 1; goto q1: i = i + 1;¦fsmd 1; input n; input array a; output y; local i, s; reset s0; state s0: goto s1: i = 0, s = 0; state s1: when i < n goto s2; goto s0: y = s; state s2: when a[i] > 0 goto s3: s = s + a[i]; goto s3; state s3: goto s1: i = i + 1;"#;
-
-#[test]
-fn certificates_that_are_stored(rt: HostRuntime) -> Result<(), AllocError> {
-    each_table(&rt, rt.alloc(), TABLES)
-}

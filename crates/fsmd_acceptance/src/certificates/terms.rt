@@ -1,9 +1,7 @@
 //! Terms and conditions of certificates: which are read, and the kind of the first thing that is wrong with each.
 
-use crate::tables::each_table;
-use std::alloc::AllocError;
-
-const TABLES: &str = r#"# terms that are read
+/// The tables.
+pub static TABLES: &str = r#"# terms that are read
 # Each is another term than that of a start, where the scalar is 0.
 # A certificate of one node with this equation of a scalar.
 verify a.fsmd b.fsmd c.json¦fsmd 1; input a, b, i; input array m; output y; output array n; reset s; state s: goto s: y = a;¦fsmd 1; input a, b, i; input array m; output y; output array n; reset s; state s: goto s: y = a;¦¦no: obligation 1, equation L.y\n¦{"format":1,"nodes":[{"conds":[],"equations":{"L.y":"{1}"},"left":"start","mode":"both","rank":0,"right":"start"}]}
@@ -446,8 +444,3 @@ verify a.fsmd b.fsmd c.json¦fsmd 2; input a, b; input array m; port p; reset s;
 :
 none{1*L.a}
 none{L.b + L.a}"#;
-
-#[test]
-fn terms_and_conditions(rt: HostRuntime) -> Result<(), AllocError> {
-    each_table(&rt, rt.alloc(), TABLES)
-}

@@ -1,9 +1,7 @@
 //! Obligations at which an operation goes past a limit of terms.
 
-use crate::tables::each_table;
-use std::alloc::AllocError;
-
-const TABLES: &str = r#"# events of a path
+/// The tables.
+pub static TABLES: &str = r#"# events of a path
 # An event is met also where the target is no node. The first obligation that fails or meets one is named.
 verify a.fsmd b.fsmd c.json¦{large product}¦{large product}¦¦{2}\n¦{1}
 :
@@ -31,8 +29,3 @@ t = 170141183460469231731687303715884105727 * x, y = 1¦¦"L.t >= 1"¦undecided:
 t = 170141183460469231731687303715884105727 * x, y = 1¦¦"L.t >= 0"¦no: obligation 3, condition 0
 t = 170141183460469231731687303715884105727 * x, y = 1¦¦"L.t >= 0","L.t >= 1"¦undecided: obligation 3, wide
 t = x, y = 1¦"L.y":"<<4000 times:L.t*>>L.t"¦¦undecided: obligation 3, large"#;
-
-#[test]
-fn obligations_past_a_limit(rt: HostRuntime) -> Result<(), AllocError> {
-    each_table(&rt, rt.alloc(), TABLES)
-}

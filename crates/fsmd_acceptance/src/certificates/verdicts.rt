@@ -1,9 +1,7 @@
 //! What `verify` answers of certificates that are read: `yes`, or the first obligation that does not hold, and why.
 
-use crate::tables::each_table;
-use std::alloc::AllocError;
-
-const TABLES: &str = r#"# straight machines
+/// The tables.
+pub static TABLES: &str = r#"# straight machines
 verify a.fsmd b.fsmd c.json¦{1}¦{2}¦¦yes\n¦{3}
 :
 {square of a sum}¦{square multiplied out}¦{certificate of a square}
@@ -107,8 +105,3 @@ verify a.fsmd b.fsmd c.json¦{sum in a loop}¦{sum before a loop}¦¦{3}\n¦{cer
 "R.i":"L.i","R.n":"L.n","R.s":"L.s"¦"R.i":"L.i","R.s":"L.s"¦no: obligation 8, equation R.n
 "L.y":"0","R.a":"L.a","R.b":"L.b","R.i":"L.i"¦"L.y":"0","R.a":"L.a","R.b":"L.b"¦no: obligation 6, no target node
 "R.i":"L.i","R.n"¦"R.i":"L.n","R.n"¦no: obligation 5, equation R.i"#;
-
-#[test]
-fn verdicts_on_certificates(rt: HostRuntime) -> Result<(), AllocError> {
-    each_table(&rt, rt.alloc(), TABLES)
-}

@@ -1,9 +1,7 @@
 //! The same certificate written in other ways, with white space and other orders, and with nodes that are not needed.
 
-use crate::tables::each_table;
-use std::alloc::AllocError;
-
-const TABLES: &str = r#"# other texts
+/// The tables.
+pub static TABLES: &str = r#"# other texts
 # With white space; with the keys the other way round; with the nodes the other way round; with a node more.
 verify a.fsmd b.fsmd c.json¦{square of a sum}¦{square multiplied out}¦¦{2}\n¦{1}
 :
@@ -28,8 +26,3 @@ verify a.fsmd b.fsmd c.json¦{square of a sum}¦{square multiplied out}¦¦{3}\n
 "start"¦"st\u0061rt"¦yes
 "conds"¦"cond\u0073"¦yes
 "R.y":"0"¦"R.y":"0\u0020"¦bad input: c.json: BadTerm node 0"#;
-
-#[test]
-fn other_writings(rt: HostRuntime) -> Result<(), AllocError> {
-    each_table(&rt, rt.alloc(), TABLES)
-}

@@ -1,10 +1,8 @@
 //! Machines that are alike: they differ only in the names of their states and in how straight lines are cut into states.
 //! `check` finds that they have the same behaviour, where no limit stops it; of machines that are nearly alike it may find less.
 
-use crate::tables::each_table;
-use std::alloc::AllocError;
-
-const TABLES: &str = r"# lines that are cut in other places
+/// The tables.
+pub static TABLES: &str = r"# lines that are cut in other places
 # Six assignments: in six steps, in one and five, in two and two and two, and all at once.
 check a.fsmd b.fsmd¦fsmd 1; input a, b; output y; local t, u, v, w, x; {A}¦fsmd 1; input a, b; output y; local t, u, v, w, x; {1}¦¦equivalent: 2 nodes\n
 + reset s; state s: goto s1: t = a + b; state s1: goto s2: u = t * t; state s2: goto s3: v = u - a; state s3: goto s4: w = v / b; state s4: goto s5: x = w % t; state s5: goto s: y = x + u;
@@ -40,8 +38,3 @@ local t; reset s; state s: goto q: t = a + b; state q: when a > 0 goto s: y = t;
 reset s; state s: goto s: y = a + b;¦reset s; state s: goto s: y = b + a;¦equivalent: 2 nodes
 reset s; state s: goto s: y = a;¦reset s; state s: goto s: y = a / 1;¦undecided: output y at start.0>done | start.0>done
 reset s; state s: goto s: y = a;¦reset s; state s: goto s: y = b;¦counterexample\na = 0\nb = 1\nleft: y = 0\nright: y = 1";
-
-#[test]
-fn machines_that_are_alike(rt: HostRuntime) -> Result<(), AllocError> {
-    each_table(&rt, rt.alloc(), TABLES)
-}

@@ -1,9 +1,7 @@
 //! Arrays in `check`: writes and reads whose indices differ by a constant, or not.
 
-use crate::tables::each_table;
-use std::alloc::AllocError;
-
-const TABLES: &str = r"# writes that are exchanged
+/// The tables.
+pub static TABLES: &str = r"# writes that are exchanged
 # Two writes of one step, whose indices differ by a constant, in either order.
 check a.fsmd b.fsmd¦fsmd 1; input {1}; output array m; reset s0; state s0: goto s0: {2}, {3};¦fsmd 1; input {1}; output array m; reset s0; state s0: goto s0: {3}, {2};¦¦equivalent: 2 nodes\n
 :
@@ -78,8 +76,3 @@ m[i] = v, m[j] = 7¦m[i]¦v¦counterexample\ni = 0\nj = 0\nv = 0\nleft: y = 7\nr
 m[i] = v¦m[j]¦0¦counterexample\ni = 1\nj = 1\nv = 1\nleft: y = 1\nright: y = 0
 m[i] = v, m[j] = v¦m[i]¦v¦undecided: output y at start.0>done | start.0>done
 m[i] = 0¦m[j]¦0¦undecided: output y at start.0>done | start.0>done";
-
-#[test]
-fn writes_and_reads(rt: HostRuntime) -> Result<(), AllocError> {
-    each_table(&rt, rt.alloc(), TABLES)
-}

@@ -1,9 +1,7 @@
 //! Counterexamples of `check`: the first candidate from which both machines end with other outputs.
 
-use crate::tables::each_table;
-use std::alloc::AllocError;
-
-const TABLES: &str = r"# squares
+/// The tables.
+pub static TABLES: &str = r"# squares
 check a.fsmd b.fsmd¦{1}¦{2}¦¦{3}
 :
 {square of a sum}¦{sum of squares}¦counterexample\na = 1\nb = 1\nleft: y = 4\nright: y = 2\n
@@ -77,8 +75,3 @@ a¦b¦a = 0\nb = 1\nm = {0: -1, 1: 2, 3: 1, 4: -1, 5: 2, 7: 1, 8: -1, 9: 2, 11: 
 m[0]¦m[1]¦a = 0\nb = 0\nm = {1: 1, 2: -1, 3: 2, 5: 1, 6: -1, 7: 2, 9: 1, 10: -1, 11: 2, 13: 1, 14: -1, 15: 2}¦left: y = 0\nright: y = 1
 m[0]¦m[0] + 30¦a = 0\nb = 0\nm = {1: 1, 2: -1, 3: 2, 4: 29, 5: 30, 6: 31, 8: 1, 9: -1, 10: 2, 11: 29, 12: 30, 13: 31, 15: 1}¦left: y = 0\nright: y = 30
 m[0] + a¦m[0] - b¦a = 1\nb = 1\nm = {0: 1, 1: -1, 2: 2, 4: 1, 5: -1, 6: 2, 8: 1, 9: -1, 10: 2, 12: 1, 13: -1, 14: 2}¦left: y = 2\nright: y = 0";
-
-#[test]
-fn counterexamples(rt: HostRuntime) -> Result<(), AllocError> {
-    each_table(&rt, rt.alloc(), TABLES)
-}

@@ -1,9 +1,7 @@
 //! Division and remainder in `check`: of two numbers they are worked out, and else each stands for itself.
 
-use crate::tables::each_table;
-use std::alloc::AllocError;
-
-const TABLES: &str = r"# quotients that are the same
+/// The tables.
+pub static TABLES: &str = r"# quotients that are the same
 # Two right sides, and the inputs of both machines.
 check a.fsmd b.fsmd¦fsmd 1; input a; output y; reset s; state s: goto s: y = {1};¦fsmd 1; input a; output y; reset s; state s: goto s: y = {2};¦¦{3}\n
 :
@@ -49,8 +47,3 @@ a / b * b + a % b¦a¦counterexample\na = 2\nb = 0\nleft: y = 0\nright: y = 2
 a / b¦b / a¦counterexample\na = -1\nb = 2\nleft: y = 0\nright: y = -2
 a % b¦a / b¦counterexample\na = 1\nb = 1\nleft: y = 0\nright: y = 1
 a / 2¦a / -2¦counterexample\na = 2\nb = 2\nleft: y = 1\nright: y = -1";
-
-#[test]
-fn quotients_and_remainders(rt: HostRuntime) -> Result<(), AllocError> {
-    each_table(&rt, rt.alloc(), TABLES)
-}

@@ -1,9 +1,7 @@
 //! Ports in `check`: the lists of numbers that machines emit are outputs.
 
-use crate::tables::each_table;
-use std::alloc::AllocError;
-
-const TABLES: &str = r"# machines that emit
+/// The tables.
+pub static TABLES: &str = r"# machines that emit
 check a.fsmd b.fsmd¦{1}¦{2}¦¦{3}
 :
 {emits in turn}¦{emits at once}¦equivalent: 2 nodes\n
@@ -21,8 +19,3 @@ emit p a¦emit q a¦counterexample\na = 0\nb = 0\nleft: p = [0], q = []\nright: 
 x = 1¦emit p 0¦counterexample\na = 0\nb = 0\nleft: p = [], q = []\nright: p = [0], q = []
 emit p a, x = 1, emit p x¦emit p a, emit p 0¦equivalent: 2 nodes
 emit p 1, emit q a / 1¦emit p 1, emit q a¦undecided: output q at start.0>done | start.0>done";
-
-#[test]
-fn lists_that_are_emitted(rt: HostRuntime) -> Result<(), AllocError> {
-    each_table(&rt, rt.alloc(), TABLES)
-}

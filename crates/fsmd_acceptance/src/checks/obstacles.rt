@@ -1,9 +1,7 @@
 //! What `check` names where it neither finds the same behaviour nor a candidate that shows a difference.
 
-use crate::tables::each_table;
-use std::alloc::AllocError;
-
-const TABLES: &str = r"# outputs whose terms differ
+/// The tables.
+pub static TABLES: &str = r"# outputs whose terms differ
 # The first output whose terms differ, in the order of the left machine, and the paths of the last move.
 check a.fsmd b.fsmd¦fsmd 1; input a, b; output x, y; reset s; {1}¦fsmd 1; input b, a; output y, x; reset s; {2}¦¦undecided: {3}\n
 :
@@ -82,8 +80,3 @@ check a.fsmd b.fsmd¦fsmd 1; input a, b; local x<<0 to 10:, t00#>><<10 to 100:, 
 :
 1¦1¦equivalent: 4 nodes
 63¦64¦undecided: more than 4000000 units";
-
-#[test]
-fn obstacles(rt: HostRuntime) -> Result<(), AllocError> {
-    each_table(&rt, rt.alloc(), TABLES)
-}

@@ -1,9 +1,7 @@
 //! Machines that `check` finds to have the same behaviour, and the number of nodes of the table that shows it.
 
-use crate::tables::each_table;
-use std::alloc::AllocError;
-
-const TABLES: &str = r"# straight machines
+/// The tables.
+pub static TABLES: &str = r"# straight machines
 check a.fsmd b.fsmd¦{1}¦{2}¦¦{3}
 :
 {machine}¦{machine}¦equivalent: 2 nodes\n
@@ -112,8 +110,3 @@ local array m; reset s; state s: goto s: y = a, m[0] = b;¦2
 local array m; reset s; state s: goto s: y = a + m[b];¦2
 reset s; state s: goto s: y = a + 4 / 2 - 2;¦2
 reset s; state s: goto s: y = a + 0 * (b % b);¦2";
-
-#[test]
-fn schedules_with_the_same_behaviour(rt: HostRuntime) -> Result<(), AllocError> {
-    each_table(&rt, rt.alloc(), TABLES)
-}

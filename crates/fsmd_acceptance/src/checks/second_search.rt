@@ -1,9 +1,7 @@
 //! Machines that the first search leaves open, and `check` finds to have the same behaviour by a second one.
 
-use crate::tables::each_table;
-use std::alloc::AllocError;
-
-const TABLES: &str = r"# sums of loops
+/// The tables.
+pub static TABLES: &str = r"# sums of loops
 # In order: an entry is read once, into a register, and tested and added; a counter runs down in place of up; a product is kept
 # over the inner loop; a step shares the state of the test of its result; the exit test is not equal.
 check a.fsmd b.fsmd¦fsmd 1; input n; input array a; output y; local i, j, m, q, s; {1}¦fsmd 1; input n; input array a; output y; local i, j, m, s, v, row; {2}¦¦equivalent: {3} nodes\n
@@ -19,8 +17,3 @@ reset s0; state s0: goto s1: i = 0, s = 0; state s1: when i < n goto s1: s = s +
 check a.fsmd b.fsmd¦{1}¦{2}¦¦{3}
 :
 fsmd 1; input array a; output array b; local i; reset s0; state s0: goto s1: i = 0; state s1: when i < 4 goto s2; goto s0; state s2: goto s1: b[i] = 2 * a[i], i = i + 1;¦fsmd 1; input array a; output array b; local i; reset q0; state q0: goto q1: i = 0; state q1: goto q2: b[i] = 2 * a[i], i = i + 1; state q2: when i < 4 goto q1; goto q0;¦equivalent: 4 nodes\n";
-
-#[test]
-fn schedules_of_the_second_search(rt: HostRuntime) -> Result<(), AllocError> {
-    each_table(&rt, rt.alloc(), TABLES)
-}

@@ -1,9 +1,7 @@
 //! Machines of one branch a state, compared over numbers, scalars, `+`, `-` and `*`.
 
-use crate::tables::each_table;
-use std::alloc::AllocError;
-
-const TABLES: &str = r"# sums that are the same
+/// The tables.
+pub static TABLES: &str = r"# sums that are the same
 # Which sum is the left machine's, which the right one's, and the inputs.
 check a.fsmd b.fsmd¦fsmd 1; input {C}; output y; reset s0; state s0: goto s0: y = {A};¦fsmd 1; input {C}; output y; reset s0; state s0: goto s0: y = {B};¦¦equivalent: 2 nodes\n
 + {1}¦{2}¦a, b
@@ -154,8 +152,3 @@ check a.fsmd b.fsmd¦fsmd 1; input <<0 to 64:v#, >>v64; output y; reset s; state
 <<32 to 62:v# + >>v62 + 2¦equivalent: 2 nodes\n
 <<32 to 63:v# + >>v63 + 2¦undecided: term too large at start.0>done | start.0>done\n
 <<32 to 64:v# + >>v64¦undecided: term too large at start.0>done | start.0>done\n";
-
-#[test]
-fn sums_and_products(rt: HostRuntime) -> Result<(), AllocError> {
-    each_table(&rt, rt.alloc(), TABLES)
-}
