@@ -1,12 +1,19 @@
 //! Assertions of rows, by the kind of what they say.
 
-use crate::{calls, literals, measures, normal, operations, orders, substitutions};
+use crate::terms::{calls, literals, measures, normal, operations, orders, substitutions};
 use nf_terms::stop::NfStop;
 use std::alloc::Global;
 use std::process::Abort;
 
-/// Asserts each row of a table.
-pub fn each(rt: &impl Abort, alloc: Global, kind: &str, rows: &str) {
+/// Asserts each row of tables, each of which begins with the kind of its rows.
+pub fn each(rt: &impl Abort, alloc: Global, tables: &[&str]) {
+    for table in tables {
+        let (kind, rows) = table.split_once(":\n").unwrap_or((table, "no row"));
+        each_row(rt, alloc, kind, rows);
+    }
+}
+
+fn each_row(rt: &impl Abort, alloc: Global, kind: &str, rows: &str) {
     for row in rows.lines() {
         assert!(rt; holds(alloc, kind, row) == Ok(true), "{kind}: {row}");
     }
@@ -16,6 +23,8 @@ pub fn each(rt: &impl Abort, alloc: Global, kind: &str, rows: &str) {
 fn holds(alloc: Global, kind: &str, row: &str) -> Result<bool, NfStop> {
     match kind {
         "operation" => operations::gives(alloc, row),
+        "wide number" => operations::is_wide(alloc, row),
+        "call" => calls::is_called(alloc, row),
         "measures" => measures::has_measures(alloc, row),
         "normal" => normal::is_normal(alloc, row, true),
         "not normal" => normal::is_normal(alloc, row, false),

@@ -1,9 +1,8 @@
 //! Vectors, and what they give in place of symbols.
 
-use crate::forms::form;
-use crate::operations::is_event;
-use crate::rows::each;
-use crate::trees::position;
+use crate::terms::forms::form;
+use crate::terms::operations::is_event;
+use crate::terms::trees::position;
 use nf_substitution::subst::{Subst, subst_arr, subst_poly, subst_seq};
 use nf_substitution::vector::Vector;
 use nf_terms::form::Nf;
@@ -97,7 +96,9 @@ pub fn gives(alloc: Global, row: &str) -> Result<bool, NfStop> {
     holds(alloc, &vector, left, right)
 }
 
-const SUBSTITUTIONS: &str = "a = b | a 1 + : b 1 +
+/// Rows of the kind `substitution`.
+pub static SUBSTITUTIONS: &str = "substitution:
+a = b | a 1 + : b 1 +
 a = b ; b = a | a 2 b * - : b 2 a * -
 a = b 1 + | a a * : b b * 2 b * + 1 +
 a = 0 | a b * : 0
@@ -119,17 +120,8 @@ a = A | #0 a a * << : #0 A A * <<
 a = b ; a = c | a : c
 ";
 
-#[test]
-fn forms_in_place_of_symbols(rt: HostRuntime) {
-    each(&rt, rt.alloc(), "substitution", SUBSTITUTIONS);
-}
-
-const EVENTS: &str =
-    "a = a^64 ; b = 170141183460469231731687303715884105727 | a a * 2 b * + : large 4225 0
+/// Rows of the kind `substitution`.
+pub static EVENTS: &str = "substitution:
+a = a^64 ; b = 170141183460469231731687303715884105727 | a a * 2 b * + : large 4225 0
 a = a^64 ; b = 170141183460469231731687303715884105727 | a 2 * b * c * a a * + : wide 2 170141183460469231731687303715884105727
 ";
-
-#[test]
-fn the_first_event_of_a_substitution(rt: HostRuntime) {
-    each(&rt, rt.alloc(), "substitution", EVENTS);
-}

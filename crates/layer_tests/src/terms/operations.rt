@@ -1,7 +1,6 @@
 //! What operations give, and where they stop.
 
-use crate::forms::{form, written_form};
-use crate::rows::each;
+use crate::terms::forms::{form, written_form};
 use nf_sums::sums::number;
 use nf_terms::form::Nf;
 use nf_terms::stop::NfStop;
@@ -21,7 +20,9 @@ pub fn gives(alloc: Global, row: &str) -> Result<bool, NfStop> {
     }
 }
 
-const SUMS: &str = "b a + = a b +
+/// Rows of the kind `operation`.
+pub static SUMS: &str = "operation:
+b a + = a b +
 a a + = 2 a *
 a a - = 0
 a b + a b - + = 2 a *
@@ -39,7 +40,9 @@ a b * c * b a * c * - = 0
 a b + c + d + e + b - d - = a c + e +
 ";
 
-const DIVISIONS: &str = "7 2 / = 3
+/// Rows of the kind `operation`.
+pub static DIVISIONS: &str = "operation:
+7 2 / = 3
 -7 2 / = -3
 7 -2 / = -3
 -7 -2 / = 3
@@ -57,7 +60,9 @@ a b + a - 2 / = b 2 /
 a b / a b % + = a b / a b % +
 ";
 
-const ARRAYS: &str = "@m 0 [] = @m 0 []
+/// Rows of the kind `operation`.
+pub static ARRAYS: &str = "operation:
+@m 0 [] = @m 0 []
 @0 a [] = 0
 @m a 5 {} a [] = 5
 @m a 5 {} a 1 + [] = @m a 1 + []
@@ -78,21 +83,6 @@ const ARRAYS: &str = "@m 0 [] = @m 0 []
 #0 1 << 2 << = #0 1 << 2 <<
 ";
 
-#[test]
-fn sums_and_products(rt: HostRuntime) {
-    each(&rt, rt.alloc(), "operation", SUMS);
-}
-
-#[test]
-fn quotients_and_remainders(rt: HostRuntime) {
-    each(&rt, rt.alloc(), "operation", DIVISIONS);
-}
-
-#[test]
-fn reads_writes_and_pushes(rt: HostRuntime) {
-    each(&rt, rt.alloc(), "operation", ARRAYS);
-}
-
 /// Whether an event is that of a text, as `wide 1 2` or `large 1 2`.
 pub fn is_event(stop: NfStop, text: &str) -> bool {
     let (kind, numbers) = text.trim().split_once(' ').unwrap_or((text, ""));
@@ -112,9 +102,9 @@ pub fn is_event(stop: NfStop, text: &str) -> bool {
     }
 }
 
-// The first event in order; in one operation the weight, then the size, then the depth.
-const EVENTS: &str =
-    "170141183460469231731687303715884105727 a + = wide 170141183460469231731687303715884105727 1
+/// The first event in order; in one operation the weight, then the size, then the depth.
+pub static EVENTS: &str = "operation:
+170141183460469231731687303715884105727 a + = wide 170141183460469231731687303715884105727 1
 170141183460469231731687303715884105727 -1 - = wide 170141183460469231731687303715884105727 1
 170141183460469231731687303715884105727 a * 2 * = wide 170141183460469231731687303715884105727 2
 -170141183460469231731687303715884105727 a * -2 * = wide 170141183460469231731687303715884105727 2
@@ -135,16 +125,17 @@ a^4094 b / = large 4099 0
 #s a^4094 << = large 4097 0
 ";
 
-#[test]
-fn where_operations_stop(rt: HostRuntime) {
-    each(&rt, rt.alloc(), "operation", EVENTS);
-}
+/// Rows of the kind `wide number`: a number, whose sum would be too wide, as the absolute value and 0 say.
+pub static WIDE_NUMBERS: &str = "wide number:
+-170141183460469231731687303715884105728 = wide 170141183460469231731687303715884105728 0
+";
 
-#[test]
-fn the_least_number_is_wide(rt: HostRuntime) {
-    let wide = NfStop::Wide {
-        left: 1 << 127,
-        right: 0,
-    };
-    assert!(rt; matches!(number(rt.alloc(), &i128::MIN), Err(stop) if stop == wide));
+/// Whether no sum is made of the number of a row, as its event says.
+pub fn is_wide(alloc: Global, row: &str) -> Result<bool, NfStop> {
+    let (digits, event) = row.split_once('=').unwrap_or((row, ""));
+    let value = digits.trim().parse::<i128>().unwrap_or(0);
+    match number(alloc, &value) {
+        Ok(_) => Ok(false),
+        Err(stop) => Ok(is_event(stop, event)),
+    }
 }

@@ -1,8 +1,7 @@
 //! Which trees are normal forms.
 
-use crate::forms::normal;
-use crate::rows::each;
-use crate::trees::tree_of;
+use crate::terms::forms::normal;
+use crate::terms::trees::tree_of;
 use nf_terms::stop::NfStop;
 use std::alloc::Global;
 
@@ -12,7 +11,9 @@ pub fn is_normal(alloc: Global, text: &str, wanted: bool) -> Result<bool, NfStop
     Ok(normal(tree).is_some() == wanted)
 }
 
-const NORMAL: &str = "0
+/// Rows of the kind `normal`.
+pub static NORMAL: &str = "normal:
+0
 -5
 a b *
 a a *
@@ -41,7 +42,9 @@ m~64
 @m m~63 0 {}
 ";
 
-const NOT_NORMAL: &str = "b a *
+/// Rows of the kind `not normal`.
+pub static NOT_NORMAL: &str = "not normal:
+b a *
 A a *
 b a +
 1 a +
@@ -74,13 +77,3 @@ m~65
 @m a^4095 0 {}
 @m m~64 0 {}
 ";
-
-#[test]
-fn trees_that_are_normal_forms(rt: HostRuntime) {
-    each(&rt, rt.alloc(), "normal", NORMAL);
-}
-
-#[test]
-fn trees_that_are_none(rt: HostRuntime) {
-    each(&rt, rt.alloc(), "not normal", NOT_NORMAL);
-}

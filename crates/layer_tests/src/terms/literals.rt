@@ -2,9 +2,8 @@
 
 ghost use Rattle.std.specs.Prelude.{◌<◌};
 
-use crate::forms::{is_sum, sum};
-use crate::rows::each;
-use crate::trees::put_last;
+use crate::terms::forms::{is_sum, sum};
+use crate::terms::trees::put_last;
 use fs_model::parts::Rel;
 use nf_refutation::refutation::{Places, is_refuted, refuted};
 use nf_rel::clashes::{clash, implied, negate};
@@ -91,7 +90,9 @@ pub fn becomes(alloc: Global, left: &str, right: &str) -> Result<bool, NfStop> {
     is_copied(alloc, &literal, right)
 }
 
-const LITERALS: &str = "2 a *, >, 3: a, >=, 2
+/// Rows of the kind `literal`.
+pub static LITERALS: &str = "literal:
+2 a *, >, 3: a, >=, 2
 2 a *, ==, 3: false
 2 a *, ==, 4: a, ==, 2
 2 a *, !=, 3: true
@@ -118,11 +119,6 @@ a, >=, -170141183460469231731687303715884105726: a, >=, -17014118346046923173168
 @m 2 a * [] 2 *, ==, 8: @m 2 a * [], ==, 4
 ";
 
-#[test]
-fn literals_of_relations(rt: HostRuntime) {
-    each(&rt, rt.alloc(), "literal", LITERALS);
-}
-
 // Whether the negation of a literal is that of a text.
 fn becomes_negated(alloc: Global, literal: NLit, text: &str) -> Result<bool, NfStop> {
     let negation = negate(literal);
@@ -137,16 +133,13 @@ pub fn negates(alloc: Global, left: &str, right: &str) -> Result<bool, NfStop> {
     becomes_negated(alloc, negate(read_literal(alloc, left)?), left)
 }
 
-const NEGATIONS: &str = "a, >=, 2: a, <=, 1
+/// Rows of the kind `negation`.
+pub static NEGATIONS: &str = "negation:
+a, >=, 2: a, <=, 1
 a, <=, 2: a, >=, 3
 a, ==, 2: a, !=, 2
 a, !=, 2: a, ==, 2
 ";
-
-#[test]
-fn negations(rt: HostRuntime) {
-    each(&rt, rt.alloc(), "negation", NEGATIONS);
-}
 
 // Whether two literals clash as wanted, in both orders; those that do are not the same.
 fn clash_as(left: &NLit, right: &NLit, wanted: bool) -> bool {
@@ -167,7 +160,9 @@ pub fn clashes(alloc: Global, left: &str, right: &str, wanted: bool) -> Result<b
     clashes_with(alloc, &left, right, wanted)
 }
 
-const CLASHES: &str = "a, >=, 2: a, <=, 1
+/// Rows of the kind `clash`.
+pub static CLASHES: &str = "clash:
+a, >=, 2: a, <=, 1
 a, >=, 2: a, ==, 1
 a, <=, 2: a, ==, 3
 a, ==, 2: a, ==, 3
@@ -178,7 +173,9 @@ a, <, b: b, <=, a
 0, ==, 1: 0, ==, 0
 ";
 
-const NO_CLASHES: &str = "a, >=, 2: a, <=, 2
+/// Rows of the kind `no clash`.
+pub static NO_CLASHES: &str = "no clash:
+a, >=, 2: a, <=, 2
 a, >=, 2: b, <=, 1
 a, >=, 2: a, >=, 5
 a, <=, 2: a, <=, 1
@@ -191,12 +188,6 @@ a, !=, 2: a, !=, 2
 0, ==, 0: 0, ==, 0
 a, >=, 2: a b +, <=, 1
 ";
-
-#[test]
-fn literals_that_clash(rt: HostRuntime) {
-    each(&rt, rt.alloc(), "clash", CLASHES);
-    each(&rt, rt.alloc(), "no clash", NO_CLASHES);
-}
 
 // The literals of a list, between `;`.
 fn read_list(alloc: Global, text: &str) -> Result<Vec<NLit>, NfStop> {
@@ -239,7 +230,9 @@ pub fn is_refuted_at(alloc: Global, text: &str, places: &str) -> Result<bool, Nf
     are_refuted_at(alloc, list.as_slice(), places)
 }
 
-const LISTS: &str = "a, >=, 2: none
+/// Rows of the kind `refuted`.
+pub static LISTS: &str = "refuted:
+a, >=, 2: none
 a, >=, 2; b, <=, 1: none
 a, >=, 2; b, <=, 1; a, <=, 1: 0 2
 a, >=, 2; b, <=, 1; b, >=, 2; a, <=, 1: 0 3
@@ -258,11 +251,6 @@ a, <=, 4; a, >=, 1; a, >=, 5; a, >=, 3: 0 2
 a, >=, 1; a, <=, 9; a, !=, 3; b, ==, 3: none
 ";
 
-#[test]
-fn lists_that_are_refuted(rt: HostRuntime) {
-    each(&rt, rt.alloc(), "refuted", LISTS);
-}
-
 // Whether a list is refuted as wanted, though no two of its literals clash.
 fn are_refuted_together(alloc: Global, list: &[NLit], wanted: bool) -> Result<bool, NfStop> {
     Ok(is_refuted(alloc, list)? == wanted && clashing(list)?.is_none())
@@ -274,7 +262,9 @@ pub fn is_refuted_together(alloc: Global, row: &str, wanted: bool) -> Result<boo
     are_refuted_together(alloc, list.as_slice(), wanted)
 }
 
-const REFUTED_TOGETHER: &str = "a, >=, 3; a, <=, 3; a, !=, 3
+/// Rows of the kind `refuted together`.
+pub static REFUTED_TOGETHER: &str = "refuted together:
+a, >=, 3; a, <=, 3; a, !=, 3
 a, <=, b; b, <=, a; a, !=, b
 2 a *, >=, 5; 2 a *, <=, 7; a, !=, 3
 a, !=, 4; a, <=, 5; a, !=, 3; a, >=, 3; a, !=, 5
@@ -285,7 +275,9 @@ a, >=, -170141183460469231731687303715884105726; a, <=, -17014118346046923173168
 a, >=, 170141183460469231731687303715884105724; a, <=, 170141183460469231731687303715884105725; a, !=, 170141183460469231731687303715884105724; a, !=, 170141183460469231731687303715884105725
 ";
 
-const OPEN: &str = "a, >=, 3; a, !=, 3; a, !=, 4
+/// Rows of the kind `open`.
+pub static OPEN: &str = "open:
+a, >=, 3; a, !=, 3; a, !=, 4
 a, <=, 3; a, !=, 3; a, !=, 2
 a, !=, 3; a, !=, 4
 a, >=, 3; a, <=, 5; a, !=, 3; a, !=, 5
@@ -295,12 +287,6 @@ a, >=, 0; b, >=, 0; a b +, <=, -1
 a, >=, 170141183460469231731687303715884105726; a, !=, 170141183460469231731687303715884105726
 a, <=, -170141183460469231731687303715884105725; a, !=, -170141183460469231731687303715884105725
 ";
-
-#[test]
-fn lists_that_are_refuted_together(rt: HostRuntime) {
-    each(&rt, rt.alloc(), "refuted together", REFUTED_TOGETHER);
-    each(&rt, rt.alloc(), "open", OPEN);
-}
 
 // Whether a list implies the literal of a text, as wanted.
 fn imply(alloc: Global, list: &[NLit], text: &str, wanted: bool) -> Result<bool, NfStop> {
@@ -314,7 +300,9 @@ pub fn implies(alloc: Global, text: &str, last: &str, wanted: bool) -> Result<bo
     imply(alloc, list.as_slice(), last, wanted)
 }
 
-const IMPLIED: &str = "a, >=, 2: a, >=, 2
+/// Rows of the kind `implied`.
+pub static IMPLIED: &str = "implied:
+a, >=, 2: a, >=, 2
 a, >=, 2: a, >=, 1
 a, >=, 2: a, >, 1
 a, >=, 2: a, !=, 1
@@ -337,7 +325,9 @@ a, >=, -170141183460469231731687303715884105726; a, !=, -17014118346046923173168
 a, >=, 170141183460469231731687303715884105726: a, >=, 170141183460469231731687303715884105726
 ";
 
-const NOT_IMPLIED: &str = "a, >=, 2: a, >=, 3
+/// Rows of the kind `not implied`.
+pub static NOT_IMPLIED: &str = "not implied:
+a, >=, 2: a, >=, 3
 a, >=, 2: a, <=, 5
 a, >=, 2: b, >=, 2
 a, !=, 2: a, !=, 3
@@ -348,9 +338,3 @@ a, >=, 3; a, <=, 3; a, !=, 3: b, ==, 9
 a, >=, 3; a, <=, 3; a, !=, 3: 0, ==, 1
 a, >=, 170141183460469231731687303715884105725: a, >=, 170141183460469231731687303715884105726
 ";
-
-#[test]
-fn literals_that_are_implied(rt: HostRuntime) {
-    each(&rt, rt.alloc(), "implied", IMPLIED);
-    each(&rt, rt.alloc(), "not implied", NOT_IMPLIED);
-}

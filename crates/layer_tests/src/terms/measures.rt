@@ -1,7 +1,6 @@
 //! Sizes, depths and weights.
 
-use crate::forms::written_form;
-use crate::rows::each;
+use crate::terms::forms::written_form;
 use nf_terms::form::Nf;
 use nf_terms::stop::NfStop;
 use std::alloc::Global;
@@ -35,8 +34,9 @@ pub fn has_measures(alloc: Global, row: &str) -> Result<bool, NfStop> {
     Ok(has(&form, cells))
 }
 
-// A text: its size, its depth, its weight.
-const MEASURES: &str = "0: 0, 0, 0
+/// A text: its size, its depth, its weight.
+pub static MEASURES: &str = "measures:
+0: 0, 0, 0
 7: 1, 0, 7
 a: 2, 0, 1
 a b *: 3, 0, 1
@@ -61,8 +61,3 @@ a^4095: 4096, 0, 1
 #s 1 << a b + <<: 8, 1, 0
 #s a b / <<: 8, 2, 0
 ";
-
-#[test]
-fn sizes_depths_and_weights(rt: HostRuntime) {
-    each(&rt, rt.alloc(), "measures", MEASURES);
-}

@@ -1,7 +1,6 @@
 //! The order of terms.
 
-use crate::forms::form;
-use crate::rows::each;
+use crate::terms::forms::form;
 use nf_terms::form::Nf;
 use nf_terms::stop::NfStop;
 use std::alloc::Global;
@@ -39,7 +38,9 @@ pub fn stands(alloc: Global, row: &str) -> Result<bool, NfStop> {
     stands_before(alloc, &lower, right)
 }
 
-const RISING: &str = "a < b
+/// Rows of the kind `order`.
+pub static RISING: &str = "order:
+a < b
 b < A
 z < A
 A < B
@@ -77,8 +78,3 @@ a c / < b a /
 #a < #a 1 <<
 #a 1 << < #a 2 <<
 ";
-
-#[test]
-fn the_order_of_terms(rt: HostRuntime) {
-    each(&rt, rt.alloc(), "order", RISING);
-}

@@ -2,10 +2,9 @@
 
 ghost use Rattle.std.specs.Prelude.{◌≤◌, ◌<◌, neg_ℤ, unsigned_abs};
 
-use crate::forms::{form, is_sum, normal, sum};
-use crate::operations::is_written;
-use crate::rows::each;
-use crate::trees::{Tree, position};
+use crate::terms::forms::{form, is_sum, normal, sum};
+use crate::terms::operations::is_written;
+use crate::terms::trees::{Tree, position};
 use nf_bank::bank::{AtomId, Bank};
 use nf_substitution::vector::Vector;
 use nf_terms::coefficients::{Change, part_with_atoms, with_coefficients};
@@ -32,24 +31,22 @@ const M: Pos = Pos {
     var: 12,
 };
 
-// The symbol of a word, as `a`, `@m` of an array and `#m` of a list, with its sort.
-fn symbol_of(word: &str) -> Option<(Pos, Sort)> {
-    if let Some(name) = word.strip_prefix("@") {
-        return Some((position(name)?, Sort::Array));
-    }
-    if let Some(name) = word.strip_prefix("#") {
-        return Some((position(name)?, Sort::List));
-    }
-    Some((position(word)?, Sort::Scalar))
+// Whether a symbol is that of a word, as `a`, `@m` of an array and `#m` of a list.
+fn is_symbol(symbol: Pos, sort: Sort, word: &str) -> bool {
+    let name = match sort {
+        Sort::Scalar => word,
+        Sort::Array => word.strip_prefix("@").unwrap_or(""),
+        Sort::List => word.strip_prefix("#").unwrap_or(""),
+    };
+    position(name) == Some(symbol)
 }
 
 // Whether these are the symbols of a text, and the form mentions each.
 fn are_symbols(form: &Nf, symbols: &[(Pos, Sort)], text: &str) -> bool {
     let mut words = text.split_whitespace();
-    for (found, sort) in symbols {
-        match symbol_of(words.next().unwrap_or("")) {
-            Some((symbol, kind)) if symbol == *found && kind == *sort && form.mentions(symbol) => {}
-            _ => return false,
+    for (symbol, sort) in symbols {
+        if !is_symbol(*symbol, *sort, words.next().unwrap_or("")) || !form.mentions(*symbol) {
+            return false;
         }
     }
     words.next().is_none()
@@ -67,15 +64,12 @@ pub fn has_symbols(alloc: Global, text: &str, wanted: &str) -> Result<bool, NfSt
     mentions(alloc, &form, wanted)
 }
 
-const SYMBOLS: &str = "a @m 1 [] * a + : a @m a
+/// Rows of the kind `symbols`.
+pub static SYMBOLS: &str = "symbols:
+a @m 1 [] * a + : a @m a
 @m a 5 {} : @m a
 #m a << : #m a
 ";
-
-#[test]
-fn symbols_of_forms(rt: HostRuntime) {
-    each(&rt, rt.alloc(), "symbols", SYMBOLS);
-}
 
 // Whether a copy of a form is the same.
 fn copy_is_same(alloc: Global, form: &Nf) -> Result<bool, NfStop> {
@@ -89,16 +83,13 @@ pub fn is_copied(alloc: Global, text: &str) -> Result<bool, NfStop> {
     copy_is_same(alloc, &form)
 }
 
-const COPIES: &str = "a b / c a % * 2 +
+/// Rows of the kind `copy`.
+pub static COPIES: &str = "copy:
+a b / c a % * 2 +
 @m a b {}
 #m a << b <<
 m~64
 ";
-
-#[test]
-fn copies_of_forms(rt: HostRuntime) {
-    each(&rt, rt.alloc(), "copy", COPIES);
-}
 
 // A form that is made anew of the tree taken out of it.
 fn taken_out(form: Nf) -> Option<Nf> {
@@ -117,10 +108,11 @@ pub fn is_taken_out(alloc: Global, text: &str) -> Result<bool, NfStop> {
     }
 }
 
-#[test]
-fn trees_of_forms(rt: HostRuntime) {
-    each(&rt, rt.alloc(), "tree", "a b / 2 +\n@m a b {}");
-}
+/// Rows of the kind `tree`.
+pub static TREES: &str = "tree:
+a b / 2 +
+@m a b {}
+";
 
 // The part with atoms of a text's sum.
 fn part_of(alloc: Global, text: &str) -> Result<Poly, NfStop> {
@@ -134,10 +126,11 @@ pub fn has_part(alloc: Global, text: &str, part: &str) -> Result<bool, NfStop> {
     is_sum(alloc, &found, part)
 }
 
-#[test]
-fn parts_with_atoms(rt: HostRuntime) {
-    each(&rt, rt.alloc(), "part", "2 a * b + 5 + : 2 a * b +\n5 : 0");
-}
+/// Rows of the kind `part`.
+pub static PARTS: &str = "part:
+2 a * b + 5 + : 2 a * b +
+5 : 0
+";
 
 // Coefficients negated.
 struct Negation;
@@ -163,15 +156,18 @@ fn is_changed(alloc: Global) -> Result<bool, NfStop> {
     is_sum(alloc, &changed, "a neg")
 }
 
-#[test]
-fn sums_with_other_coefficients(rt: HostRuntime) {
-    assert!(rt; is_changed(rt.alloc()).unwrap_or(false));
+// Whether a vector has a number for a position, and gives this form by the position alone.
+fn gives_number(vector: &Vector, wanted: &Nf) -> bool {
+    match vector.form(Sort::Scalar, M) {
+        Some(_) => vector.get(M).is_same(wanted),
+        None => false,
+    }
 }
 
 // Whether a vector has a form for a position.
 fn has_form(alloc: Global, vector: &Vector, form: &Nf) -> Result<bool, NfStop> {
     match form {
-        Nf::Num(sum) => Ok(vector.number(alloc, &M)? == *sum),
+        Nf::Num(sum) => { Ok(gives_number(vector, form) && vector.number(alloc, &M)? == *sum) }
         Nf::Arr(array) => Ok(vector.array_base(alloc, &Base::Sym(M))? == *array),
         Nf::Seq(list) => Ok(vector.list_base(alloc, &SeqBase::Sym(M))? == *list),
     }
@@ -212,36 +208,12 @@ pub fn is_put(alloc: Global, text: &str) -> Result<bool, NfStop> {
     both_hold(alloc, &vector, text)
 }
 
-#[test]
-fn forms_of_vectors(rt: HostRuntime) {
-    each(&rt, rt.alloc(), "put", "a 1 +\n@m 0 a {}\n#m 5 <<");
-}
-
-// Whether a vector has a number for a position, and gives this form by the position alone.
-fn gives_number(vector: &Vector, p: Pos, wanted: &Nf) -> bool {
-    match vector.form(Sort::Scalar, p) {
-        Some(_) => vector.get(p).is_same(wanted),
-        None => false,
-    }
-}
-
-// Whether a vector gives the number of a text.
-fn gives_text(alloc: Global, vector: &Vector, text: &str) -> Result<bool, NfStop> {
-    let wanted = form(alloc, text)?;
-    Ok(gives_number(vector, M, &wanted) && !gives_number(vector, B, &wanted))
-}
-
-// Whether a vector gives the number that was put into it.
-fn is_given(alloc: Global, text: &str) -> Result<bool, NfStop> {
-    let mut vector = Vector::new(alloc);
-    put_form(alloc, &mut vector, text)?;
-    gives_text(alloc, &vector, text)
-}
-
-#[test]
-fn numbers_of_vectors(rt: HostRuntime) {
-    assert!(rt; is_given(rt.alloc(), "a 1 +").unwrap_or(false));
-}
+/// Rows of the kind `put`.
+pub static PUTS: &str = "put:
+a 1 +
+@m 0 a {}
+#m 5 <<
+";
 
 // The first atom of a sum.
 fn first_atom(sum: &Poly) -> Option<&Atom> {
@@ -291,8 +263,23 @@ fn numbers_atoms(alloc: Global, bank: &mut Bank) -> bool {
         && gives_back(alloc, bank, "c", 3) == Ok(true)
 }
 
-#[test]
-fn numbers_of_atoms(rt: HostRuntime) {
-    let mut bank = Bank::new(rt.alloc());
-    assert!(rt; numbers_atoms(rt.alloc(), &mut bank));
+// Whether an empty bank gives atoms their numbers, and the atoms back.
+fn are_numbered(alloc: Global) -> bool {
+    let mut bank = Bank::new(alloc);
+    numbers_atoms(alloc, &mut bank)
+}
+
+/// Rows of the kind `call`: what is called.
+pub static CALLS: &str = "call:
+a sum with other coefficients
+numbers of atoms
+";
+
+/// Whether what a row calls gives what it is to give.
+pub fn is_called(alloc: Global, row: &str) -> Result<bool, NfStop> {
+    match row {
+        "a sum with other coefficients" => is_changed(alloc),
+        "numbers of atoms" => Ok(are_numbered(alloc)),
+        _ => Ok(false),
+    }
 }

@@ -1,0 +1,4 @@
+//! Files and sinks.
+
+mod disk;
+mod memory;

@@ -1,0 +1,7 @@
+//! Straight lines, their rows, unit counts, blocks in blocks and chains.
+
+mod chains;
+mod counts;
+mod lines;
+mod nested;
+mod plans;
