@@ -25,7 +25,6 @@ fn worked_examples(rt: HostRuntime) {
             calls::SYMBOLS,
             calls::COPIES,
             calls::TREES,
-            calls::PARTS,
             calls::PUTS,
             calls::CALLS,
             literals::LITERALS,

@@ -3,7 +3,6 @@ pub mod Partings
 pub mod Reducing
 pub mod NormalParts
 pub mod Agreement
-pub mod Copying
 pub mod Degrees
 pub mod Differing
 pub mod Gathered

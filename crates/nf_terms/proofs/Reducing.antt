@@ -1,5 +1,5 @@
 -- What is reduced stays normal.
-use Rattle.std.proofs.Common.{◌≡◌, ◌≤◌, ℤ, true, refl, arith}
+use Rattle.std.proofs.Common.{◌≡◌, ◌≤◌, true, refl, arith}
 use Rattle.std.proofs.lemmas.Bool.{le-leb, and_from}
 use Rattle.fs_model.proofs.Booleans.{and_first, and_second}
 use Rattle.fs_model.proofs.Orderings.{is_lt-true}
@@ -9,7 +9,7 @@ use Rattle.nf_terms.specs.Order.{cmp_monomial}
 use Rattle.nf_terms.specs.Measures.{size_of, depth_of, weight_of}
 use Rattle.nf_terms.specs.TermLimits.{weight_limit}
 use Rattle.nf_terms.specs.Normal.{IsNormal, ordered, monomial_rises, is_light, narrow_inside, narrow_monomial, part_with_atoms}
-use Rattle.nf_terms.specs.Reduced.{Reduces, Ended, Dropped, Kept, with_coefficients, AllowsChange}
+use Rattle.nf_terms.specs.Reduced.{Reduces, Ended, Dropped, Kept}
 use Rattle.nf_terms.proofs.Simple.{light}
 use Rattle.nf_terms.proofs.Partings.{ordered_term, term_ordered, rises_through}
 
@@ -64,16 +64,8 @@ part_reduces Zero o = Ended
 part_reduces (Plus One c p) o = Dropped (part_reduces p (ordered_term One c p o).rest)
 part_reduces (Plus (Times a m) c p) o = let t = ordered_term (Times a m) c p o in Kept (not_zero c t.nonzero) (omega arith) (part_reduces p t.rest)
 
-pub change_reduces : (May : ℤ → Type 0) (f : ℤ → ℤ) (p : Polynomial) → AllowsChange May f p → Reduces p (with_coefficients f p)
-change_reduces May f Zero h = Ended
-change_reduces May f (Plus m c p) h = Kept h.1 h.2 (change_reduces May f p h.3)
-
 -- the part with atoms of a normal sum is normal
 pub part_normal : (p : Polynomial) → IsNormal p → IsNormal (part_with_atoms p)
 part_normal p n = reduced_normal p (part_with_atoms p) n (part_reduces p n.ordered)
 
--- a normal sum with its coefficients changed is normal
-pub changed_normal : (May : ℤ → Type 0) (f : ℤ → ℤ) (p : Polynomial) → IsNormal p → AllowsChange May f p → IsNormal (with_coefficients f p)
-changed_normal May f p n h = reduced_normal p (with_coefficients f p) n (change_reduces May f p h)
-
-pub ruleset reductions = (reduced_normal, part_normal, changed_normal)
+pub ruleset reductions = (reduced_normal, part_normal)

@@ -9,13 +9,3 @@ pub data Reduces : Polynomial → Polynomial → Type 0 where
   Dropped : {m : Monomial} {c : ℤ} {p q : Polynomial} → Reduces p q → Reduces (Plus m c p) q
   Kept : {m : Monomial} {c d : ℤ} {p q : Polynomial} → d ≢ pos 0 → unsigned_abs d ≤ unsigned_abs c → Reduces p q
       → Reduces (Plus m c p) (Plus m d q)
-
--- each coefficient changed
-abbrev pub with_coefficients : (ℤ → ℤ) → Polynomial → Polynomial
-with_coefficients f Zero = Zero
-with_coefficients f (Plus m c p) = Plus m (f c) (with_coefficients f p)
-
--- each coefficient may be changed, and becomes one that is not 0 and no larger in absolute value
-abbrev pub AllowsChange : (ℤ → Type 0) → (ℤ → ℤ) → Polynomial → Type 0
-AllowsChange May f Zero = Unit {0}
-AllowsChange May f (Plus m c p) = May c × (f c ≢ pos 0) × (unsigned_abs (f c) ≤ unsigned_abs c) × AllowsChange May f p

@@ -25,7 +25,6 @@
 pub mod arr;
 pub mod atoms;
 pub mod clones;
-pub mod coefficients;
 pub mod constants;
 pub mod copies;
 pub mod form;

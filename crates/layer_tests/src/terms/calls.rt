@@ -1,13 +1,10 @@
 //! Calls that take memory, each with ample memory.
 
-ghost use Rattle.std.specs.Prelude.{◌≤◌, ◌<◌, neg_ℤ, unsigned_abs};
-
-use crate::terms::forms::{form, is_sum, normal, sum};
+use crate::terms::forms::{form, normal, sum};
 use crate::terms::operations::is_written;
 use crate::terms::trees::{Tree, position};
 use nf_bank::bank::{AtomId, Bank};
 use nf_substitution::vector::Vector;
-use nf_terms::coefficients::{Change, part_with_atoms, with_coefficients};
 use nf_terms::form::Nf;
 use nf_terms::order::is_same_atom;
 use nf_terms::poly::Poly;
@@ -113,48 +110,6 @@ pub static TREES: &str = "tree:
 a b / 2 +
 @m a b {}
 ";
-
-// The part with atoms of a text's sum.
-fn part_of(alloc: Global, text: &str) -> Result<Poly, NfStop> {
-    let whole = sum(alloc, text)?;
-    Ok(part_with_atoms(alloc, &whole)?)
-}
-
-/// Whether the part with atoms of the left text is the right one.
-pub fn has_part(alloc: Global, text: &str, part: &str) -> Result<bool, NfStop> {
-    let found = part_of(alloc, text)?;
-    is_sum(alloc, &found, part)
-}
-
-/// Rows of the kind `part`.
-pub static PARTS: &str = "part:
-2 a * b + 5 + : 2 a * b +
-5 : 0
-";
-
-// Coefficients negated.
-struct Negation;
-
-impl Change for Negation {
-    ghost may_change = { λ _ c. unsigned_abs c ≤ 1 };
-
-    ghost changed = { λ _ c. neg_ℤ c };
-
-    fn change(&self, coefficient: &i128) -> i128 {
-        -*coefficient
-    }
-}
-
-// The negation of a.
-fn negated(alloc: Global) -> Result<Poly, NfStop> {
-    let symbol = Poly::symbol(alloc, A)?;
-    Ok(with_coefficients(alloc, &symbol, &Negation)?)
-}
-
-fn is_changed(alloc: Global) -> Result<bool, NfStop> {
-    let changed = negated(alloc)?;
-    is_sum(alloc, &changed, "a neg")
-}
 
 // Whether a vector has a number for a position, and gives this form by the position alone.
 fn gives_number(vector: &Vector, wanted: &Nf) -> bool {
@@ -271,14 +226,12 @@ fn are_numbered(alloc: Global) -> bool {
 
 /// Rows of the kind `call`: what is called.
 pub static CALLS: &str = "call:
-a sum with other coefficients
 numbers of atoms
 ";
 
 /// Whether what a row calls gives what it is to give.
 pub fn is_called(alloc: Global, row: &str) -> Result<bool, NfStop> {
     match row {
-        "a sum with other coefficients" => is_changed(alloc),
         "numbers of atoms" => Ok(are_numbered(alloc)),
         _ => Ok(false),
     }

@@ -42,7 +42,6 @@ fn holds_in_two(alloc: Global, kind: &str, row: &str) -> Result<bool, NfStop> {
     let (left, right) = row.split_once(':').unwrap_or((row, ""));
     match kind {
         "symbols" => calls::has_symbols(alloc, left, right),
-        "part" => calls::has_part(alloc, left, right),
         "literal" => literals::becomes(alloc, left, right),
         "negation" => literals::negates(alloc, left, right),
         "clash" => literals::clashes(alloc, left, right, true),
