@@ -6,9 +6,8 @@ use Rattle.serde_json.specs.Read.{read}
 use Rattle.cert_json.specs.Shape.{is_file, has_too_many}
 use Rattle.cert_json.specs.Trim.{trim}
 use Rattle.cert_json.specs.declared.level.Level.TheVariants.{File}
-use Rattle.cert_json.specs.Refusals.{IsFileOf, HasOtherShape, HasTooMany}
+use Rattle.cert_json.specs.Refusals.{IsShortFileOf, HasOtherShape, HasTooMany}
 use Rattle.cert_json.proofs.TrimLaws.{trim-is_file, trim-has_too_many}
-use Rattle.cert_json.proofs.WholeFiles.{file_same}
 
 pub other_shape : (bytes : List ℕ) (d v : Data) → IsUtf8 bytes → read bytes ≡ Some d → v ≡ trim File d → is_file v ≡ false → HasOtherShape bytes
 other_shape bytes d v text is e h = record { value = d; json = record { text = text; value = is }; shape = sym (trim-is_file d) ∙ ap is_file (sym e) ∙ h }
@@ -19,10 +18,9 @@ too_many bytes d v text is e h many =
     let shape : is_file d ≡ true = sym (trim-is_file d) ∙ ap is_file (sym e) ∙ h in
     record { value = d; json = record { text = text; value = is }; shape = shape; many = sym (trim-has_too_many d shape) ∙ ap has_too_many (sym e) ∙ many }
 
-pub whole_file : (bytes : List ℕ) (d v : Data) → IsUtf8 bytes → read bytes ≡ Some d → v ≡ trim File d → is_file v ≡ true → has_too_many v ≡ false
-    → IsFileOf bytes v
-whole_file bytes d v text is e h few =
+pub short_file : (bytes : List ℕ) (d v : Data) → IsUtf8 bytes → read bytes ≡ Some d → v ≡ trim File d → is_file v ≡ true → has_too_many v ≡ false
+    → IsShortFileOf bytes v
+short_file bytes d v text is e h few =
     let shape : is_file d ≡ true = sym (trim-is_file d) ∙ ap is_file (sym e) ∙ h in
     let small : has_too_many d ≡ false = sym (trim-has_too_many d shape) ∙ ap has_too_many (sym e) ∙ few in
-    let same : v ≡ d = e ∙ file_same d shape small in
-    record { json = record { text = text; value = is ∙ ap Some (sym same) }; shape = h; few = few }
+    record { value = d; file = record { json = record { text = text; value = is }; shape = shape; few = small }; short = e; shape = h; few = few }

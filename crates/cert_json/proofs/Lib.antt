@@ -1,9 +1,11 @@
 mod Counts
 mod Turns
-mod TrimLaws
+pub mod FirstNames
+pub mod TrimLaws
 mod ListLaws
 mod ObjectLaws
-mod WholeFiles
+pub mod KeptParts
+pub mod OrderedValues
 mod Files
 mod Digits
 mod Members

@@ -1,19 +1,25 @@
 -- Objects whose names get more, and what is kept of them.
-use Rattle.std.proofs.Common.{◌≡◌, ℕ, suc, ◌≤◌, List, true, false, length, nat_lt, nat_cmp, Option, Some, String, BTreeMap, Global}
+use Rattle.std.proofs.Common.{◌≡◌, ℕ, suc, ◌≤◌, List, [], Bool, true, false, ◌&&◌, length, nat_lt, nat_cmp, Option, Some}
 use Rattle.std.proofs.Common.{Ordering, Less, Equal, Greater}
-use Rattle.std.proofs.Common.{refl, sym, ap, ap₂, ◌∙◌, arith, rules}
+use Rattle.std.proofs.Common.{refl, sym, ap, ap₂, ◌∙◌, subst, arith, rules}
+use Rattle.std.specs.Prelude.{is_some, if◌then◌else◌}
 use Rattle.std.specs.Cmp.Lexicographic.{slice_cmp}
 use Rattle.std.specs.Ordering.{match_ordering}
-use Rattle.std.proofs.lemmas.Bool.{ltb-true, lt-ltb}
+use Rattle.std.proofs.lemmas.Bool.{ltb-true, lt-ltb, and_parts, false≢true}
 use Rattle.json.specs.Token.{Token}
 use Rattle.serde_json.specs.Data.{Data, null, object, Members, no_members, member, put}
 use Rattle.serde_json.specs.Events.{members_len}
+use Rattle.serde_json.specs.Find.{get_member, as_str}
 use Rattle.serde_json.specs.View.{view, members_view}
-use Rattle.serde_json.specs.declared.value.Value.{Value, Null, Object, the_lemmas}
+use Rattle.serde_json.specs.declared.value.Value.{Null, Object, the_lemmas}
 use Rattle.serde_json.proofs.Views.{members_len-members_view, view-Object, Entry}
-use Rattle.cert_json.specs.Trim.{below, exceeds, short_object, trim, trim_members}
+use Rattle.cert_json.specs.Shape.{name_texts}
+use Rattle.cert_json.specs.Trim.{below, exceeds, keeps_first, first_names, short_equations, short_object, trim, trim_members}
+use Rattle.cert_json.specs.Objects.{AreAscending, IsShortObject, is_no_text}
+use Rattle.cert_json.specs.declared.short_object.ShortObject.{ShortObject}
 use Rattle.cert_json.specs.declared.level.Level.{Level}
 use Rattle.cert_json.specs.declared.level.Level.TheVariants.{File, FileMember, Node, NodeMember, Deeper}
+use Rattle.cert_json.proofs.FirstNames.{first_put, ascending_put, text_put, other_put, texts_no_other, same_texts}
 use Rattle.cert_json.proofs.TrimLaws.{few_names, many_names, trim-members_len}
 
 trim-choice : (v : Level) (o : Ordering) (a b c : Members)
@@ -28,11 +34,71 @@ trim-put v k d (member l e ms) = trim-choice v (slice_cmp nat_cmp k l) (member k
     ∙ rw (trim-put v k d ms)
 
 -- the value of a name is put into what is kept of the members
-pub kept_put : (v w : Level) (k : List ℕ) (d x : Data) (before after ms : Members) → w ≡ below v → x ≡ trim w d → before ≡ trim_members (below v) ms
-    → after ≡ put k x before
-    → after ≡ trim_members (below v) (put k d ms)
+pub kept_put : (v w : Level) (k : List ℕ) (d x : Data) (before after : ShortObject) (ms : Members) → w ≡ below v → x ≡ trim w d
+    → IsShortObject v (trim_members (below v) ms) before
+    → ((ns : Members) → IsShortObject v ns before → IsShortObject v (put k x ns) after)
+    → IsShortObject v (trim_members (below v) (put k d ms)) after
 kept_put v w k d x before after ms level value members put_in =
-    put_in ∙ ap₂ (put k) (value ∙ ap (λ u. trim u d) level) members ∙ sym (trim-put (below v) k d ms)
+    let same : put k x (trim_members (below v) ms) ≡ trim_members (below v) (put k d ms) =
+    ap (λ y. put k y (trim_members (below v) ms)) (value ∙ ap (λ u. trim u d) level) ∙ sym (trim-put (below v) k d ms) in
+    subst (λ ns. IsShortObject v ns after) same (put_in (trim_members (below v) ms) members)
+
+-- ---- what is kept of one member more
+
+texts_before : (a b : Bool) (P : Type 0) → (a && b) ≡ true → (a ≡ true → b ≡ true → P) → P
+texts_before a b P e h = let p = and_parts a b e in h p.0 p.1
+
+-- where the first names are kept, and all were texts
+pub text_added : (v : Level) (k : List ℕ) (d : Data) (ms : Members) (before after : ShortObject) → keeps_first v ≡ true → before.all_texts ≡ true
+    → is_some (as_str d) ≡ true
+    → first_names (members_view after.members.entries) ≡ first_names (put k d (members_view before.members.entries))
+    → name_texts (members_view after.members.entries) ≡ true → AreAscending (members_view after.members.entries)
+    → IsShortObject v ms before → IsShortObject v (put k d ms) after
+text_added v k d ms before after keeps old text first texts up h =
+    let all : name_texts (put k d ms) ≡ true = text_put k d ms text (h.texts old) in
+    let now : Members = members_view after.members.entries in
+    record {
+      whole = λ none. absurd (false≢true (sym none ∙ keeps));
+      first = first ∙ first_put 385 k d (members_view before.members.entries) ∙ ap (λ ns. first_names (put k d ns)) h.first ∙ sym (first_put 385 k d ms);
+      others = λ q. texts_no_other q now texts ∙ sym (texts_no_other q (put k d ms) all);
+      ascending = ascending_put k d ms h.ascending;
+      kept_ascending = up;
+      texts = λ _. all;
+      kept_texts = λ _. texts;
+    }
+
+-- and elsewhere
+pub any_added : (v : Level) (k : List ℕ) (d : Data) (ms : Members) (before after : ShortObject)
+    → after.all_texts ≡ (before.all_texts && is_some (as_str d))
+    → members_view after.members.entries ≡ put k d (members_view before.members.entries)
+    → IsShortObject v ms before → IsShortObject v (put k d ms) after
+any_added v k d ms before after flag is h =
+    let old : Members = members_view before.members.entries in
+    let new : Members = members_view after.members.entries in
+    record {
+      whole = λ none. is ∙ ap (put k d) (h.whole none);
+      first = ap first_names is ∙ first_put 385 k d old ∙ ap (λ ns. first_names (put k d ns)) h.first ∙ sym (first_put 385 k d ms);
+      others = λ q. ap (λ ns. is_no_text (get_member q ns)) is ∙ other_put q k d old ms (h.others q);
+      ascending = ascending_put k d ms h.ascending;
+      kept_ascending = subst AreAscending (sym is) (ascending_put k d old h.kept_ascending);
+      texts = λ all. texts_before before.all_texts (is_some (as_str d)) _ (sym flag ∙ all) (λ a text. text_put k d ms text (h.texts a));
+      kept_texts = λ all. texts_before before.all_texts (is_some (as_str d)) _ (sym flag ∙ all)
+          (λ a text. ap name_texts is ∙ text_put k d old text (h.kept_texts a));
+    }
+
+-- an object of no members
+pub none_added : (v : Level) (o : ShortObject) → o.members.entries ≡ [] → IsShortObject v no_members o
+none_added v o none =
+    let same : members_view o.members.entries ≡ no_members = ap members_view none in
+    record {
+      whole = λ _. same;
+      first = ap first_names same;
+      others = λ q. ap (λ ns. is_no_text (get_member q ns)) same;
+      ascending = tt;
+      kept_ascending = subst AreAscending (sym same) tt;
+      texts = λ _. refl;
+      kept_texts = λ _. ap name_texts same;
+    }
 
 -- ---- names only get more
 
@@ -65,26 +131,45 @@ more_exceed Deeper n m le e = past 0 n m le e
 
 -- ---- an object of which all is kept, and one that has a name too many, whatever follows
 
-pub kept_object : (v : Level) (found : BTreeMap (String Global) Value) (ms : Members) → members_view found.entries ≡ trim_members (below v) ms
-    → exceeds v (length found.entries) ≡ false
-    → view (Object found) ≡ short_object v (trim_members (below v) ms)
-kept_object v found ms e few =
-    let count : members_len (trim_members (below v) ms) ≡ length found.entries = ap members_len (sym e) ∙ members_len-members_view found.entries in
-    view-Object found ∙ ap object e ∙ sym (few_names v (trim_members (below v) ms) (ap (exceeds v) count ∙ few))
+not_first : (v : Level) (n : ℕ) → exceeds v n ≡ true → keeps_first v ≡ false
+not_first File n e = refl
+not_first FileMember n e = refl
+not_first Node n e = refl
+not_first NodeMember n e = absurd (false≢true e)
+not_first Deeper n e = refl
 
-settled_object : (v : Level) (es : List Entry) (ms more : Members) → members_view es ≡ trim_members (below v) ms → exceeds v (length es) ≡ true
-    → members_len ms ≤ members_len more
+-- the first names of equations
+pub kept_equations : (v : Level) (o : ShortObject) (ms : Members) → keeps_first v ≡ true → IsShortObject v ms o
+    → short_equations (members_view o.members.entries) ≡ short_object v ms
+kept_equations v o ms keeps h =
+    let same : short_equations (members_view o.members.entries) ≡ short_equations ms =
+    ap₂ (λ (b : Bool) (ns : Members). if b then object ns else null)
+    (same_texts (members_view o.members.entries) ms h.kept_ascending h.ascending h.others) h.first in
+    same ∙ sym (rw keeps)
+
+pub kept_object : (v : Level) (o : ShortObject) (ms : Members) → keeps_first v ≡ false → IsShortObject v ms o
+    → exceeds v (length o.members.entries) ≡ false → view (Object o.members) ≡ short_object v ms
+kept_object v o ms all h few =
+    let e : members_view o.members.entries ≡ ms = h.whole all in
+    let count : members_len ms ≡ length o.members.entries = ap members_len (sym e) ∙ members_len-members_view o.members.entries in
+    view-Object o.members ∙ ap object e ∙ sym (few_names v ms all (ap (exceeds v) count ∙ few))
+
+settled_object : (v : Level) (o : ShortObject) (ms more : Members) → IsShortObject v (trim_members (below v) ms) o
+    → exceeds v (length o.members.entries) ≡ true → members_len ms ≤ members_len more
     → view Null ≡ short_object v (trim_members (below v) more)
-settled_object v es ms more e many le =
+settled_object v o ms more h many le =
+    let es : List Entry = o.members.entries in
+    let all : keeps_first v ≡ false = not_first v (length es) many in
+    let e : members_view es ≡ trim_members (below v) ms = h.whole all in
     let count : length es ≡ members_len ms = sym (members_len-members_view es) ∙ ap members_len e ∙ trim-members_len (below v) ms in
     let many_more : exceeds v (members_len more) ≡ true = more_exceed v (members_len ms) (members_len more) le (ap (exceeds v) (sym count) ∙ many) in
     let seen : view Null ≡ null = search (rules, the_lemmas) in
-    seen ∙ sym (many_names v (trim_members (below v) more) (ap (exceeds v) (trim-members_len (below v) more) ∙ many_more))
+    seen ∙ sym (many_names v (trim_members (below v) more) all (ap (exceeds v) (trim-members_len (below v) more) ∙ many_more))
 
 -- what is read of an object whose members are passed over from one name too many on
-pub settled_members : (v : Level) (es : List Entry) (ms : Members) (r : List Token) (all left : Option (Members × List Token)) → all ≡ left
-    → members_view es ≡ trim_members (below v) ms
-    → exceeds v (length es) ≡ true
+pub settled_members : (v : Level) (o : ShortObject) (ms : Members) (r : List Token) (all left : Option (Members × List Token)) → all ≡ left
+    → IsShortObject v (trim_members (below v) ms) o
+    → exceeds v (length o.members.entries) ≡ true
     → (more : Members) × (left ≡ Some (more, r)) × (members_len ms ≤ members_len more)
     → (more : Members) × (all ≡ Some (more, r)) × (view Null ≡ short_object v (trim_members (below v) more))
-settled_members v es ms r all left same e many found = (found.0, same ∙ found.1, settled_object v es ms found.0 e many found.2)
+settled_members v o ms r all left same h many found = (found.0, same ∙ found.1, settled_object v o ms found.0 h many found.2)

@@ -11,9 +11,11 @@ use Rattle.serde_json.specs.Find.{get_member, as_number, as_str, as_array, as_ob
 use Rattle.cert_json.specs.Shape.{has_members, are_texts, name_texts, is_list_of_texts, is_map_of_texts, is_mode, is_within, whole_number_in}
 use Rattle.cert_json.specs.Shape.{is_node, are_nodes, is_list_of_nodes, is_format, is_file, has_more, has_many_conditions, some_has_many, some_of_file_has_many}
 use Rattle.cert_json.specs.Shape.{has_too_many}
-use Rattle.cert_json.specs.Trim.{first_items, short_items, short_list, below, exceeds, short_object, trim, trim_items, trim_members}
+use Rattle.cert_json.specs.Trim.{first_items, short_items, short_list, below, exceeds, keeps_first, first_names, short_equations, short_object, trim}
+use Rattle.cert_json.specs.Trim.{trim_items, trim_members}
 use Rattle.cert_json.specs.declared.level.Level.{Level}
 use Rattle.cert_json.specs.declared.level.Level.TheVariants.{File, FileMember, Node, NodeMember, Deeper}
+use Rattle.cert_json.proofs.FirstNames.{texts_first}
 
 -- ---- what a list or an object never is
 
@@ -37,13 +39,27 @@ not_file : (b : Bool) (ds : Items) → is_file (if b then array ds else null) �
 not_file true ds = refl
 not_file false ds = refl
 
-object_no_text : (b : Bool) (ms : Members) → as_str (if b then null else object ms) ≡ None
-object_no_text true ms = refl
-object_no_text false ms = refl
+equations_no_text : (b : Bool) (ms : Members) → as_str (if b then object ms else null) ≡ None
+equations_no_text true ms = refl
+equations_no_text false ms = refl
 
-object_no_number : (b : Bool) (ms : Members) → as_number (if b then null else object ms) ≡ None
-object_no_number true ms = refl
-object_no_number false ms = refl
+equations_no_number : (b : Bool) (ms : Members) → as_number (if b then object ms else null) ≡ None
+equations_no_number true ms = refl
+equations_no_number false ms = refl
+
+equations_no_list : (b : Bool) (ms : Members) → as_array (if b then object ms else null) ≡ None
+equations_no_list true ms = refl
+equations_no_list false ms = refl
+
+object_no_text : (first b : Bool) (d : Data) (ms : Members) → as_str d ≡ None → as_str (if first then d else (if b then null else object ms)) ≡ None
+object_no_text true b d ms e = e
+object_no_text false true d ms e = refl
+object_no_text false false d ms e = refl
+
+object_no_number : (first b : Bool) (d : Data) (ms : Members) → as_number d ≡ None → as_number (if first then d else (if b then null else object ms)) ≡ None
+object_no_number true b d ms e = e
+object_no_number false true d ms e = refl
+object_no_number false false d ms e = refl
 
 object_no_list : (b : Bool) (ms : Members) → as_array (if b then null else object ms) ≡ None
 object_no_list true ms = refl
@@ -59,21 +75,23 @@ if_true : (b : Bool) (ms : Members) → b ≡ true → (if b then null else obje
 if_true true ms e = refl
 if_true false ms e = absurd (false≢true e)
 
-pub few_names : (v : Level) (ms : Members) → exceeds v (members_len ms) ≡ false → short_object v ms ≡ object ms
-few_names v ms e = if_false (exceeds v (members_len ms)) ms e
+pub few_names : (v : Level) (ms : Members) → keeps_first v ≡ false → exceeds v (members_len ms) ≡ false → short_object v ms ≡ object ms
+few_names v ms all e = rw all (if_false (exceeds v (members_len ms)) ms e)
 
-pub many_names : (v : Level) (ms : Members) → exceeds v (members_len ms) ≡ true → short_object v ms ≡ null
-many_names v ms e = if_true (exceeds v (members_len ms)) ms e
+pub many_names : (v : Level) (ms : Members) → keeps_first v ≡ false → exceeds v (members_len ms) ≡ true → short_object v ms ≡ null
+many_names v ms all e = rw all (if_true (exceeds v (members_len ms)) ms e)
 
 -- ---- texts, numbers and members stay
 
-trim-text : (v : Level) (d : Data) → as_str (trim v d) ≡ as_str d
+pub trim-text : (v : Level) (d : Data) → as_str (trim v d) ≡ as_str d
 trim-text v null = refl
 trim-text v (boolean b) = refl
 trim-text v (number n) = refl
 trim-text v (string s) = refl
 trim-text v (array ds) = let es = trim_items (below v) ds in not_text (are_texts es || are_nodes es) (short_items es)
-trim-text v (object ms) = let ns = trim_members (below v) ms in object_no_text (exceeds v (members_len ns)) ns
+trim-text v (object ms) =
+    let ns = trim_members (below v) ms in
+    object_no_text (keeps_first v) (exceeds v (members_len ns)) (short_equations ns) ns (equations_no_text (name_texts ns) (first_names ns))
 
 trim-number : (v : Level) (d : Data) → as_number (trim v d) ≡ as_number d
 trim-number v null = refl
@@ -81,7 +99,9 @@ trim-number v (boolean b) = refl
 trim-number v (number n) = refl
 trim-number v (string s) = refl
 trim-number v (array ds) = let es = trim_items (below v) ds in not_number (are_texts es || are_nodes es) (short_items es)
-trim-number v (object ms) = let ns = trim_members (below v) ms in object_no_number (exceeds v (members_len ns)) ns
+trim-number v (object ms) =
+    let ns = trim_members (below v) ms in
+    object_no_number (keeps_first v) (exceeds v (members_len ns)) (short_equations ns) ns (equations_no_number (name_texts ns) (first_names ns))
 
 pub trim-members_len : (v : Level) (ms : Members) → members_len (trim_members v ms) ≡ members_len ms
 trim-members_len v no_members = refl
@@ -94,16 +114,16 @@ module _ (v : Level) where
   chosen Equal a d = refl
   chosen Greater a d = refl
 
-  trim-get_member : (k : List ℕ) (ms : Members) → get_member k (trim_members v ms) ≡ option_map (trim v) (get_member k ms)
+  pub trim-get_member : (k : List ℕ) (ms : Members) → get_member k (trim_members v ms) ≡ option_map (trim v) (get_member k ms)
   trim-get_member k no_members = refl
   trim-get_member k (member l d ms) = ap (λ a. match_ordering (slice_cmp nat_cmp k l) a (Some (trim v d)) a) (trim-get_member k ms)
       ∙ chosen (slice_cmp nat_cmp k l) (get_member k ms) d
 
-  text_under : (o : Option Data) → option_and_then as_str (option_map (trim v) o) ≡ option_and_then as_str o
+  pub text_under : (o : Option Data) → option_and_then as_str (option_map (trim v) o) ≡ option_and_then as_str o
   text_under None = refl
   text_under (Some d) = trim-text v d
 
-  number_under : (o : Option Data) → option_and_then as_number (option_map (trim v) o) ≡ option_and_then as_number o
+  pub number_under : (o : Option Data) → option_and_then as_number (option_map (trim v) o) ≡ option_and_then as_number o
   number_under None = refl
   number_under (Some d) = trim-number v d
 
@@ -129,7 +149,7 @@ more_at n ds false e = ap (λ es. nat_lt n (items_len es)) (first_all (suc n) ds
 more : (n : ℕ) (ds : Items) → nat_lt n (items_len (first_items (suc n) ds)) ≡ nat_lt n (items_len ds)
 more n ds = more_at n ds (nat_lt n (items_len ds)) refl
 
-trim-items_len : (v : Level) (ds : Items) → items_len (trim_items v ds) ≡ items_len ds
+pub trim-items_len : (v : Level) (ds : Items) → items_len (trim_items v ds) ≡ items_len ds
 trim-items_len v no_items = refl
 trim-items_len v (item d ds) = ap (λ n. suc n) (trim-items_len v ds)
 
@@ -193,11 +213,15 @@ texts_under (Some (number n)) = refl
 texts_under (Some (string s)) = refl
 texts_under (Some (array ds)) =
     let es = trim_items Deeper ds in short_texts es (are_texts es) (are_nodes es) refl refl ∙ trim-are_texts Deeper ds
-texts_under (Some (object ms)) = refl
+texts_under (Some (object ms)) = let ns = trim_members Deeper ms in ap is_list_of_texts (equations_no_list (name_texts ns) (first_names ns))
 
-trim-name_texts : (v : Level) (ms : Members) → name_texts (trim_members v ms) ≡ name_texts ms
+pub trim-name_texts : (v : Level) (ms : Members) → name_texts (trim_members v ms) ≡ name_texts ms
 trim-name_texts v no_members = refl
 trim-name_texts v (member k d ms) = ap₂ (λ (s : Option (List ℕ)) (b : Bool). is_some s && b) (trim-text v d) (trim-name_texts v ms)
+
+short_names : (ms : Members) (b : Bool) → name_texts ms ≡ b → is_map_of_texts (as_object (short_equations ms)) ≡ b
+short_names ms true e = rw e (texts_first 385 ms e)
+short_names ms false e = rw e
 
 names_under : (o : Option Data) → is_map_of_texts (option_and_then as_object (option_map (trim NodeMember) o)) ≡ is_map_of_texts (option_and_then as_object o)
 names_under None = refl
@@ -207,7 +231,7 @@ names_under (Some (number n)) = refl
 names_under (Some (string s)) = refl
 names_under (Some (array ds)) =
     let es = trim_items Deeper ds in ap is_map_of_texts (not_object (are_texts es || are_nodes es) (short_items es))
-names_under (Some (object ms)) = trim-name_texts Deeper ms
+names_under (Some (object ms)) = let ns = trim_members Deeper ms in short_names ns (name_texts ns) refl ∙ trim-name_texts Deeper ms
 
 -- ---- objects
 
@@ -259,7 +283,7 @@ many_no_node ms e =
     let apart : (members_len ms == 6) ≡ false = not_so_many (members_len ms) 6 (ap (λ n. nat_lt 6 n) (sym (trim-members_len NodeMember ms)) ∙ e) in
     rw apart
 
-trim-is_node : (d : Data) → is_node (trim Node d) ≡ is_node d
+pub trim-is_node : (d : Data) → is_node (trim Node d) ≡ is_node d
 trim-is_node null = refl
 trim-is_node (boolean b) = refl
 trim-is_node (number n) = refl
@@ -269,7 +293,7 @@ trim-is_node (object ms) =
     let ns = trim_members NodeMember ms in
     object_if is_node (exceeds Node (members_len ns)) ms ns refl (node_members ms) (many_no_node ms)
 
-trim-are_nodes : (ds : Items) → are_nodes (trim_items Node ds) ≡ are_nodes ds
+pub trim-are_nodes : (ds : Items) → are_nodes (trim_items Node ds) ≡ are_nodes ds
 trim-are_nodes no_items = refl
 trim-are_nodes (item d ds) = ap₂ (λ a b. a && b) (trim-is_node d) (trim-are_nodes ds)
 
@@ -316,7 +340,7 @@ names_of_node : (a b c d e f g : Bool) → (a && b && c && d && e && f && g) ≡
 names_of_node true b c d e f g h = refl
 names_of_node false b c d e f g h = absurd (cc h)
 
-pub few_in_node : (ms : Members) → is_node (object ms) ≡ true → exceeds Node (members_len ms) ≡ false
+few_in_node : (ms : Members) → is_node (object ms) ≡ true → exceeds Node (members_len ms) ≡ false
 few_in_node ms e =
     let six : members_len ms ≡ 6 = eqb-true (members_len ms) 6 (names_of_node _ _ _ _ _ _ _ e) in
     le-ltb 6 (members_len ms) (omega (arith, six))
@@ -325,17 +349,17 @@ names_of_file : (a b c : Bool) → (a && b && c) ≡ true → a ≡ true
 names_of_file true b c h = refl
 names_of_file false b c h = absurd (cc h)
 
-pub few_in_file : (ms : Members) → is_file (object ms) ≡ true → exceeds File (members_len ms) ≡ false
+few_in_file : (ms : Members) → is_file (object ms) ≡ true → exceeds File (members_len ms) ≡ false
 few_in_file ms e =
     let two : members_len ms ≡ 2 = eqb-true (members_len ms) 2 (names_of_file _ _ _ e) in
     le-ltb 2 (members_len ms) (omega (arith, two))
 
 -- the names of a node or of a file stay
-kept_node : (ms : Members) → is_node (object ms) ≡ true → trim Node (object ms) ≡ object (trim_members NodeMember ms)
-kept_node ms e = few_names Node (trim_members NodeMember ms) (ap (exceeds Node) (trim-members_len NodeMember ms) ∙ few_in_node ms e)
+pub kept_node : (ms : Members) → is_node (object ms) ≡ true → trim Node (object ms) ≡ object (trim_members NodeMember ms)
+kept_node ms e = few_names Node (trim_members NodeMember ms) refl (ap (exceeds Node) (trim-members_len NodeMember ms) ∙ few_in_node ms e)
 
-kept_file : (ms : Members) → is_file (object ms) ≡ true → trim File (object ms) ≡ object (trim_members FileMember ms)
-kept_file ms e = few_names File (trim_members FileMember ms) (ap (exceeds File) (trim-members_len FileMember ms) ∙ few_in_file ms e)
+pub kept_file : (ms : Members) → is_file (object ms) ≡ true → trim File (object ms) ≡ object (trim_members FileMember ms)
+kept_file ms e = few_names File (trim_members FileMember ms) refl (ap (exceeds File) (trim-members_len FileMember ms) ∙ few_in_file ms e)
 
 -- ---- too many nodes or conditions
 
@@ -351,7 +375,7 @@ conds_under (Some (number n)) e = refl
 conds_under (Some (string s)) e = refl
 conds_under (Some (array ds)) e =
     short_more (trim_items Deeper ds) (trim-are_texts Deeper ds ∙ e) ∙ ap (λ n. nat_lt 64 n) (trim-items_len Deeper ds)
-conds_under (Some (object ms)) e = refl
+conds_under (Some (object ms)) e = absurd (false≢true e)
 
 conds_of : (a b c d e f g : Bool) → (a && b && c && d && e && f && g) ≡ true → b ≡ true
 conds_of a true c d e f g h = refl

@@ -1,5 +1,6 @@
 pub mod JsonTexts
 pub mod Lists
+pub mod Objects
 pub mod Refusals
 pub mod Shape
 pub mod Trim

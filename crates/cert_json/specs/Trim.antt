@@ -1,9 +1,9 @@
 -- A value without what no certificate has in a list or an object.
-use Rattle.std.specs.Prelude.{ℕ, zero, suc, Bool, false, ◌||◌, nat_lt, if◌then◌else◌}
+use Rattle.std.specs.Prelude.{ℕ, zero, suc, Bool, true, false, ◌||◌, nat_lt, if◌then◌else◌}
 use Rattle.serde_json.specs.Data.{Data, null, boolean, number, string, array, object, Items, no_items, item, Members, no_members}
 use Rattle.serde_json.specs.Data.{member}
 use Rattle.serde_json.specs.Events.{members_len}
-use Rattle.cert_json.specs.Shape.{are_texts, are_nodes}
+use Rattle.cert_json.specs.Shape.{are_texts, are_nodes, name_texts}
 use Rattle.cert_json.specs.declared.level.Level.{Level}
 use Rattle.cert_json.specs.declared.level.Level.TheVariants.{File, FileMember, Node, NodeMember, Deeper}
 
@@ -30,7 +30,7 @@ below NodeMember = Deeper
 below Deeper = Deeper
 
 -- whether no object of a certificate has so many names at this level: a file has 2, a node has 6, and the equations of a
--- node, which are a member of it, have any number
+-- node, which are a member of it, may be written with any number
 abbrev pub exceeds : Level → ℕ → Bool
 exceeds File n = nat_lt 2 n
 exceeds FileMember n = nat_lt 0 n
@@ -38,9 +38,31 @@ exceeds Node n = nat_lt 6 n
 exceeds NodeMember n = false
 exceeds Deeper n = nat_lt 0 n
 
+-- whether the first names of an object at this level are kept: of the equations of a node
+abbrev pub keeps_first : Level → Bool
+keeps_first File = false
+keeps_first FileMember = false
+keeps_first Node = false
+keeps_first NodeMember = true
+keeps_first Deeper = false
+
+-- the first members, up to a number
+abbrev pub first_members : ℕ → Members → Members
+first_members zero ms = no_members
+first_members (suc n) no_members = no_members
+first_members (suc n) (member k d ms) = member k d (first_members n ms)
+
+-- one name more than two machines have positions
+abbrev pub first_names : Members → Members
+first_names ms = first_members 385 ms
+
+-- equations, cut short, and null in place of members that are not all texts
+abbrev pub short_equations : Members → Data
+short_equations ms = if name_texts ms then object (first_names ms) else null
+
 -- an object, and null in place of one that has more names than any of a certificate has at its level
 abbrev pub short_object : Level → Members → Data
-short_object v ms = if exceeds v (members_len ms) then null else object ms
+short_object v ms = if keeps_first v then short_equations ms else (if exceeds v (members_len ms) then null else object ms)
 
 abbrev mutual
   pub trim : Level → Data → Data

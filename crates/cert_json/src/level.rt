@@ -1,7 +1,7 @@
 //! How deep a value stands in a certificate.
 
 ghost use Rattle.std.specs.Prelude.{◌≡◌};
-ghost use Rattle.cert_json.specs.Trim.{below, exceeds};
+ghost use Rattle.cert_json.specs.Trim.{below, exceeds, keeps_first};
 
 /// How deep a value stands in a certificate.
 #[derive(Clone, Copy)]
@@ -44,6 +44,17 @@ impl Level {
             Level::Node => names > 6,
             Level::NodeMember => false,
             Level::Deeper => names > 0,
+        }
+    }
+
+    /// Whether the first names of an object at this level are kept.
+    #[inline(always)]
+    pub fn keeps_first(self) -> bool
+        ensures { result ≡ keeps_first self }
+    {
+        match self {
+            Level::NodeMember => true,
+            Level::File | Level::FileMember | Level::Node | Level::Deeper => false,
         }
     }
 }

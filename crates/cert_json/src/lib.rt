@@ -15,6 +15,7 @@ mod numbers;
 pub mod reader;
 mod shape;
 mod short_list;
+mod short_object;
 mod skip;
 mod trim;
 pub mod written;

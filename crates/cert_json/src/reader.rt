@@ -2,7 +2,7 @@
 
 ghost use Rattle.std.specs.Prelude.{IfOk, IfErr};
 ghost use Rattle.serde_json.specs.View.{view};
-ghost use Rattle.cert_json.specs.Refusals.{IsFileOf, IsRefusedAsShape};
+ghost use Rattle.cert_json.specs.Refusals.{IsShortFileOf, IsRefusedAsShape};
 
 use crate::faults::FileError;
 use crate::shape::{has_too_many, is_file};
@@ -10,13 +10,14 @@ use crate::trim::{Fault, read_trimmed};
 use serde_json::Value;
 use std::alloc::Global;
 
-/// The JSON value of a certificate's bytes, in time linear in them.
+/// The JSON value of a certificate's bytes, in time linear in them. Of the equations of a node the first 385 are kept, in byte
+/// order of their names.
 ///
 /// `NotJson` comes exactly where the bytes are not UTF-8 text, or are not JSON as `serde_json` reads it; else `Shape`
 /// exactly where the value does not have the form of a certificate; else `TooMany` exactly where there are more than
 /// 4,096 nodes, or more than 64 conditions in a node. Of equal keys the last counts. `NoMemory` may come at any time.
 pub fn read_file(alloc: Global, bytes: &[u8]) -> Result<Value, FileError>
-    ensures read { IfOk result (λ v. IsFileOf bytes.now (view v)) }
+    ensures read { IfOk result (λ v. IsShortFileOf bytes.now (view v)) }
     ensures refused { IfErr result (λ e. IsRefusedAsShape bytes.now e) }
 {
     let text = match simdutf8::compat::from_utf8(bytes) {

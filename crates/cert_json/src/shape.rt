@@ -31,7 +31,8 @@ fn are_texts(items: &Vec<Value>) -> bool
     true
 }
 
-fn name_texts(members: &Map<String, Value>) -> bool
+/// Whether each member is a text.
+pub fn name_texts(members: &Map<String, Value>) -> bool
     ensures { result ≡ name_texts (members_view members.now.entries) }
 {
     for (_name, value) in members.iter() {

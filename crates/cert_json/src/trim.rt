@@ -2,18 +2,19 @@
 
 ghost use Rattle.std.specs.Prelude.{◌≡◌, ◌<◌, length, Some, None, Err, IfOk, OnOk};
 ghost use Rattle.json.specs.Json.{value, items, members};
-ghost use Rattle.serde_json.specs.Data.{Data, Items, Members, no_members, put};
+ghost use Rattle.serde_json.specs.Data.{Data, Items, Members, no_members};
 ghost use Rattle.serde_json.specs.Read.{of_json, of_items, of_members, converted, read as read_text};
-ghost use Rattle.serde_json.specs.View.{view, members_view};
+ghost use Rattle.serde_json.specs.View.{view};
 ghost use Rattle.cert_json.specs.Trim.{trim, trim_items, trim_members, short_list, short_object, below};
 ghost use Rattle.cert_json.specs.declared.level.Level.TheVariants.{File};
 
 use crate::level::Level;
 use crate::numbers::number_of;
 use crate::short_list::{add_to_list, empty_list, is_settled, value_of_list, value_of_settled};
+use crate::short_object::{add_member, empty_object, value_of_object};
 use crate::skip::{skip_items, skip_members};
 use json::{Invalid, Reader, Scratch, Token};
-use serde_json::{Map, Value};
+use serde_json::Value;
 use std::alloc::{AllocError, Global};
 
 /// Why no value is read.
@@ -45,28 +46,6 @@ impl From<AllocError> for Fault {
     fn from(_refused: AllocError) -> Fault {
         Fault::NoMemory
     }
-}
-
-// Puts a member in, over the value of its name where there is one.
-#[inline(always)]
-fn put_member(
-    alloc: Global,
-    found: &mut Map<String, Value>,
-    name: &str,
-    member: Value,
-) -> Result<(), AllocError>
-    ensures { OnOk result (members_view found.new.entries ≡ put name.now (view member) (members_view found.old.entries)) }
-{
-    match found.get_mut(name) {
-        Some(place) => {
-            *place = member;
-            return Ok(());
-        }
-        None => {}
-    }
-    let key = String::from_str(alloc, name)?;
-    drop(found.insert(key, member)?);
-    Ok(())
 }
 
 #[cycle(read)]
@@ -147,16 +126,16 @@ fn read_members(
     ensures err { result ≡ Err Fault.NotJson
         → converted (λ es. of_members es no_members) (members (value depth) (length reader.old) reader.old) ≡ None }
 {
-    let mut found = Map::new(alloc);
+    let mut found = empty_object(alloc);
     'members: while let Some(name) = reader.next_key()? {
         let member = read(alloc, reader, depth, level.below())?;
-        put_member(alloc, &mut found, name, member)?;
-        if level.exceeds(found.len()) {
+        add_member(alloc, &mut found, level, name, member)?;
+        if level.exceeds(found.members.len()) {
             skip_members(reader, depth)?;
             return Ok(Value::Null);
         }
     }
-    Ok(Value::Object(found))
+    Ok(value_of_object(found, level))
 }
 
 /// The value of a text without what no certificate has in a list or an object.

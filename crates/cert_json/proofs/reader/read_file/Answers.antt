@@ -1,7 +1,7 @@
 use Rattle.std.proofs.Common.{sym, ap, ◌∙◌}
 use Rattle.serde_json.specs.Read.{read}
 use Rattle.serde_json.specs.View.{view}
-use Rattle.cert_json.proofs.Files.{other_shape, too_many, whole_file}
+use Rattle.cert_json.proofs.Files.{other_shape, too_many, short_file}
 use Rattle.cert_json.proofs.reader.read_file.Goals as goal
 
 pub returns-then-not-is_file-clause-refused : goal.returns-then-not-is_file-clause-refused
@@ -21,5 +21,5 @@ pub returns-clause-read : goal.returns-clause-read
 returns-clause-read c =
     let text = c.in-Ok.ensures.cases in
     let made = c.in-Ok-read_trimmed.ensures.ok in
-    whole_file c.args.bytes.now made.0 (view c.in-Ok-read_trimmed.found) text.1 (ap read (sym text.0) ∙ made.1) made.2 (sym c.if-not-is_file.ensures)
+    short_file c.args.bytes.now made.0 (view c.in-Ok-read_trimmed.found) text.1 (ap read (sym text.0) ∙ made.1) made.2 (sym c.if-not-is_file.ensures)
     (sym c.if-has_too_many.ensures)

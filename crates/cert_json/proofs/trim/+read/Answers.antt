@@ -5,17 +5,18 @@ use Rattle.json.specs.Reads.{token_of}
 use Rattle.json.proofs.Grammar.{value_is, value-begin_array, value-begin_object, read_key-shorter}
 use Rattle.serde_json.specs.Data.{null, boolean, number, string, array, object, no_items, item, put}
 use Rattle.serde_json.specs.Read.{of_json, of_items, converted}
-use Rattle.serde_json.specs.View.{view, number_view, members_view}
+use Rattle.serde_json.specs.View.{view, number_view}
 use Rattle.serde_json.specs.declared.value.Value.{String, Number, Bool, Null, the_lemmas}
 use Rattle.serde_json.specs.Data.{no_members}
 use Rattle.cert_json.specs.Trim.{trim_items, trim_members, short_list, below, exceeds}
+use Rattle.cert_json.specs.Objects.{IsShortObject}
 use Rattle.cert_json.specs.Lists.{join_items, add_item, IsShort, settled}
 use Rattle.cert_json.specs.Shape.{are_texts}
 use Rattle.cert_json.proofs.TrimLaws.{trim-are_texts}
 use Rattle.cert_json.proofs.Turns.{converted-array, converted-object, item_read, item_refused, items_over, member_read, member_refused, key_refused}
 use Rattle.cert_json.proofs.Turns.{members_over}
 use Rattle.cert_json.proofs.ListLaws.{join-no_items, none_before, one_more_item, trim-add_item, trim-join_items}
-use Rattle.cert_json.proofs.ObjectLaws.{none_exceed, kept_put, kept_object, settled_members}
+use Rattle.cert_json.proofs.ObjectLaws.{none_exceed, kept_put, settled_members}
 use Rattle.cert_json.proofs.trim.+read.Goals as goal
 
 pub read-returns-in_err-token-clause-err : goal.read-returns-in_err-token-clause-err
@@ -216,9 +217,9 @@ read_items-returns-clause-ok t c =
 
 pub read_members-members-init : goal.read_members-members-init
 read_members-members-init t c =
-    let none = ap members_view c.new-found.ensures.empty in
-    let few = ap (λ es. exceeds c.args.level (length es)) c.new-found.ensures.empty ∙ none_exceed c.args.level in
-    (length c.args.reader.now, omega arith, no_members, refl, none, few, omega arith)
+    let made = c.empty_object-found.ensures in
+    let few = ap (λ es. exceeds c.args.level (length es)) made.none ∙ none_exceed c.args.level in
+    (length c.args.reader.now, omega arith, no_members, refl, made.short c.args.level, few, omega arith)
 
 pub read_members-returns-in_err-name-clause-err : goal.read_members-returns-in_err-name-clause-err
 read_members-returns-in_err-name-clause-err t c refused =
@@ -258,7 +259,7 @@ read_members-members-preserved t c =
       omega (arith, l.invariant.1),
       put k d old,
       l.invariant.3 ∙ member_read p old n k l.reader s r d (omega (arith, l.invariant.1)) named done.ok.1,
-      kept_put c.args.level c.below.result k d (view v) _ _ old c.below.ensures done.ok.2 l.invariant.4 c.in_ok-put_member.ensures,
+      kept_put c.args.level c.below.result k d (view v) _ _ old c.below.ensures done.ok.2 l.invariant.4 c.in_ok-add_member.ensures,
       ap (exceeds c.args.level) (sym c.len.ensures.len) ∙ sym c.if-exceeds.ensures,
       omega (arith, l.invariant.6),
     )
@@ -298,12 +299,12 @@ read_members-returns-then-exceeds-clause-ok t c =
     let lesser = done.shorter in
     let enough : length r ≤ n - 1 = omega (arith, l.invariant.1, less, lesser) in
     let level = c.args.level in
-    let names = c.put_member.new.found.entries in
-    let same : members_view names ≡ trim_members (below level) (put k d old) =
-    kept_put level c.below.result k d (view v) _ _ old c.below.ensures done.ok.2 l.invariant.4 c.in_ok-put_member.ensures in
-    let many : exceeds level (length names) ≡ true = ap (exceeds level) (sym c.len.ensures.len) ∙ sym c.if-exceeds.ensures in
+    let object = c.add_member.new.object in
+    let same : IsShortObject level (trim_members (below level) (put k d old)) object =
+    kept_put level c.below.result k d (view v) _ _ old c.below.ensures done.ok.2 l.invariant.4 c.in_ok-add_member.ensures in
+    let many : exceeds level (length object.members.entries) ≡ true = ap (exceeds level) (sym c.len.ensures.len) ∙ sym c.if-exceeds.ensures in
     let read = l.invariant.3 ∙ member_read p old n k l.reader s r d (omega (arith, l.invariant.1, less, lesser)) named done.ok.1 in
-    settled_members level names (put k d old) _ _ _ read same many (c.in_ok-skip_members.ensures.ok (put k d old) (n - 1) enough)
+    settled_members level object (put k d old) _ _ _ read same many (c.in_ok-skip_members.ensures.ok (put k d old) (n - 1) enough)
 
 pub read_members-returns-clause-ok : goal.read_members-returns-clause-ok
 read_members-returns-clause-ok t c =
@@ -313,5 +314,5 @@ read_members-returns-clause-ok t c =
     let old = l.invariant.2 in (
       old,
       l.invariant.3 ∙ members_over p old n l.reader c.next_key.new.self l.invariant.1 (grind arith),
-      kept_object c.args.level l.found old l.invariant.4 l.invariant.5,
+      c.value_of_object.ensures (trim_members (below c.args.level) old) l.invariant.4 l.invariant.5,
     )

@@ -2,9 +2,9 @@ use Rattle.std.proofs.Common.{◌≡◌, ℕ, ◌+◌, ◌*◌, ◌≤◌, false
 use Rattle.json.specs.Json.{items, members, value, parse_map}
 use Rattle.serde_json.specs.Data.{Items, Members, no_members}
 use Rattle.serde_json.specs.Read.{of_items, of_members, converted}
-use Rattle.serde_json.specs.View.{members_view}
 use Rattle.cert_json.specs.Trim.{trim_items, trim_members, below, exceeds}
 use Rattle.cert_json.specs.Lists.{join_items, IsShort}
+use Rattle.cert_json.specs.Objects.{IsShortObject}
 use Rattle.cert_json.proofs.trim.+read.Given as goal
 
 abbrev pub decreases-read : goal.decreases-read
@@ -32,8 +32,8 @@ invariant-read_members-members l =
     (n : ℕ) × (length l.reader ≤ n) × (ms : Members)
     × (converted (λ es. of_members es no_members) (members (value l.depth) (length l.initial.reader) l.initial.reader)
     ≡ converted (λ es. of_members es ms) (members (value l.depth) n l.reader))
-    × (members_view l.found.entries ≡ trim_members (below l.level) ms)
-    × (exceeds l.level (length l.found.entries) ≡ false)
+    × IsShortObject l.level (trim_members (below l.level) ms) l.found
+    × (exceeds l.level (length l.found.members.entries) ≡ false)
     × (length l.reader ≤ length l.initial.reader)
 
 abbrev pub decreases-read_members-members : goal.decreases-read_members-members

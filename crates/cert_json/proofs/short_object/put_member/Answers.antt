@@ -4,7 +4,7 @@ use Rattle.serde_json.specs.Data.{put}
 use Rattle.serde_json.specs.View.{view, members_view}
 use Rattle.serde_json.proofs.Views.{members_view-insert_entry}
 use Rattle.cert_json.proofs.Members.{written_member}
-use Rattle.cert_json.proofs.trim.put_member.Goals as goal
+use Rattle.cert_json.proofs.short_object.put_member.Goals as goal
 
 pub returns-in-Some : goal.returns-in-Some
 returns-in-Some c =

@@ -1,0 +1,37 @@
+-- Objects whose names get more, and what is kept of them.
+use Rattle.std.specs.Prelude.{◌≡◌, ℕ, Bool, true, false, not, List, Option, Some, None, is_some}
+use Rattle.std.specs.Cmp.Lexicographic.{slice_cmp}
+use Rattle.std.specs.Ordering.{nat_cmp}
+use Rattle.std.specs.declared.cmp.Ordering.TheVariants.{Less}
+use Rattle.serde_json.specs.Data.{Data, Members, no_members, member}
+use Rattle.serde_json.specs.Find.{get_member, as_str}
+use Rattle.serde_json.specs.View.{members_view}
+use Rattle.cert_json.specs.Shape.{name_texts}
+use Rattle.cert_json.specs.Trim.{keeps_first, first_names}
+use Rattle.cert_json.specs.declared.level.Level.{Level}
+use Rattle.cert_json.specs.declared.short_object.ShortObject.{ShortObject}
+
+-- each name comes behind this one
+abbrev pub AreBehind : List ℕ → Members → Type 0
+AreBehind k no_members = Unit {0}
+AreBehind k (member l d ms) = (slice_cmp nat_cmp k l ≡ Less) × AreBehind k ms
+
+-- the names ascend
+abbrev pub AreAscending : Members → Type 0
+AreAscending no_members = Unit {0}
+AreAscending (member k d ms) = AreBehind k ms × AreAscending ms
+
+-- whether there is a value, and it is no text
+abbrev pub is_no_text : Option Data → Bool
+is_no_text None = false
+is_no_text (Some d) = not (is_some (as_str d))
+
+-- what is kept of these members at a level: where the first names are kept, these, and each member that is no text
+pub record IsShortObject (v : Level) (ms : Members) (o : ShortObject) : Type 0 where
+  pub whole : keeps_first v ≡ false → members_view o.members.entries ≡ ms
+  pub first : first_names (members_view o.members.entries) ≡ first_names ms
+  pub others : (q : List ℕ) → is_no_text (get_member q (members_view o.members.entries)) ≡ is_no_text (get_member q ms)
+  pub ascending : AreAscending ms
+  pub kept_ascending : AreAscending (members_view o.members.entries)
+  pub texts : o.all_texts ≡ true → name_texts ms ≡ true
+  pub kept_texts : o.all_texts ≡ true → name_texts (members_view o.members.entries) ≡ true
