@@ -6,3 +6,5 @@ mod Contexts
 mod NodeLists
 mod OneWay
 mod Refused
+mod FirstEquations
+mod ShortFiles

@@ -92,6 +92,7 @@ fn error_of(stop: Stop) -> CertError
 /// condition the first of these counts: `BadTerm`, `NumberTooBig`, `UnknownName`, `SortOf`, `NotNormal`. In a file of
 /// format 1 a port is no position, and its equation is the empty list. Of equal keys the last counts. `NoMemory` may come
 /// at any time.
+#[tactic(auto, using(crate::proofs::ShortFiles::spelled))]
 pub fn read_cert(
     alloc: Global,
     bytes: &[u8],
@@ -108,6 +109,7 @@ pub fn read_cert(
         Ok(value) => value,
         Err(refused) => return Err(error_of_file(refused)),
     };
+    p.holds();
     match read_value(alloc, &mut value, a, b, p) {
         Ok(cert) => Ok(cert),
         Err(stop) => Err(error_of(stop)),
