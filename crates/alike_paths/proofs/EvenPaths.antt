@@ -33,10 +33,10 @@ use Rattle.sym_paths.specs.Sequences.{each}
 use Rattle.sym_paths.specs.Evaluation.{evaluate, evaluate_literal, Change, SetTo, PutAt, PushTo, evaluate_assignment, change, change_all, act_over}
 use Rattle.sym_paths.specs.Execution.{Post, conditions, steps_over, execute, arrive}
 use Rattle.sym_paths.proofs.Changes.{other_at}
-use Rattle.alike_behaviour.specs.PathExpressions.{Expression, Constant, Initial, Element, Plus, Minus, Times, Over, Rest, Opposite, ArrayExpression}
-use Rattle.alike_behaviour.specs.PathExpressions.{InitialArray, Stored, ListExpression, InitialList, Pushed, initial, expression_of_term}
-use Rattle.alike_behaviour.specs.ExpressionSameness.{AreTwins, Same, SameArray, SameListExpression, SameLiterals}
-use Rattle.alike_behaviour.specs.Alike.{literals_of, left_after, AlikePaths}
+use Rattle.cert_bisimulation.specs.PathExpressions.{Expression, Constant, Initial, Element, Plus, Minus, Times, Over, Rest, Opposite, ArrayExpression}
+use Rattle.cert_bisimulation.specs.PathExpressions.{InitialArray, Stored, ListExpression, InitialList, Pushed, initial, expression_of_term}
+use Rattle.cert_bisimulation.specs.ExpressionSameness.{AreTwins, Same, SameArray, SameListExpression, SameLiterals}
+use Rattle.cert_bisimulation.specs.Alike.{literals_of, left_after, AlikePaths}
 use Rattle.alike_paths.specs.Evenness.{IsEven}
 use Rattle.alike_paths.proofs.ExpressionTerms.{Terms, terms_of, term_of, array_term_of, list_term_of, left_shows, initial_term}
 

@@ -32,10 +32,10 @@ use Rattle.sym_paths.specs.Sequences.{each}
 use Rattle.sym_paths.specs.Evaluation.{evaluate, Change, SetTo, PutAt, PushTo, evaluate_assignment, change, change_all, act_over}
 use Rattle.sym_paths.specs.Execution.{steps_over}
 use Rattle.sym_paths.proofs.Changes.{same_at}
-use Rattle.alike_behaviour.specs.PathExpressions.{Expression, Constant, Initial, Element, Plus, Minus, Times, Over, Rest, Opposite, ArrayExpression}
-use Rattle.alike_behaviour.specs.PathExpressions.{InitialArray, Stored, ListExpression, InitialList, Pushed, ExpressionVector, initial, expression_of_term}
-use Rattle.alike_behaviour.specs.PathExpressions.{expressions_after}
-use Rattle.alike_behaviour.specs.PathExpressions.{acted_all, left_by}
+use Rattle.cert_bisimulation.specs.PathExpressions.{Expression, Constant, Initial, Element, Plus, Minus, Times, Over, Rest, Opposite, ArrayExpression}
+use Rattle.cert_bisimulation.specs.PathExpressions.{InitialArray, Stored, ListExpression, InitialList, Pushed, ExpressionVector, initial, expression_of_term}
+use Rattle.cert_bisimulation.specs.PathExpressions.{expressions_after}
+use Rattle.cert_bisimulation.specs.PathExpressions.{acted_all, left_by}
 
 -- what stands at each variable of a side
 pub record Terms : Type 0 where

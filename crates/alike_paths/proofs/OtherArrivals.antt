@@ -16,8 +16,8 @@ use Rattle.nf_rel.specs.Literals.{NormalLiteral, literal}
 use Rattle.sym_paths.specs.Sequences.{each}
 use Rattle.sym_paths.specs.Evaluation.{evaluate, evaluate_literal}
 use Rattle.sym_paths.specs.Execution.{Post, conditions, steps_over, execute, arrive}
-use Rattle.alike_behaviour.specs.PathExpressions.{initial, expression_of_term}
-use Rattle.alike_behaviour.specs.Alike.{AlikePoints}
+use Rattle.cert_bisimulation.specs.PathExpressions.{initial, expression_of_term}
+use Rattle.cert_bisimulation.specs.Alike.{AlikePoints}
 use Rattle.alike_paths.specs.Evenness.{IsEven}
 use Rattle.alike_paths.specs.Clashes.{SomeClash}
 use Rattle.alike_paths.proofs.ExpressionTerms.{terms_of, term_of, initial_term}

@@ -23,7 +23,7 @@ use Rattle.sym_paths.specs.Sequences.{each}
 use Rattle.sym_paths.specs.Evaluation.{evaluate, evaluate_literal}
 use Rattle.sym_paths.specs.Execution.{conditions}
 use Rattle.alike_paths.proofs.Opposites.{opposites_clash}
-use Rattle.alike_behaviour.specs.Alike.{AlikePoints}
+use Rattle.cert_bisimulation.specs.Alike.{AlikePoints}
 use Rattle.alike_paths.specs.Evenness.{IsEven}
 use Rattle.alike_paths.specs.Clashes.{SomeClash}
 use Rattle.alike_paths.proofs.Parting.{Part, branches_part}

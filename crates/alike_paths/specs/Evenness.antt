@@ -7,7 +7,7 @@ use Rattle.fs_model.specs.declared.sides.Pos.{Pos}
 use Rattle.nf_terms.specs.declared.form.Nf.{Nf}
 use Rattle.nf_substitution.specs.Vectors.{number_at, array_form, list_at}
 use Rattle.sym_paths.specs.ValuationStores.{at}
-use Rattle.alike_behaviour.specs.ExpressionSameness.{AreTwins}
+use Rattle.cert_bisimulation.specs.ExpressionSameness.{AreTwins}
 
 -- the two variables of one name have equal terms
 pub record IsEven (a b : Fsmd) (v : List (Pos × Nf)) : Type 0 where

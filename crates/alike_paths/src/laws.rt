@@ -10,7 +10,7 @@ ghost use Rattle.fs_model.specs.declared.sides.Pos.{Pos};
 ghost use Rattle.nf_terms.specs.declared.form.Nf.{Nf};
 ghost use Rattle.nf_rel.specs.Literals.{NormalLiteral};
 ghost use Rattle.sym_paths.specs.Execution.{Post, conditions, arrive};
-ghost use Rattle.alike_behaviour.specs.Alike.{AlikePaths, AlikePoints};
+ghost use Rattle.cert_bisimulation.specs.Alike.{AlikePaths, AlikePoints};
 ghost use Rattle.alike_paths.specs.Evenness.{IsEven};
 ghost use Rattle.alike_paths.specs.Clashes.{SomeClash};
 

@@ -13,12 +13,12 @@ use Rattle.sym_facts.specs.Facts.{FactPosition, Fact, has_its_sort, vector_of}
 use Rattle.sym_facts.proofs.Vectors.{positions_again}
 use Rattle.search_tables.specs.Modes.{Found, mode_of}
 use Rattle.search_tables.proofs.Whole.{sorts_kept}
-use Rattle.alike_behaviour.specs.Alike.{Alike, DeclareTheSame}
+use Rattle.cert_bisimulation.specs.Alike.{Alike, DeclareTheSame}
 use Rattle.alike_paths.specs.Evenness.{IsEven}
-use Rattle.alike_facts.specs.Couples.{AreCouples, sorted_positions}
-use Rattle.alike_facts.specs.EvenFacts.{places_of}
-use Rattle.alike_facts.proofs.Coupled.{Among, positions_couple, positions_among}
-use Rattle.alike_facts.proofs.EvenVectors.{even_vector}
+use Rattle.alike_searches.specs.Couples.{AreCouples, sorted_positions}
+use Rattle.alike_searches.specs.EvenFacts.{places_of}
+use Rattle.alike_searches.proofs.Coupled.{Among, positions_couple, positions_among}
+use Rattle.alike_searches.proofs.EvenVectors.{even_vector}
 use Rattle.search_tables.specs.SearchTables.{MachinePair, SearchNode}
 use Rattle.search_tables.specs.Next.{mode_at}
 use Rattle.alike_searches.specs.Even.{IsEvenBetween, IsEvenNode}

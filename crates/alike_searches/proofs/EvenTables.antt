@@ -19,18 +19,18 @@ use Rattle.search_tables.proofs.Paired.{rebase_paired}
 use Rattle.search_tables.proofs.JoinPaired.{join_paired}
 use Rattle.alike_paths.specs.Risen.{IsRisenVector}
 use Rattle.alike_paths.proofs.RisenPaths.{arrival_rises}
-use Rattle.alike_behaviour.specs.Alike.{ArePaired, AlikePaths, AlikePoints, Alike}
+use Rattle.cert_bisimulation.specs.Alike.{ArePaired, AlikePaths, AlikePoints, Alike}
 use Rattle.alike_paths.specs.Evenness.{IsEven}
 use Rattle.alike_paths.proofs.EvenPaths.{arrive_evenly}
-use Rattle.alike_facts.specs.Couples.{AreCouples, sorted_positions}
-use Rattle.alike_facts.specs.EvenFacts.{places_of, AreEvenValues}
-use Rattle.alike_facts.proofs.Coupled.{positions_couple}
-use Rattle.alike_facts.proofs.EvenVectors.{even_values}
-use Rattle.alike_facts.proofs.EvenStart.{start_even}
-use Rattle.alike_facts.proofs.EvenRebases.{rebase_even}
-use Rattle.alike_facts.proofs.EvenJoins.{join_even}
-use Rattle.alike_facts.proofs.RisenFacts.{start_rises, rebase_rises, join_rises, fact_vector_rises}
-use Rattle.search_ranks.proofs.Lists.{same_or_not}
+use Rattle.alike_searches.specs.Couples.{AreCouples, sorted_positions}
+use Rattle.alike_searches.specs.EvenFacts.{places_of, AreEvenValues}
+use Rattle.alike_searches.proofs.Coupled.{positions_couple}
+use Rattle.alike_searches.proofs.EvenVectors.{even_values}
+use Rattle.alike_searches.proofs.EvenStart.{start_even}
+use Rattle.alike_searches.proofs.EvenRebases.{rebase_even}
+use Rattle.alike_searches.proofs.EvenJoins.{join_even}
+use Rattle.alike_searches.proofs.RisenFacts.{start_rises, rebase_rises, join_rises, fact_vector_rises}
+use Rattle.search_tables.proofs.RankLists.{same_or_not}
 use Rattle.search_tables.specs.declared.moves.Move.{Move}
 use Rattle.search_tables.specs.SearchTables.{MachinePair, positions_of, SearchNode, Table, first_table, Changes, PathPair, effect}
 use Rattle.search_tables.specs.Next.{paths_in, Change, next_move}

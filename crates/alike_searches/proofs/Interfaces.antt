@@ -11,7 +11,7 @@ use Rattle.fs_model.specs.declared.parts.VarInfo.{VarInfo}
 use Rattle.fs_model.specs.Machines.{Fsmd}
 use Rattle.fs_pair.specs.Interfaces.{is_interface, same_role, same_sort, variable_named, is_like, lacks_match, first_unmatched, interface_fault}
 use Rattle.fs_pair.proofs.Tests.{same_sort_self}
-use Rattle.alike_behaviour.specs.Alike.{DeclareTheSame}
+use Rattle.cert_bisimulation.specs.Alike.{DeclareTheSame}
 use Rattle.alike_searches.proofs.Coupled.{others_differ, not_again}
 
 -- where names differ, the variable of a name is the one that has it

@@ -1,3 +1,19 @@
+pub mod Pairs
+pub mod OwnExpressions
+pub mod SamePaths
+pub mod Names
+pub mod Cuts
+pub mod Ties
+pub mod Failing
+pub mod EvenJoins
+pub mod Extending
+pub mod Splits
+pub mod Freeing
+pub mod EvenRebases
+pub mod Coupled
+pub mod EvenVectors
+pub mod EvenStart
+pub mod RisenFacts
 pub mod Modes
 pub mod Outputs
 pub mod OtherMoves
@@ -6,4 +22,3 @@ pub mod NextMoves
 pub mod EvenTables
 pub mod Obstacles
 pub mod Interfaces
-pub use Rattle.alike_facts.proofs.Coupled

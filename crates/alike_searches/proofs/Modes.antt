@@ -17,7 +17,7 @@ use Rattle.nf_rel.specs.Literals.{is_refuted}
 use Rattle.sym_facts.specs.Facts.{Fact, vector_of}
 use Rattle.search_tables.specs.Modes.{Traced, Found, WideAt, LargeAt, traced_then, on_path, is_open_path, count_open, count_from, mode_of_counts, mode_by}
 use Rattle.search_tables.specs.Modes.{mode_of}
-use Rattle.alike_behaviour.specs.Alike.{AlikePoints}
+use Rattle.cert_bisimulation.specs.Alike.{AlikePoints}
 use Rattle.alike_paths.specs.Evenness.{IsEven}
 use Rattle.alike_paths.proofs.EvenPaths.{same_conditions}
 

@@ -14,7 +14,7 @@ use Rattle.fs_model.specs.declared.sides.Pos.{Pos}
 use Rattle.nf_terms.specs.declared.form.Nf.{Nf}
 use Rattle.alike_searches.specs.Facts.{vector_of}
 use Rattle.alike_searches.specs.Obligations.{same_forms}
-use Rattle.alike_behaviour.specs.Alike.{Alike}
+use Rattle.cert_bisimulation.specs.Alike.{Alike}
 use Rattle.alike_searches.specs.Evenness.{IsEven}
 use Rattle.search_tables.specs.declared.moves.Move.{Move}
 use Rattle.search_tables.specs.SearchTables.{MachinePair, SearchNode, Table, is_at}

@@ -10,7 +10,7 @@ use Rattle.nf_terms.specs.declared.form.Nf.{Nf}
 use Rattle.nf_rel.specs.Literals.{NormalLiteral, is_refuted}
 use Rattle.nf_rel.proofs.Clashing.{clash_refutes}
 use Rattle.sym_paths.specs.Execution.{Post, arrive}
-use Rattle.alike_behaviour.specs.Alike.{AlikePoints}
+use Rattle.cert_bisimulation.specs.Alike.{AlikePoints}
 use Rattle.alike_paths.specs.Evenness.{IsEven}
 use Rattle.alike_paths.proofs.OtherArrivals.{arrivals_clash}
 

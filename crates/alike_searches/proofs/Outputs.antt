@@ -18,11 +18,11 @@ use Rattle.nf_terms.specs.declared.form.Nf.TheVariants.{Num, Arr, Seq}
 use Rattle.nf_substitution.specs.Vectors.{number_at, array_form, list_at}
 use Rattle.sym_paths.specs.ValuationStores.{at}
 use Rattle.search_tables.specs.Obligations.{same_forms}
-use Rattle.alike_behaviour.specs.ExpressionSameness.{AreTwins}
-use Rattle.alike_behaviour.specs.Alike.{DeclareTheSame}
+use Rattle.cert_bisimulation.specs.ExpressionSameness.{AreTwins}
+use Rattle.cert_bisimulation.specs.Alike.{DeclareTheSame}
 use Rattle.alike_paths.specs.Evenness.{IsEven}
-use Rattle.alike_facts.proofs.Coupled.{others_differ, not_again, first_of, rest_of, whole_suffix}
-use Rattle.alike_facts.proofs.Ties.{same_of_equal}
+use Rattle.alike_searches.proofs.Coupled.{others_differ, not_again, first_of, rest_of, whole_suffix}
+use Rattle.alike_searches.proofs.Ties.{same_of_equal}
 
 -- the first variable of a name is the one that has it
 place_is :

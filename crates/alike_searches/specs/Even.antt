@@ -6,9 +6,9 @@ use Rattle.fs_cut.specs.Paths.{Point}
 use Rattle.fs_pair.specs.Positions.{positions}
 use Rattle.sym_facts.specs.Facts.{Fact}
 use Rattle.sym_facts.specs.Pairings.{IsFactOf}
-use Rattle.alike_behaviour.specs.Alike.{ArePaired}
-use Rattle.alike_facts.specs.EvenFacts.{IsEvenFact}
-use Rattle.alike_facts.specs.RisenFacts.{IsRisenFact}
+use Rattle.cert_bisimulation.specs.Alike.{ArePaired}
+use Rattle.alike_searches.specs.EvenFacts.{IsEvenFact}
+use Rattle.alike_searches.specs.RisenFacts.{IsRisenFact}
 use Rattle.search_tables.specs.SearchTables.{SearchNode, Table}
 
 -- a fact of the positions of two machines is even, and its equations rise

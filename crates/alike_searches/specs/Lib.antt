@@ -1,3 +1,8 @@
+pub mod RenamedStates
+pub mod SplitStates
+pub mod EvenFacts
+pub mod Couples
+pub mod RisenFacts
 pub mod Even
 pub use Rattle.alike_paths.specs.Evenness
 pub use Rattle.search_tables.specs.Obligations

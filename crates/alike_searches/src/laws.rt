@@ -6,7 +6,7 @@ ghost use Rattle.fs_model.specs.Machines.{Fsmd};
 ghost use Rattle.fs_cut.specs.Paths.{Point};
 ghost use Rattle.fs_pair.specs.Interfaces.{interface_fault};
 ghost use Rattle.fs_model.specs.declared.sides.Side.{Side};
-ghost use Rattle.alike_behaviour.specs.Alike.{DeclareTheSame, Alike};
+ghost use Rattle.cert_bisimulation.specs.Alike.{DeclareTheSame, Alike};
 ghost use Rattle.search_tables.specs.declared.moves.Move.{Move as PlainMove};
 ghost use Rattle.search_tables.specs.SearchTables.{MachinePair};
 ghost use Rattle.search_tables.specs.Obstacles.{Stuck, Spin, IsObstacle};

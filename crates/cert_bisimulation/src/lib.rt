@@ -1,9 +1,11 @@
 //! The method of nodes: a table of nodes, whose facts lead from node to node, shows that two machines
-//! have the same behaviour. What facts are is left open.
+//! have the same behaviour. What facts are is left open. Alike machines, which differ only in the names of their states and
+//! in how straight lines are cut into states, have the same behaviour.
 //!
-//! Promises: machines for which a table of nodes leads on have the same behaviour, whatever facts are.
+//! Promises: machines for which a table of nodes leads on have the same behaviour, whatever facts are; so have alike
+//! machines.
 //!
-//! Rules: `specs/Tables`, `src/laws`.
+//! Rules: `specs/Tables`, `src/laws`, `specs/Alike`, `src/alike_laws`.
 //!
 //! Words:
 //! - mode: which machines move from a node
@@ -12,5 +14,6 @@
 //! - table (of nodes): nodes whose facts lead from node to node
 #![tactic(auto)]
 
+pub mod alike_laws;
 pub mod laws;
 pub mod mode;

@@ -11,8 +11,8 @@ use Rattle.cert_bisimulation.specs.Tables.{Node}
 use Rattle.sym_facts.specs.Facts.{Fact}
 use Rattle.cert_model.specs.Lawful.{points_differ}
 use Rattle.cert_model.specs.Obligations.{node_at}
-use Rattle.cert_machine_pairs.specs.PointKeys.{key_of}
-use Rattle.cert_machine_pairs.proofs.SameKeys.{same_numbers, same_key}
+use Rattle.cert_model.specs.PointKeys.{key_of}
+use Rattle.cert_model.proofs.SameKeys.{same_numbers, same_key}
 
 module _ {V : Type 0} (seen : V → Node Fact) where
   -- each node has the key of its points

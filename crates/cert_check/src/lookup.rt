@@ -5,12 +5,12 @@ ghost use Rattle.fs_cut.specs.View.{point_of};
 ghost use Rattle.cert_model.specs.Lawful.{points_differ};
 ghost use Rattle.cert_model.specs.Obligations.{node_at};
 ghost use Rattle.cert_model.specs.View.{node_of};
-ghost use Rattle.cert_machine_pairs.specs.PointKeys.{key_of};
+ghost use Rattle.cert_model.specs.PointKeys.{key_of};
 ghost use Rattle.cert_check.specs.View.{index_nodes};
 
 use crate::node_index::NodeIndex;
-use cert_machine_pairs::keys::key_of;
 use cert_model::cert::Node;
+use cert_model::keys::key_of;
 use fs_cut::cover::Point;
 use indexmap::IndexMap;
 use nf_terms::stop::NoMemory;

@@ -7,8 +7,8 @@ ghost use Rattle.cert_check.specs.View.{index_nodes};
 
 use crate::lookup::index_of;
 use crate::table::Table;
-use cert_machine_pairs::covers::cover_of;
 use cert_model::cert::Node;
+use cert_model::covers::cover_of;
 use fs_ast::machine::Machine;
 use nf_terms::stop::NoMemory;
 use std::alloc::Global;

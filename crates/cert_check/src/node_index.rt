@@ -2,7 +2,7 @@
 
 ghost use Rattle.std.specs.Prelude.{◌≡◌, map};
 ghost use Rattle.fs_cut.specs.View.{point_of};
-ghost use Rattle.cert_machine_pairs.specs.PointKeys.{key_of};
+ghost use Rattle.cert_model.specs.PointKeys.{key_of};
 
 use cert_model::cert::Node;
 use indexmap::IndexMap;

@@ -9,7 +9,7 @@ ghost use Rattle.cert_check.specs.VectorOutputs.{output_over};
 ghost use Rattle.cert_check.specs.View.{progress_in, NumberUpTo};
 
 use crate::progress::{Progress, advance};
-use cert_machine_pairs::outputs::{is_output, number_of, same_forms};
+use cert_model::outputs::{is_output, number_of, same_forms};
 use cert_model::reason::Reason;
 use fs_model::parts::{Sort, VarInfo};
 use nf_substitution::vector::Vector;

@@ -61,7 +61,8 @@ fn put_member(
 #[inline(always)]
 fn is_past(found: &Map<String, Value>, name: &str) -> bool
     ensures { IsTrue result
-        → (d : Data) → first_names (put name.now d (members_view found.now.entries)) ≡ first_names (members_view found.now.entries) }
+        → (d : Data) → first_names (put name.now d (members_view found.now.entries))
+        ≡ first_names (members_view found.now.entries) }
 {
     if found.len() < 385 {
         return false;
@@ -93,7 +94,8 @@ fn put_text(
         ≡ first_names (put name.now (view member) (members_view found.old.entries))) }
     ensures texts { OnOk result (is_some (as_str (view member)) ≡ true
         → are_name_texts (members_view found.old.entries) ≡ true → are_name_texts (members_view found.new.entries) ≡ true) }
-    ensures ascending { OnOk result (AreAscending (members_view found.old.entries) → AreAscending (members_view found.new.entries)) }
+    ensures ascending { OnOk result (AreAscending (members_view found.old.entries)
+        → AreAscending (members_view found.new.entries)) }
 {
     if is_past(found, name) {
         return Ok(());

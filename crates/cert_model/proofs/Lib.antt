@@ -1,1 +1,2 @@
+pub mod SameKeys
 pub mod AllHold

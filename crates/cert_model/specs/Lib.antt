@@ -1,3 +1,4 @@
+pub mod PointKeys
 pub mod Obligations
 pub mod Lawful
 pub mod View

@@ -1,10 +1,11 @@
 //! Certificates of the same behaviour as data, what each owes, the law that they show it, and what their types promise: facts
-//! whose equations and literals are in normal form.
+//! whose equations and literals are in normal form. Two machines side by side, as the search and the checker take them.
 //!
 //! Promises: what a certificate owes, by number; where all holds, the machines have the same behaviour; the facts of
-//! each certificate are in normal form.
+//! each certificate are in normal form; the paths of points by covers, keys of pairs of points, whether outputs have the
+//! same forms.
 //!
-//! Rules: `specs/Obligations`, `specs/Lawful`, `src/laws`, `specs/Kept`.
+//! Rules: `specs/Obligations`, `specs/Lawful`, `src/laws`, `specs/Kept`, `specs/PointKeys`.
 //!
 //! Words:
 //! - certificate: nodes at pairs of points that show the same behaviour
@@ -15,6 +16,9 @@
 #![tactic(auto)]
 
 pub mod cert;
+pub mod covers;
 pub mod kept;
+pub mod keys;
 pub mod laws;
+pub mod outputs;
 pub mod reason;

@@ -1,5 +1,6 @@
 -- More equations than there are positions are refused for the first of them alone.
-use Rattle.std.proofs.Common.{◌≡◌, ℕ, zero, suc, ◌<◌, ◌≤◌, List, [], ◌∷◌, ◌++◌, length, take, drop, Bool, true, false, ◌||◌, ◌==◌, cond, Option, Some, None, option_map}
+use Rattle.std.proofs.Common.{◌≡◌, ℕ, zero, suc, ◌<◌, ◌≤◌, List, [], ◌∷◌, ◌++◌, length, take}
+use Rattle.std.proofs.Common.{drop, Bool, true, false, ◌||◌, ◌==◌, cond, Option, Some, None, option_map}
 use Rattle.std.proofs.Common.{Ok, Err, refl, sym, ap, ap₂, ◌∙◌, subst, arith}
 use Rattle.std.specs.Prelude.{map, Result, is_ok, is_some, option_and_then}
 use Rattle.std.specs.List.{list_all, list_any, IsDistinct}

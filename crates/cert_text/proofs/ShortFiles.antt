@@ -36,7 +36,8 @@ use Rattle.cert_text.specs.declared.faults.CertError.{CertError}
 use Rattle.cert_text.specs.declared.faults.Stop.{Stop}
 use Rattle.cert_text.specs.declared.faults.Stop.TheVariants as stop
 use Rattle.cert_text.specs.CertificateNames.{place_named, find_in}
-use Rattle.cert_text.specs.CertificateReading.{equations_read, conditions_read, fact_read, unwritten_equation, mode_named, node_fact, node_read, node_added, nodes_read}
+use Rattle.cert_text.specs.CertificateReading.{equations_read, conditions_read, fact_read, unwritten_equation, mode_named, node_fact}
+use Rattle.cert_text.specs.CertificateReading.{node_read, node_added, nodes_read}
 use Rattle.cert_text.specs.JsonParts.{texts_of, items_or_none, members_or_none, number_or_zero, equations_in, node_text_in, node_texts, file_nodes, file_format}
 use Rattle.cert_text.specs.NodePointNames.{then_part, points_read}
 use Rattle.cert_text.specs.Refusals.{context_of, file_read, ComesTo, TellsNodes, SpellsNodes, IsRefusedAsCertificate}

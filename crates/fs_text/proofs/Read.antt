@@ -10,7 +10,7 @@ use Rattle.fs_grammar.specs.Tokens.{Gives}
 use Rattle.fs_lex.specs.Scan.{tokens_of}
 use Rattle.fs_grammar_laws.specs.Faults.{Spells, StopsAt}
 use Rattle.fs_grammar_laws.proofs.Exact.{read_is_spelled, fault_is_first}
-use Rattle.fs_lex_laws.specs.Tokenization.{IsTokenIn}
+use Rattle.fs_text_laws.specs.Tokenization.{IsTokenIn}
 use Rattle.fs_text_laws.specs.Limit.{SpellWithin, StopWithin}
 use Rattle.fs_text_laws.proofs.Ended.{tokens_ended}
 use Rattle.fs_text_laws.proofs.Limit.{spelled_found, fault_stands}

@@ -16,7 +16,7 @@ use Rattle.fs_grammar_laws.specs.Beginnings.{BeginsFile}
 use Rattle.fs_grammar_laws.specs.ExpressionEnds.{IsInExpression}
 use Rattle.fs_grammar_laws.specs.Faults.{word_of, IsPlain, CanFollow}
 use Rattle.fs_grammar_laws.specs.WordWalks.{words}
-use Rattle.fs_lex_laws.specs.Tokenization.{kind_and_place}
+use Rattle.fs_text_laws.specs.Tokenization.{kind_and_place}
 use Rattle.fs_text_laws.specs.Limit.{operator_count, IsOneTooMany, KeepLimit, SpellWithin, IsWrongWithin, StopWithin}
 
 -- two tokens of one kind at one place

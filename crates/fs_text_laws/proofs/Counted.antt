@@ -13,9 +13,9 @@ use Rattle.fs_lex.specs.declared.lexemes.Lexeme.{Lexeme}
 use Rattle.fs_lex.specs.declared.lexemes.Lexeme.TheVariants as lexemes
 use Rattle.fs_lex.specs.Lexemes.{lexeme_of}
 use Rattle.fs_lex.specs.Scan.{place_after_byte, scan, emit_token, is_past_limit, is_bad, operators_up_to_token, tokens_of}
-use Rattle.fs_lex_laws.specs.Vocabulary.{number_value}
-use Rattle.fs_lex_laws.specs.Tokenization.{StandsBefore, ends_text, AreTokens}
-use Rattle.fs_lex_laws.proofs.Tokenized.{tokenized}
+use Rattle.fs_text_laws.specs.Vocabulary.{number_value}
+use Rattle.fs_text_laws.specs.Tokenization.{StandsBefore, ends_text, AreTokens}
+use Rattle.fs_text_laws.proofs.Tokenized.{tokenized}
 use Rattle.fs_text_laws.specs.Kinds.{IsProper, end_once}
 
 -- ---- the marks

@@ -5,7 +5,7 @@ use Rattle.fs_grammar.specs.declared.token.TokenKind.{TokenKind}
 use Rattle.fs_grammar.specs.declared.token.TokenKind.TheVariants.{Bad, End}
 use Rattle.fs_grammar_laws.specs.Faults.{IsLast, AreEndedTokens}
 use Rattle.fs_lex.specs.Scan.{tokens_of}
-use Rattle.fs_lex_laws.specs.Tokenization.{ends_text}
+use Rattle.fs_text_laws.specs.Tokenization.{ends_text}
 use Rattle.fs_text_laws.proofs.Counted.{IsCut, cut, tokens_end}
 
 last_ends : (t : TokenKind) → IsTrue (ends_text t) → IsLast t

@@ -22,8 +22,8 @@ use Rattle.fs_grammar_laws.proofs.Alternatives.{front_begins}
 use Rattle.fs_grammar_laws.proofs.Exact.{read_is_spelled, spelled_is_read, fault_is_first, first_is_fault, words_append}
 use Rattle.fs_grammar_laws.proofs.Expressions.{tokens_end}
 use Rattle.fs_lex.specs.Scan.{operators_up_to_token, is_past_limit, tokens_of}
-use Rattle.fs_lex_laws.specs.Tokenization.{IsTokenIn}
-use Rattle.fs_lex_laws.proofs.Stood.{stands_in_text}
+use Rattle.fs_text_laws.specs.Tokenization.{IsTokenIn}
+use Rattle.fs_text_laws.proofs.Stood.{stands_in_text}
 use Rattle.fs_text_laws.specs.Limit.{operator_count, IsOneTooMany, KeepLimit, SpellWithin, IsWrongWithin, StopWithin}
 use Rattle.fs_text_laws.proofs.Counted.{AreCounted, tokens_counted}
 use Rattle.fs_text_laws.proofs.Ended.{tokens_ended}

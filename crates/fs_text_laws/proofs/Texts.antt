@@ -6,9 +6,9 @@ use Rattle.fs_grammar.specs.declared.fault.TextFault.{TextFault}
 use Rattle.fs_grammar.specs.declared.token.Token.{Token}
 use Rattle.fs_grammar.specs.Grammar.{at_start, reading}
 use Rattle.fs_lex.specs.Scan.{tokens_of}
-use Rattle.fs_lex_laws.specs.Tokenization.{AreTokens}
-use Rattle.fs_lex_laws.proofs.Tokenized.{tokenized}
-use Rattle.fs_lex_laws.proofs.Unique.{one_list}
+use Rattle.fs_text_laws.specs.Tokenization.{AreTokens}
+use Rattle.fs_text_laws.proofs.Tokenized.{tokenized}
+use Rattle.fs_text_laws.proofs.Unique.{one_list}
 use Rattle.fs_text_laws.specs.MachineTexts.{TextSpells, TextStops}
 use Rattle.fs_text_laws.proofs.Alike.{AreAlike, alike, spell_alike, stop_alike}
 use Rattle.fs_text_laws.proofs.Limit.{spelled_found, spelled_only, fault_found, fault_only}

@@ -5,7 +5,7 @@ use Rattle.fs_model.specs.Words.{is_name}
 use Rattle.fs_grammar.specs.declared.token.TokenKind.{TokenKind}
 use Rattle.fs_grammar.specs.declared.token.TokenKind.TheVariants.{Name, Number}
 use Rattle.fs_grammar.specs.declared.token.Token.{Token}
-use Rattle.fs_lex_laws.specs.Tokenization.{ends_text}
+use Rattle.fs_text_laws.specs.Tokenization.{ends_text}
 
 -- a name is a name indeed, and a number is not negative and no larger than a text may have
 abbrev pub IsProper : TokenKind → Type 0

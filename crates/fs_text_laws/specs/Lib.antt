@@ -1,3 +1,5 @@
+pub mod Vocabulary
+pub mod Tokenization
 pub mod Kinds
 pub mod Limit
 pub mod MachineTexts

@@ -4,7 +4,7 @@ use Rattle.std.specs.Prelude.{ℕ, List, []}
 use Rattle.fs_model.specs.Source.{Source}
 use Rattle.fs_grammar.specs.declared.fault.TextFault.{TextFault}
 use Rattle.fs_grammar.specs.declared.token.Token.{Token}
-use Rattle.fs_lex_laws.specs.Tokenization.{AreTokens}
+use Rattle.fs_text_laws.specs.Tokenization.{AreTokens}
 use Rattle.fs_text_laws.specs.Limit.{SpellWithin, StopWithin}
 
 -- The bytes spell the source: their tokens do, each guard and each assignment within the limit.

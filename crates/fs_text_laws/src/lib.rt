@@ -1,9 +1,12 @@
-//! Laws of machine texts: what bytes can read as. The functions do nothing.
+//! Laws of tokens and of machine texts: what bytes can read as. The functions do nothing.
 //!
-//! Promises: what bytes spell and where they are faulty, by the bytes and the grammar alone.
+//! Promises: the scan's tokens are the words, numbers and punctuation of a text, and there are no others; what bytes spell
+//! and where they are faulty, by the bytes and the grammar alone.
 //!
-//! Rules: `specs/Kinds`, `specs/Limit`, `specs/MachineTexts`.
+//! Rules: `specs/Vocabulary`, `specs/Tokenization`, `specs/Kinds`, `specs/Limit`, `specs/MachineTexts`.
 #![tactic(auto)]
+
+pub mod token_laws;
 
 ghost use Rattle.std.specs.Prelude.{◌≡◌, ℕ, ◌&&◌, ◌⊎◌, ◌↔◌, nat_le, List, ◌∷◌, ◌++◌, Ok, Err, IsTrue};
 ghost use Rattle.std.specs.List.{All};
@@ -15,7 +18,7 @@ ghost use Rattle.fs_grammar.specs.Grammar.{at_start, reading};
 ghost use Rattle.fs_grammar.specs.Operators.{is_operator};
 ghost use Rattle.fs_grammar_laws.specs.ExpressionEnds.{EndInExpression};
 ghost use Rattle.fs_lex.specs.Scan.{tokens_of};
-ghost use Rattle.fs_lex_laws.specs.Tokenization.{IsTokenIn};
+ghost use Rattle.fs_text_laws.specs.Tokenization.{IsTokenIn};
 ghost use Rattle.fs_text_laws.specs.Kinds.{IsProper, end_once};
 ghost use Rattle.fs_text_laws.specs.Limit.{operator_count, SpellWithin, StopWithin};
 ghost use Rattle.fs_text_laws.specs.MachineTexts.{TextSpells, TextStops};

@@ -13,8 +13,8 @@ use Rattle.fs_lex.specs.declared.lexemes.Lexeme.TheVariants as lexemes
 use Rattle.fs_lex.specs.Lexemes.{is_space, is_in_comment, lexeme_of}
 use Rattle.fs_lex.specs.Scan.{place_after_byte, place_after_bytes, scan, tokens_of}
 use Rattle.fs_lex.proofs.Scans.{blank_scans}
-use Rattle.fs_lex_laws.specs.Tokenization.{IsGap, nothing, blank, comment}
-use Rattle.fs_lex_laws.proofs.Places.{moved_behind}
+use Rattle.fs_text_laws.specs.Tokenization.{IsGap, nothing, blank, comment}
+use Rattle.fs_text_laws.proofs.Places.{moved_behind}
 use Rattle.fs_text_laws.specs.MachineTexts.{TextSpells}
 use Rattle.fs_text_laws.proofs.Texts.{spells, reads}
 use Rattle.fs_write_laws.specs.CommentLines.{lines_moved, line_feeds, IsCommentLine}

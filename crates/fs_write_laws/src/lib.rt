@@ -15,7 +15,7 @@ ghost use Rattle.fs_model.specs.Source.{Source};
 ghost use Rattle.fs_model.specs.WellFormed.{is_well_formed};
 ghost use Rattle.fs_rules.specs.MachineOfParts.{machine_of};
 ghost use Rattle.fs_rules.specs.Rules.{BreaksNoRule};
-ghost use Rattle.fs_lex_laws.specs.Tokenization.{IsGap};
+ghost use Rattle.fs_text_laws.specs.Tokenization.{IsGap};
 ghost use Rattle.fs_text_laws.specs.MachineTexts.{TextSpells};
 ghost use Rattle.fs_write.specs.Canonical.{canonical};
 ghost use Rattle.fs_write.specs.CanonicalLines.{with_canonical_lines};

@@ -28,3 +28,5 @@ pub use Rattle.fsmd_machine_commands.specs.Shrinks
 pub use Rattle.fsmd_machine_commands.specs.Unread
 pub use Rattle.fsmd_machine_commands.specs.Verdicts
 pub use Rattle.fsmd_machine_commands.specs.WrittenCertificates
+pub use Rattle.hls_shrink.specs.Given
+pub use Rattle.hls_shrink.specs.Shrunk

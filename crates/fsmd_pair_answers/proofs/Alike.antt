@@ -6,8 +6,8 @@ use Rattle.std.proofs.lemmas.Result.{IfOk-weaker}
 use Rattle.fs_model.specs.Machines.{Fsmd}
 use Rattle.fs_cut.specs.Paths.{Point}
 use Rattle.cert_bisimulation.specs.Tables.{Node}
-use Rattle.alike_behaviour.specs.Alike.{Alike, WhereAlike}
-use Rattle.alike_behaviour.proofs.Twins.{alike_behave_alike}
+use Rattle.cert_bisimulation.specs.Alike.{Alike, WhereAlike}
+use Rattle.cert_bisimulation.proofs.Twins.{alike_behave_alike}
 use Rattle.sym_facts.specs.Facts.{Fact}
 use Rattle.cert_model.specs.View.{node_of}
 use Rattle.search_tables.specs.declared.moves.Move.{Move}

@@ -13,7 +13,7 @@ use Rattle.search_tables.specs.declared.moves.Move.{Move}
 use Rattle.search_tables.specs.SearchTables.{MachinePair, Table, first_table, TooWide, TooLarge, machines}
 use Rattle.search_tables.specs.Next.{Next, Nothing, Change, Stop, Excess, next_move, IsClosed}
 use Rattle.search_tables.specs.Legal.{Difference, stuck}
-use Rattle.search_ranks.specs.Graphs.{AreRanks}
+use Rattle.search_tables.specs.Graphs.{AreRanks}
 use Rattle.search_tables.specs.LoneMoves.{lone_moves}
 use Rattle.search_tables.specs.Certifying.{Certifies}
 use Rattle.search_tables.specs.Obstacles.{Obstacle, Stuck, Spin, Wide, Large, Exhausted, StandsIn}

@@ -6,7 +6,7 @@ use Rattle.cert_bisimulation.specs.declared.mode.Mode.{Mode}
 use Rattle.cert_bisimulation.specs.Tables.{Node as CertificateNode}
 use Rattle.search_tables.specs.Modes.{Found}
 use Rattle.sym_facts.specs.Facts.{Fact}
-use Rattle.search_ranks.specs.Graphs.{AreRanks, above}
+use Rattle.search_tables.specs.Graphs.{AreRanks, above}
 use Rattle.search_tables.specs.SearchTables.{MachinePair, SearchNode, Table}
 use Rattle.search_tables.specs.Next.{mode_at}
 use Rattle.search_tables.specs.LoneMoves.{lone_moves}

@@ -2,5 +2,5 @@ pub mod PairAnswers
 pub mod PairAnswerLaws
 pub use Rattle.search_laws.specs.Certificates
 pub use Rattle.search_laws.specs.SearchOutcomes
-pub use Rattle.alike_behaviour.specs.Alike
+pub use Rattle.cert_bisimulation.specs.Alike
 pub use Rattle.fsmd_replies.specs.ObstacleTexts

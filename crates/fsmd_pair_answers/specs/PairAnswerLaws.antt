@@ -15,7 +15,7 @@ use Rattle.search_tables.specs.declared.moves.Move.{Move}
 use Rattle.search_tables.specs.SearchTables.{MachinePair, machines}
 use Rattle.search_tables.specs.Obstacles.{Obstacle, Stuck, Spin, Wide, Large, Exhausted}
 use Rattle.search_tables.specs.View.{Points}
-use Rattle.alike_behaviour.specs.Alike.{WhereAlike}
+use Rattle.cert_bisimulation.specs.Alike.{WhereAlike}
 use Rattle.search_laws.specs.SearchOutcomes.{IsClosedWith, StopsAtObstacle}
 use Rattle.fsmd_pair_answers.specs.declared.answer.PairAnswer.{PairAnswer}
 use Rattle.fsmd_pair_answers.specs.declared.answer.PairAnswer.TheVariants.{Equivalent, Counterexample, Undecided}

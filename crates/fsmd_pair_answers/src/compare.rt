@@ -4,7 +4,7 @@ ghost use Rattle.std.specs.Prelude.{◌≡◌, ◌≤◌, None, IfOk};
 ghost use Rattle.fs_model.specs.Runs.{SameBehaviour};
 ghost use Rattle.fs_pair.specs.Interfaces.{interface_fault};
 ghost use Rattle.fs_pair.specs.Positions.{positions};
-ghost use Rattle.alike_behaviour.specs.Alike.{WhereAlike};
+ghost use Rattle.cert_bisimulation.specs.Alike.{WhereAlike};
 ghost use Rattle.search_tables.specs.SearchTables.{machines};
 ghost use Rattle.fsmd_pair_answers.specs.PairAnswers.{IsLeftOpen, HasObstacle, IsPairAnswer, IfEquivalent, IsClosedOrLimit};
 

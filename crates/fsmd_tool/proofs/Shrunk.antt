@@ -6,8 +6,8 @@ use Rattle.fsmd_words.specs.AskedWords.{Asked, Shrink}
 use Rattle.fs_model.specs.Machines.{Fsmd}
 use Rattle.fs_model.specs.Runs.{Inputs, Content}
 use Rattle.fs_trials.specs.Differences.{ShowsDifference}
-use Rattle.hls_shrink.specs.Shrunk.{ShowDifference, EndsIn}
-use Rattle.hls_shrink.specs.Given.{given_contents}
+use Rattle.fsmd_commands.specs.Shrunk.{ShowDifference, EndsIn}
+use Rattle.fsmd_commands.specs.Given.{given_contents}
 use Rattle.fsmd_replies.specs.declared.answer.Status.TheVariants as statuses
 use Rattle.fsmd_replies.specs.declared.answer.Answer.{Answer}
 use Rattle.fsmd_replies.specs.declared.answer.Answer.TheVariants.{Differs}

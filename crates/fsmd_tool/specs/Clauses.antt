@@ -8,8 +8,8 @@ use Rattle.fs_model.specs.Source.{Source}
 use Rattle.fs_ast.specs.MachineOfParts.{machine_of}
 use Rattle.fs_pair.specs.Interfaces.{interface_fault}
 use Rattle.fs_trials.specs.Differences.{ShowsDifference}
-use Rattle.hls_shrink.specs.Shrunk.{ShowDifference, EndsIn}
-use Rattle.hls_shrink.specs.Given.{given_contents}
+use Rattle.fsmd_commands.specs.Shrunk.{ShowDifference, EndsIn}
+use Rattle.fsmd_commands.specs.Given.{given_contents}
 use Rattle.cert_bisimulation.specs.Tables.{Node}
 use Rattle.sym_facts.specs.Facts.{Fact}
 use Rattle.cert_model.specs.Obligations.{Yes, verdict_on}

@@ -3,7 +3,7 @@
 ghost use Rattle.std.specs.Prelude.{◌≡◌, ℕ, true, false, Some, is_some};
 ghost use Rattle.fsmd_words.specs.AskedWords.{Generate};
 ghost use Rattle.fs_model.specs.Machines.{Fsmd};
-ghost use Rattle.alike_behaviour.specs.Alike.{WhereAlike};
+ghost use Rattle.cert_bisimulation.specs.Alike.{WhereAlike};
 ghost use Rattle.fsmd_replies.specs.AskedFiles.{cert_of, is_check};
 ghost use Rattle.fsmd_tool.specs.MachineFiles.{SpellsMachine};
 ghost use Rattle.fsmd_tool.specs.ComparisonAnswers.{left_of, right_of};

@@ -11,9 +11,9 @@ use Rattle.fs_model.specs.WellFormed.{is_well_formed_condition, is_well_formed_a
 use Rattle.fs_model.specs.WellFormed.{is_well_formed_declaration, is_well_formed}
 use Rattle.hls_line_rows.specs.ItemUnits.{Units}
 use Rattle.hls_line_rows.specs.Filling.{graph_of, filling_of}
-use Rattle.hls_line_machines.specs.StraightLines.{all_states, is_straight, straight_line_at, exit_of, firsts, items_at}
-use Rattle.hls_line_machines.specs.RowMachines.{MoveOver, moves}
-use Rattle.hls_line_machines.proofs.Among.{Among, joined_from}
+use Rattle.hls_line_schedules.specs.StraightLines.{all_states, is_straight, straight_line_at, exit_of, firsts, items_at}
+use Rattle.hls_line_schedules.specs.RowMachines.{MoveOver, moves}
+use Rattle.hls_line_schedules.proofs.Among.{Among, joined_from}
 use Rattle.hls_line_schedules.proofs.Within.{move_row, row_joined}
 use Rattle.hls_line_schedules.specs.SourceRows.{source_state, first_assignments, named_item, placed_in_line, named_rows, named_moves, RowEffect}
 use Rattle.hls_line_schedules.specs.SourceRows.{first_row_effect}

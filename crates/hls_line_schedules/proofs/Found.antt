@@ -9,11 +9,11 @@ use Rattle.fs_model.specs.Terms.{Assignment}
 use Rattle.fs_model.specs.Source.{Source}
 use Rattle.fs_model.specs.Machines.{Fsmd}
 use Rattle.fs_ast.specs.SoundParts.{IsSound}
-use Rattle.hls_line_machines.specs.StraightLines.{all_states, is_straight, follows, next_state, line_from, straight_line_at, exit_of, is_inner}
-use Rattle.hls_line_machines.specs.StraightLines.{is_first_of_line, firsts}
-use Rattle.hls_line_machines.specs.RowMachines.{MoveOver, after_row, moves, all_moves}
-use Rattle.hls_line_machines.proofs.Among.{Among, passes_test, was_among, range_within, joined_from}
-use Rattle.hls_line_machines.proofs.Trails.{next_in, follows_on, Station, leaves_line}
+use Rattle.hls_line_schedules.specs.StraightLines.{all_states, is_straight, follows, next_state, line_from, straight_line_at, exit_of, is_inner}
+use Rattle.hls_line_schedules.specs.StraightLines.{is_first_of_line, firsts}
+use Rattle.hls_line_schedules.specs.RowMachines.{MoveOver, after_row, moves, all_moves}
+use Rattle.hls_line_schedules.proofs.Among.{Among, passes_test, was_among, range_within, joined_from}
+use Rattle.hls_line_schedules.proofs.Trails.{next_in, follows_on, Station, leaves_line}
 use Rattle.hls_line_rows.specs.ItemUnits.{Units}
 use Rattle.hls_line_schedules.specs.SourceRows.{named_rows, named_moves, RowEffect, first_row_effect}
 use Rattle.hls_line_schedules.specs.Sources.{states_by, source_by_rows, scheduled_source}

@@ -31,14 +31,14 @@ use Rattle.hls_line_rows.proofs.Emits.{emits_few}
 use Rattle.hls_line_rows.specs.ItemUnits.{Units}
 use Rattle.hls_line_rows.specs.Filling.{graph_of, filling_of, placed_by}
 use Rattle.hls_line_rows.proofs.Lists.{placed_valid}
-use Rattle.hls_line_machines.specs.StraightLines.{all_states, straight_line_at, exit_of, is_first_of_line, firsts, item_of, items_at}
-use Rattle.hls_line_machines.specs.RowMachines.{Move, moves, all_moves, move_transition, transitions_by, state_at, machine_with_rows, KeepsStores}
-use Rattle.hls_line_machines.specs.MachineSelections.{selected_place, transition_renumbered, IsClosedUnderTargets}
-use Rattle.hls_line_machines.specs.ScheduledMachines.{is_kept, kept_states}
-use Rattle.hls_line_machines.proofs.Among.{Among, passes_test, joined_from, occurs_among}
-use Rattle.hls_line_machines.proofs.Replacing.{Does, does}
-use Rattle.hls_line_machines.proofs.Dropping.{Kind, of_kept, stays, closed}
-use Rattle.hls_line_machines.proofs.Ends.{same_branches, nowhere_endless}
+use Rattle.hls_line_schedules.specs.StraightLines.{all_states, straight_line_at, exit_of, is_first_of_line, firsts, item_of, items_at}
+use Rattle.hls_line_schedules.specs.RowMachines.{Move, moves, all_moves, move_transition, transitions_by, state_at, machine_with_rows, KeepsStores}
+use Rattle.hls_line_schedules.specs.MachineSelections.{selected_place, transition_renumbered, IsClosedUnderTargets}
+use Rattle.hls_line_schedules.specs.ScheduledMachines.{is_kept, kept_states}
+use Rattle.hls_line_schedules.proofs.Among.{Among, passes_test, joined_from, occurs_among}
+use Rattle.hls_line_schedules.proofs.Replacing.{Does, does}
+use Rattle.hls_line_schedules.proofs.Dropping.{Kind, of_kept, stays, closed}
+use Rattle.hls_line_schedules.proofs.Ends.{same_branches, nowhere_endless}
 use Rattle.hls_line_schedules.specs.Schedules.{IsWithin, rows_by, schedule_of}
 use Rattle.hls_line_schedules.proofs.Schedules.{its_line, each_fits, keeps_stores}
 use Rattle.hls_line_schedules.proofs.Within.{move_row, row_joined}

@@ -1,3 +1,12 @@
+pub mod Paces
+pub mod Selecting
+pub mod Among
+pub mod Trails
+pub mod Replacing
+pub mod Dropping
+pub mod Ends
+pub mod Covering
+pub mod NewLines
 pub mod Schedules
 pub mod Within
 pub mod Lists

@@ -3,7 +3,7 @@ use Rattle.std.proofs.Common.{◌≡◌, inl, inr, ℕ, zero, suc, ◌<◌, refl
 use Rattle.std.specs.Prelude.{cond, filter}
 use Rattle.std.specs.List.{slice_index_or, flat_map}
 use Rattle.std.proofs.lemmas.List.{map-append}
-use Rattle.hls_line_machines.proofs.Among.{Among}
+use Rattle.hls_line_schedules.proofs.Among.{Among}
 
 module _ {X Y : Type 0} where
   pub map_same : (f g : X → Y) (xs : List X) → ((x : X) → Among x xs → f x ≡ g x) → map f xs ≡ map g xs

@@ -13,9 +13,9 @@ use Rattle.fs_ast.specs.SoundParts.{IsSound}
 use Rattle.hls_line_rows.specs.Placings.{PlacedOver, join_assignments, row_at, rows_from, rows_of}
 use Rattle.hls_line_rows.specs.ItemUnits.{Units}
 use Rattle.hls_line_rows.specs.Filling.{Rows, Filled, row_or, placed_from, placed_by, graph_of, filling_of}
-use Rattle.hls_line_machines.specs.StraightLines.{straight_line_at, exit_of, firsts, item_of, items_at}
-use Rattle.hls_line_machines.specs.RowMachines.{MoveOver, after_row, moves, all_moves, state_at}
-use Rattle.hls_line_machines.proofs.Among.{Among}
+use Rattle.hls_line_schedules.specs.StraightLines.{straight_line_at, exit_of, firsts, item_of, items_at}
+use Rattle.hls_line_schedules.specs.RowMachines.{MoveOver, after_row, moves, all_moves, state_at}
+use Rattle.hls_line_schedules.proofs.Among.{Among}
 use Rattle.hls_line_schedules.specs.Schedules.{rows_by}
 use Rattle.hls_line_schedules.proofs.Schedules.{its_line}
 use Rattle.hls_line_schedules.specs.SourceRows.{source_state, first_assignments, named_item, named_rows, named_moves}

@@ -8,7 +8,7 @@ use Rattle.fs_model.proofs.Booleans.{and_first, and_second}
 use Rattle.fs_model.specs.Terms.{Assignment}
 use Rattle.hls_line_rows.specs.Placings.{PlacedOver, join_assignments, row_at}
 use Rattle.hls_line_rows.specs.Filling.{Rows, Filled, placed_from, placed_by}
-use Rattle.hls_line_machines.proofs.Among.{Among}
+use Rattle.hls_line_schedules.proofs.Among.{Among}
 
 module _ {X : Type 0} (T : X → Bool) where
   pub all_both : (xs ys : List X) → list_all T xs ≡ true → list_all T ys ≡ true → list_all T (xs ++ ys) ≡ true

@@ -16,10 +16,10 @@ use Rattle.fs_cut.proofs.Branches.{some_branch, few}
 use Rattle.hls_line_rows.specs.Items.{Item, store_after_items}
 use Rattle.hls_line_rows.specs.Placings.{Placed, rows_from}
 use Rattle.hls_line_rows.proofs.Rows.{rows_keep_the_store}
-use Rattle.hls_line_machines.specs.StraightLines.{is_straight, next_state, line_from, straight_line_at, is_inner, is_first_of_line, item_of, items_at, follows}
-use Rattle.hls_line_machines.specs.RowMachines.{KeepsStores}
-use Rattle.hls_line_machines.proofs.Trails.{next_in, follows_on}
-use Rattle.hls_line_machines.proofs.Dropping.{scheduled_behaves}
+use Rattle.hls_line_schedules.specs.StraightLines.{is_straight, next_state, line_from, straight_line_at, is_inner, is_first_of_line, item_of, items_at, follows}
+use Rattle.hls_line_schedules.specs.RowMachines.{KeepsStores}
+use Rattle.hls_line_schedules.proofs.Trails.{next_in, follows_on}
+use Rattle.hls_line_schedules.proofs.Dropping.{scheduled_behaves}
 use Rattle.hls_line_rows.specs.ItemUnits.{Units, none_used, used_by, suffice}
 use Rattle.hls_line_rows.specs.Heights.{chain_of, heights}
 use Rattle.hls_line_rows.specs.Filling.{graph_of, filling_of, EachItemFits, used_by_all, placed_by}

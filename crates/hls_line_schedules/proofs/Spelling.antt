@@ -20,12 +20,12 @@ use Rattle.fs_ast.specs.MachineOfParts.{place_or_end, variables_of, state_names,
 use Rattle.fs_ast.specs.SoundParts.{IsSound, names_differ}
 use Rattle.fs_ast_laws.proofs.Repeats.{is_listed}
 use Rattle.hls_line_rows.specs.Items.{Item}
-use Rattle.hls_line_machines.specs.StraightLines.{all_states, is_straight}
-use Rattle.hls_line_machines.specs.RowMachines.{Move, MoveOver, all_moves, move_transition, transitions_by, state_at, machine_with_rows}
-use Rattle.hls_line_machines.specs.MachineSelections.{selected_place, transition_renumbered}
-use Rattle.hls_line_machines.specs.ScheduledMachines.{is_kept, kept_states}
-use Rattle.hls_line_machines.proofs.Among.{Among, was_among, range_within, any_of}
-use Rattle.hls_line_machines.proofs.Trails.{member}
+use Rattle.hls_line_schedules.specs.StraightLines.{all_states, is_straight}
+use Rattle.hls_line_schedules.specs.RowMachines.{Move, MoveOver, all_moves, move_transition, transitions_by, state_at, machine_with_rows}
+use Rattle.hls_line_schedules.specs.MachineSelections.{selected_place, transition_renumbered}
+use Rattle.hls_line_schedules.specs.ScheduledMachines.{is_kept, kept_states}
+use Rattle.hls_line_schedules.proofs.Among.{Among, was_among, range_within, any_of}
+use Rattle.hls_line_schedules.proofs.Trails.{member}
 use Rattle.hls_line_rows.specs.ItemUnits.{Units}
 use Rattle.hls_line_schedules.specs.Schedules.{rows_by, schedule_of}
 use Rattle.hls_line_schedules.specs.SourceRows.{source_state, named_moves, RowEffect, first_row_effect}

@@ -7,8 +7,8 @@ use Rattle.fs_model.specs.Machines.{Fsmd}
 use Rattle.hls_line_rows.specs.Placings.{PlacedOver, join_assignments, row_at, rows_of}
 use Rattle.hls_line_rows.specs.ItemUnits.{Units}
 use Rattle.hls_line_rows.specs.Filling.{Filled, graph_of, filling_of, placed_by}
-use Rattle.hls_line_machines.specs.StraightLines.{straight_line_at, items_at}
-use Rattle.hls_line_machines.specs.RowMachines.{MoveOver, all_moves}
+use Rattle.hls_line_schedules.specs.StraightLines.{straight_line_at, items_at}
+use Rattle.hls_line_schedules.specs.RowMachines.{MoveOver, all_moves}
 
 abbrev pub source_state : Source → ℕ → SourceState
 source_state p q = slice_index_or p.states q (record { line = 0; name = []; lines = [] })

@@ -4,7 +4,7 @@ ghost use Rattle.std.specs.Prelude.{◌≡◌, ℕ, ◌<◌, ◌≤◌, true, le
 ghost use Rattle.fs_model.specs.Machines.{Fsmd};
 ghost use Rattle.fs_model.specs.Runs.{SameBehaviour};
 ghost use Rattle.fs_ast.specs.SoundParts.{IsSound};
-ghost use Rattle.hls_line_machines.specs.StraightLines.{is_first_of_line, straight_line_at, items_at};
+ghost use Rattle.hls_line_schedules.specs.StraightLines.{is_first_of_line, straight_line_at, items_at};
 ghost use Rattle.hls_line_rows.specs.ItemUnits.{Units, none_used, suffice};
 ghost use Rattle.hls_line_rows.specs.Heights.{chain_of};
 ghost use Rattle.hls_line_rows.specs.Filling.{graph_of, used_by_all};

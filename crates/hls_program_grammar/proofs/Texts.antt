@@ -12,9 +12,9 @@ use Rattle.fs_grammar_laws.specs.Spelling.{Word}
 use Rattle.fs_grammar_laws.specs.WordWalks.{words}
 use Rattle.fs_grammar_laws.specs.Faults.{word_of, IsLast, AreEndedTokens}
 use Rattle.fs_lex.specs.Scan.{tokens_of}
-use Rattle.fs_lex_laws.specs.Tokenization.{AreTokens, kind_and_place}
-use Rattle.fs_lex_laws.proofs.Tokenized.{tokenized}
-use Rattle.fs_lex_laws.proofs.Unique.{one_list}
+use Rattle.fs_text_laws.specs.Tokenization.{AreTokens, kind_and_place}
+use Rattle.fs_text_laws.proofs.Tokenized.{tokenized}
+use Rattle.fs_text_laws.proofs.Unique.{one_list}
 use Rattle.fs_text_laws.proofs.Ended.{tokens_ended}
 use Rattle.hls_program_laws.specs.Programs.{Program}
 use Rattle.hls_program_grammar.specs.ProgramKeywords.{program_kind}

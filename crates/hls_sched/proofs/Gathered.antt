@@ -10,7 +10,7 @@ use Rattle.fs_ast.specs.SoundParts.{IsSound}
 use Rattle.hls_unit_counts.specs.declared.units.Unit.{Unit as Kind}
 use Rattle.hls_unit_counts.specs.declared.units.Unit.TheVariants.{Add}
 use Rattle.hls_line_rows.specs.Items.{Item}
-use Rattle.hls_line_machines.specs.StraightLines.{is_first_of_line, firsts, straight_line_at, item_of, items_at}
+use Rattle.hls_line_schedules.specs.StraightLines.{is_first_of_line, firsts, straight_line_at, item_of, items_at}
 use Rattle.hls_line_rows.specs.ItemUnits.{Units, used_by}
 use Rattle.hls_line_rows.specs.Heights.{chain_of}
 use Rattle.hls_line_rows.specs.Filling.{Filled, graph_of, filling_of, is_before, IsFilled}

@@ -8,11 +8,11 @@ use Rattle.fs_model.specs.Source.{Source}
 use Rattle.fs_model.specs.Machines.{Fsmd}
 use Rattle.fs_model.specs.Runs.{SameBehaviour}
 use Rattle.fs_ast.specs.SoundParts.{IsSound}
-use Rattle.hls_line_machines.specs.StraightLines.{all_states, is_first_of_line, firsts}
-use Rattle.hls_line_machines.specs.RowMachines.{MoveOver}
-use Rattle.hls_line_machines.proofs.Among.{range_within}
-use Rattle.hls_line_machines.proofs.Trails.{member}
-use Rattle.hls_line_machines.proofs.NewLines.{has_rows, is_first, name_kept}
+use Rattle.hls_line_schedules.specs.StraightLines.{all_states, is_first_of_line, firsts}
+use Rattle.hls_line_schedules.specs.RowMachines.{MoveOver}
+use Rattle.hls_line_schedules.proofs.Among.{range_within}
+use Rattle.hls_line_schedules.proofs.Trails.{member}
+use Rattle.hls_line_schedules.proofs.NewLines.{has_rows, is_first, name_kept}
 use Rattle.hls_line_rows.specs.ItemUnits.{Units}
 use Rattle.hls_line_rows.specs.Heights.{chain_of}
 use Rattle.hls_line_rows.proofs.Chains.{no_shorter}

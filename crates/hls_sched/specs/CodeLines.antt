@@ -4,8 +4,8 @@ use Rattle.std.specs.List.{All}
 use Rattle.fs_model.specs.Machines.{Fsmd}
 use Rattle.fs_model.specs.Source.{Source}
 use Rattle.hls_line_rows.specs.ItemUnits.{Units}
-use Rattle.hls_line_machines.specs.StraightLines.{is_first_of_line, straight_line_at, exit_of}
-use Rattle.hls_line_machines.specs.RowMachines.{MoveOver, moves}
+use Rattle.hls_line_schedules.specs.StraightLines.{is_first_of_line, straight_line_at, exit_of}
+use Rattle.hls_line_schedules.specs.RowMachines.{MoveOver, moves}
 use Rattle.hls_sched.specs.declared.lines.Line.{Line}
 use Rattle.hls_line_schedules.specs.SourceRows.{named_rows}
 

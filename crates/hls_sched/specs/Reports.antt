@@ -2,8 +2,8 @@
 use Rattle.std.specs.Prelude.{◌≡◌, ℕ, ◌≤◌, true, List, map, length, Some}
 use Rattle.fs_model.specs.Machines.{Fsmd}
 use Rattle.hls_line_rows.specs.Placings.{Placed, items_of, is_valid, all_below}
-use Rattle.hls_line_machines.specs.StraightLines.{straight_line_at, is_first_of_line, items_at, firsts}
-use Rattle.hls_line_machines.specs.RowMachines.{state_at}
+use Rattle.hls_line_schedules.specs.StraightLines.{straight_line_at, is_first_of_line, items_at, firsts}
+use Rattle.hls_line_schedules.specs.RowMachines.{state_at}
 use Rattle.hls_line_rows.specs.ItemUnits.{Units, none_used, suffice}
 use Rattle.hls_line_rows.specs.Heights.{chain_of}
 use Rattle.hls_line_rows.specs.Filling.{graph_of, used_by_all}

@@ -2,7 +2,7 @@
 
 ghost use Rattle.std.specs.Prelude.{◌≡◌, ◌<◌, length, map, IfOk};
 ghost use Rattle.std.specs.List.{All};
-ghost use Rattle.hls_line_machines.specs.StraightLines.{item_of, items_at};
+ghost use Rattle.hls_line_schedules.specs.StraightLines.{item_of, items_at};
 ghost use Rattle.hls_unit_counts.specs.declared.units.Unit.{Unit as Kind};
 ghost use Rattle.hls_line_rows.specs.ItemUnits.{used_by, units_in};
 ghost use Rattle.hls_line_rows.specs.Heights.{chain_of};

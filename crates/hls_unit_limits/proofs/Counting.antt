@@ -22,8 +22,8 @@ use Rattle.fs_cut.specs.Paths.{branch_at}
 use Rattle.fs_cut.proofs.Branches.{some_branch, no_branch}
 use Rattle.hls_unit_counts.specs.declared.units.Unit.{Unit as Kind}
 use Rattle.hls_line_rows.specs.Items.{Item, read_in, variables_read_by, reads_of_item, stored_in}
-use Rattle.hls_line_machines.specs.StraightLines.{straight_line_at, is_first_of_line, item_of, items_at}
-use Rattle.hls_line_machines.proofs.Trails.{line_in}
+use Rattle.hls_line_schedules.specs.StraightLines.{straight_line_at, is_first_of_line, item_of, items_at}
+use Rattle.hls_line_schedules.proofs.Trails.{line_in}
 use Rattle.hls_line_rows.specs.ItemUnits.{Units, none_used, used_by}
 use Rattle.hls_line_rows.specs.Filling.{graph_of, EachItemFits}
 use Rattle.hls_line_rows.proofs.Placings.{suffices}

@@ -16,7 +16,7 @@ use Rattle.fs_cut.proofs.Loops.{range_map_step}
 use Rattle.hls_unit_counts.specs.declared.units.Unit.{Unit as Kind}
 use Rattle.hls_unit_counts.specs.declared.units.Unit.TheVariants.{Add, Mul, Div, Mem}
 use Rattle.hls_line_rows.specs.Items.{Item}
-use Rattle.hls_line_machines.specs.StraightLines.{all_states}
+use Rattle.hls_line_schedules.specs.StraightLines.{all_states}
 use Rattle.hls_line_rows.specs.ItemUnits.{Units, none_used, used_by, suffice}
 use Rattle.hls_line_rows.proofs.Fills.{all_range, in_all}
 use Rattle.hls_line_schedules.specs.Schedules.{IsWithin}

@@ -7,7 +7,7 @@ use Rattle.fs_model.specs.Trees.{Branch, branches_of}
 use Rattle.hls_unit_counts.specs.declared.units.Unit.{Unit as Kind}
 use Rattle.hls_unit_counts.specs.declared.units.Unit.TheVariants.{Add, Mul, Div, Mem}
 use Rattle.hls_line_rows.specs.Items.{Item}
-use Rattle.hls_line_machines.specs.StraightLines.{all_states}
+use Rattle.hls_line_schedules.specs.StraightLines.{all_states}
 use Rattle.hls_line_rows.specs.ItemUnits.{Units, used_by}
 
 -- the first of these that there is

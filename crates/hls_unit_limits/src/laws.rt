@@ -3,7 +3,7 @@
 ghost use Rattle.std.specs.Prelude.{◌≡◌, ℕ, ◌<◌, true, List, None, length};
 ghost use Rattle.fs_model.specs.Machines.{Fsmd};
 ghost use Rattle.fs_ast.specs.SoundParts.{IsSound};
-ghost use Rattle.hls_line_machines.specs.StraightLines.{is_first_of_line, items_at};
+ghost use Rattle.hls_line_schedules.specs.StraightLines.{is_first_of_line, items_at};
 ghost use Rattle.hls_line_rows.specs.ItemUnits.{Units};
 ghost use Rattle.hls_line_schedules.specs.Schedules.{IsWithin};
 ghost use Rattle.hls_line_filling.specs.declared.effects.Effects.{Effects};

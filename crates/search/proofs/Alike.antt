@@ -5,7 +5,7 @@ use Rattle.std.proofs.lemmas.Result.{IfOk-weaker}
 use Rattle.fs_model.specs.Machines.{Fsmd}
 use Rattle.fs_cut.specs.Paths.{Point}
 use Rattle.fs_model.specs.declared.sides.Side.{Side}
-use Rattle.alike_behaviour.specs.Alike.{Alike, WhereAlike}
+use Rattle.cert_bisimulation.specs.Alike.{Alike, WhereAlike}
 use Rattle.search_tables.specs.declared.moves.Move.{Move}
 use Rattle.search_tables.specs.declared.outcome.Outcome.{Outcome}
 use Rattle.search_tables.specs.declared.outcome.Outcome.TheVariants as outcomes

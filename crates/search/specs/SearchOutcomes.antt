@@ -8,7 +8,7 @@ use Rattle.cert_model.specs.Lawful.{IsLawful, most_nodes}
 use Rattle.cert_model.specs.Obligations.{Yes, verdict}
 use Rattle.cert_model.specs.View.{node_of}
 use Rattle.cert_model.specs.Kept.{AreNormal}
-use Rattle.search_ranks.specs.Graphs.{AreRanks}
+use Rattle.search_tables.specs.Graphs.{AreRanks}
 use Rattle.search_tables.specs.declared.moves.Move.{Move}
 use Rattle.search_tables.specs.declared.outcome.Outcome.{Outcome}
 use Rattle.search_tables.specs.declared.outcome.Outcome.TheVariants as outcomes

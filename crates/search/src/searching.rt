@@ -9,12 +9,12 @@ ghost use Rattle.sym_facts.specs.Pairings.{IsFactOf};
 ghost use Rattle.search_tables.specs.Next.{IsClosed};
 ghost use Rattle.search_tables.specs.Legal.{Makes, stuck};
 ghost use Rattle.search_tables.specs.View.{table_in, points_in, points_at};
-ghost use Rattle.alike_behaviour.specs.Alike.{WhereAlike};
+ghost use Rattle.cert_bisimulation.specs.Alike.{WhereAlike};
 ghost use Rattle.search_worklist.specs.SearchEnds.{IsEnded};
 ghost use Rattle.search_tables.specs.SearchTables.{machines};
 ghost use Rattle.search.specs.SearchOutcomes.{IsSearchOutcome, ClosesOrMeetsLimit};
 
-use cert_machine_pairs::covers::cover_of;
+use cert_model::covers::cover_of;
 use cert_model::kept::certificates_are_normal;
 use fs_ast::machine::Machine;
 use fs_cut::cover::Cover;

@@ -17,7 +17,7 @@ use Rattle.nf_rel.specs.Literals.{is_refuted}
 use Rattle.sym_paths.specs.Execution.{Post, end_of}
 use Rattle.propagate.specs.Modes.{Traced, Found, WideAt, LargeAt}
 use Rattle.cert_model.specs.Obligations.{same_alone}
-use Rattle.search_ranks.specs.Walks.{InRange, lists_in}
+use Rattle.search_tables.specs.Walks.{InRange, lists_in}
 use Rattle.search_tables.specs.declared.nodes.TableNode.{TableNode}
 use Rattle.search_tables.specs.View.{table_in, table_node_in}
 use Rattle.search_tables.specs.SearchTables.{MachinePair, SearchNode, Table, Target, Unknown, Known, node_target, PathPair, arrival}

@@ -16,8 +16,8 @@ use Rattle.search_tables.specs.declared.nodes.TableNode.{TableNode}
 use Rattle.search_tables.specs.View.{table_in, table_node_in}
 use Rattle.search_tables.specs.SearchTables.{SearchNode, Table, Unknown, Known, is_at, target_from}
 use Rattle.search_tables.specs.TableInvariants.{nodes_differ}
-use Rattle.cert_machine_pairs.specs.PointKeys.{key_of}
-use Rattle.cert_machine_pairs.proofs.SameKeys.{same_numbers, same_key}
+use Rattle.cert_model.specs.PointKeys.{key_of}
+use Rattle.cert_model.proofs.SameKeys.{same_numbers, same_key}
 use Rattle.search_closing.specs.NodePlaces.{keys_in, NodeStandsAt}
 
 abbrev key_at : SearchNode → ℕ × ℕ

@@ -8,10 +8,10 @@ use Rattle.nf_terms.specs.declared.stop.NoMemory.{NoMemory}
 use Rattle.sym_facts.specs.Facts.{Fact}
 use Rattle.propagate.specs.Modes.{Traced, Found}
 use Rattle.cert_model.specs.View.{node_of}
-use Rattle.search_ranks.specs.Graphs.{IsCycle, BeginsLeast, AreRanks}
-use Rattle.search_ranks.specs.Walks.{IsRanking}
-use Rattle.search_ranks.specs.declared.ranking.Ranking.{Ranking}
-use Rattle.search_ranks.specs.declared.ranking.Ranking.TheVariants as rankings
+use Rattle.search_tables.specs.Graphs.{IsCycle, BeginsLeast, AreRanks}
+use Rattle.search_tables.specs.Walks.{IsRanking}
+use Rattle.search_tables.specs.declared.ranking.Ranking.{Ranking}
+use Rattle.search_tables.specs.declared.ranking.Ranking.TheVariants as rankings
 use Rattle.search_tables.specs.SearchTables.{MachinePair, Table}
 use Rattle.search_tables.specs.Next.{mode_at}
 use Rattle.search_tables.specs.LoneMoves.{lone_moves, Spins}

@@ -7,7 +7,7 @@ use Rattle.cert_bisimulation.specs.declared.mode.Mode.TheVariants.{Both, Left, R
 use Rattle.fs_model.specs.declared.sides.Side.{Side}
 use Rattle.propagate.specs.Modes.{Found}
 use Rattle.cert_model.specs.Obligations.{same_alone}
-use Rattle.search_ranks.specs.Graphs.{first_or, Follow, IsCycle, BeginsLeast}
+use Rattle.search_tables.specs.Graphs.{first_or, Follow, IsCycle, BeginsLeast}
 use Rattle.search_tables.specs.SearchTables.{MachinePair, Table}
 use Rattle.search_tables.specs.Next.{mode_at}
 use Rattle.search_tables.specs.LoneMoves.{lone_moves, lone_mode, MovesAlone, Spins}

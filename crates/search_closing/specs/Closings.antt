@@ -5,9 +5,9 @@ use Rattle.cert_bisimulation.specs.Tables.{Node as CertificateNode}
 use Rattle.sym_facts.specs.Facts.{Fact}
 use Rattle.cert_model.specs.Lawful.{most_rank}
 use Rattle.cert_model.specs.View.{node_of}
-use Rattle.search_ranks.specs.Graphs.{AreRanks}
-use Rattle.search_ranks.specs.declared.ranking.Ranking.{Ranking}
-use Rattle.search_ranks.specs.declared.ranking.Ranking.TheVariants as rankings
+use Rattle.search_tables.specs.Graphs.{AreRanks}
+use Rattle.search_tables.specs.declared.ranking.Ranking.{Ranking}
+use Rattle.search_tables.specs.declared.ranking.Ranking.TheVariants as rankings
 use Rattle.search_tables.specs.SearchTables.{MachinePair, Table}
 use Rattle.search_tables.specs.LoneMoves.{lone_moves, Spins}
 use Rattle.search_tables.specs.Certifying.{node_without_mode, Certifies}

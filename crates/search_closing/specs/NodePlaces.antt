@@ -1,7 +1,7 @@
 -- Where nodes stand in a table, by their points.
 use Rattle.std.specs.Prelude.{◌≡◌, ℕ, List, map, Option, Some, None, slice_get}
 use Rattle.fs_cut.specs.Paths.{Point}
-use Rattle.cert_machine_pairs.specs.PointKeys.{key_of}
+use Rattle.cert_model.specs.PointKeys.{key_of}
 use Rattle.search_tables.specs.SearchTables.{SearchNode, Table, Unknown, Known, node_target}
 
 -- the keys of the nodes of a table, in order

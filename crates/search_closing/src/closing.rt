@@ -5,7 +5,7 @@ ghost use Rattle.fs_cut.specs.Covers.{cover_of};
 ghost use Rattle.search_tables.specs.Next.{IsClosed};
 ghost use Rattle.search_tables.specs.TableInvariants.{IsWellFormed};
 ghost use Rattle.search_tables.specs.View.{table_in};
-ghost use Rattle.search_ranks.specs.Walks.{lists_in, InRange, IsRanking};
+ghost use Rattle.search_tables.specs.Walks.{lists_in, InRange, IsRanking};
 ghost use Rattle.search_tables.specs.LoneMoves.{lone_moves as graph_of};
 ghost use Rattle.search_closing.specs.Closings.{GivesClosing, HasCount, ClosesBy};
 ghost use Rattle.search_closing.specs.ClosedModes.{AreModes};
@@ -23,9 +23,9 @@ use fs_ast::machine::Machine;
 use fs_cut::cover::Cover;
 use nf_terms::stop::NoMemory;
 use nf_terms::tree::Side;
-use search_ranks::ranking::Ranking;
-use search_ranks::walk::rank_all;
 use search_tables::nodes::TableNode;
+use search_tables::ranking::Ranking;
+use search_tables::walk::rank_all;
 use std::alloc::Global;
 
 /// What a closed table gives.

@@ -7,7 +7,7 @@ ghost use Rattle.search_tables.specs.TableInvariants.{nodes_differ};
 ghost use Rattle.search_tables.specs.View.{table_in};
 ghost use Rattle.search_closing.specs.NodePlaces.{keys_in, NodeStandsAt};
 
-use cert_machine_pairs::keys::key_of;
+use cert_model::keys::key_of;
 use fs_cut::cover::Point;
 use indexmap::IndexSet;
 use nf_terms::stop::NoMemory;

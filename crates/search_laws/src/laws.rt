@@ -6,14 +6,14 @@ ghost use Rattle.fs_model.specs.Machines.{Fsmd};
 ghost use Rattle.cert_bisimulation.specs.Tables.{Node};
 ghost use Rattle.sym_facts.specs.Facts.{Fact};
 ghost use Rattle.cert_model.specs.Lawful.{IsLawful};
-ghost use Rattle.cert_laws.specs.CertificateLimits.{most_certificate_bytes};
-ghost use Rattle.cert_laws.specs.WrittenCertificates.{certificate_text};
-ghost use Rattle.cert_laws.specs.Refusals.{SpellsNodes};
+ghost use Rattle.search_laws.specs.CertificateLimits.{most_certificate_bytes};
+ghost use Rattle.search_laws.specs.WrittenCertificates.{certificate_text};
+ghost use Rattle.search_laws.specs.Refusals.{SpellsNodes};
 ghost use Rattle.search_tables.specs.SearchTables.{machines};
 ghost use Rattle.search.specs.SearchOutcomes.{IsClosedWith};
 ghost use Rattle.search_laws.specs.Certificates.{IsCertificate};
 
-use cert_laws::laws::{texts_of_certificates_are_files, written_certificates_are_read};
+use crate::certificate_laws::{texts_of_certificates_are_files, written_certificates_are_read};
 
 /// The text of a certificate that holds has at most 268,435,456 bytes: it has at most 4,096 nodes and 4,000,000 units, and a node
 /// at most 256 equations.

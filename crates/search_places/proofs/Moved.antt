@@ -15,7 +15,7 @@ use Rattle.cert_bisimulation.specs.declared.mode.Mode.TheVariants.{Both, Left, R
 use Rattle.search_tables.specs.SearchTables.{MachinePair, SearchNode, PathPair}
 use Rattle.search_tables.specs.Next.{paths_in, move_by}
 use Rattle.search_tables.proofs.Lists.{all_in, all_from, all_flat}
-use Rattle.search_ranks.proofs.Lists.{get_map_back}
+use Rattle.search_tables.proofs.RankLists.{get_map_back}
 use Rattle.search_places.specs.Moves.{most_moves, move, rights_beside, lefts_alone, pairs, moves_in_mode, paths_at}
 
 -- ---- each path of a point stands at the place of its branch

@@ -10,7 +10,7 @@ use Rattle.fs_model.proofs.Orderings.{is_eq-true}
 use Rattle.search_places.specs.declared.entry.Item.{Item}
 use Rattle.search_places.specs.NodeLines.{item}
 use Rattle.search_places.specs.ItemOrder.{item_cmp, IsLeastWaiting, Adds, Drops, AddsMoves}
-use Rattle.search_ranks.proofs.Lists.{same_or_not}
+use Rattle.search_tables.proofs.RankLists.{same_or_not}
 
 cmp_greater : (x y : ℕ) → y < x → nat_cmp x y ≡ Greater
 cmp_greater x y h = grind (arith, nat_tests)

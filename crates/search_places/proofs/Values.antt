@@ -7,7 +7,7 @@ use Rattle.indexmap.specs.IndexMap.{set_value_at}
 use Rattle.search_places.specs.declared.pairs.PointPair.{PointPair}
 use Rattle.search_places.specs.declared.entry.Entry.{Entry}
 use Rattle.search_places.specs.NodeLines.{record_of_node, node_records}
-use Rattle.search_ranks.proofs.Lists.{get_map_back}
+use Rattle.search_tables.proofs.RankLists.{get_map_back}
 
 set_is : (es : List (PointPair × Entry)) (k : ℕ) (e : PointPair × Entry) (v : Entry) → slice_get es k ≡ Some e → set_value_at es k v ≡ slice_set es k (e.0, v)
 set_is [] k e v g = cc

@@ -4,7 +4,7 @@ ghost use Rattle.std.specs.Prelude.{◌≡◌};
 ghost use Rattle.fs_cut.specs.Covers.{same_point as same};
 ghost use Rattle.fs_cut.specs.View.{point_of};
 
-use cert_machine_pairs::keys::number_of;
+use cert_model::keys::number_of;
 use fs_cut::cover::Point;
 use std::hash::{Hash, Hasher};
 
@@ -51,7 +51,7 @@ impl Hash for PointPair {
     ghost use Rattle.std.specs.Hash as fed;
     ghost use Rattle.std.specs.Prelude.{◌++◌};
     ghost use Rattle.fs_cut.specs.View.{point_of};
-    ghost use Rattle.cert_machine_pairs.specs.PointKeys.{point_number as number};
+    ghost use Rattle.cert_model.specs.PointKeys.{point_number as number};
     ghost use Rattle.search_places.specs.Pairs.{pairs_alike};
 
     ghost hash_input = { λ p. fed.u64 (number (point_of p.left)) ++ fed.u64 (number (point_of p.right)) };

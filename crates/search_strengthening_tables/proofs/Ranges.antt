@@ -2,7 +2,7 @@
 use Rattle.std.proofs.Common.{◌≡◌, ℕ, zero, suc, ◌≤◌, Bool, true, ◌&&◌, List, [], ◌∷◌, length, Some, nat_lt, nat_le, sym, subst, ◌∙◌, arith, rules}
 use Rattle.std.specs.Prelude.{slice_get, IsTrue}
 use Rattle.std.specs.List.{list_all}
-use Rattle.search_ranks.specs.Walks.{InRange}
+use Rattle.search_tables.specs.Walks.{InRange}
 use Rattle.search_strengthening_tables.specs.Edges.{are_edges}
 
 -- what all members pass, the one at a place passes

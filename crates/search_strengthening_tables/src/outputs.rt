@@ -5,7 +5,7 @@ ghost use Rattle.fs_model.specs.Limits.{most_variables};
 
 use crate::nodes::SearchNode;
 use crate::sides::Sides;
-use cert_machine_pairs::outputs::{is_output, number_of, same_forms};
+use cert_model::outputs::{is_output, number_of, same_forms};
 use fs_cut::cover::Point;
 use fs_model::parts::VarInfo;
 use nf_substitution::vector::Vector;

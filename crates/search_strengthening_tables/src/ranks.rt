@@ -2,14 +2,14 @@
 
 ghost use Rattle.std.specs.Prelude.{◌≡◌, nat_lt, IsTrue};
 ghost use Rattle.std.specs.List.{list_all};
-ghost use Rattle.search_ranks.specs.Walks.{lists_in, InRange};
+ghost use Rattle.search_tables.specs.Walks.{lists_in, InRange};
 ghost use Rattle.search_strengthening_tables.specs.Edges.{are_edges};
 
 use crate::nodes::{SearchNode, Settled, find_version};
 use cert_bisimulation::mode::Mode;
 use nf_terms::stop::NoMemory;
-use search_ranks::ranking::Ranking;
-use search_ranks::walk::rank_all;
+use search_tables::ranking::Ranking;
+use search_tables::walk::rank_all;
 use std::alloc::Global;
 
 // Whether one machine moves alone in a mode.

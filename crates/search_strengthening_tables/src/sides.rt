@@ -1,6 +1,6 @@
 //! Two machines as a search sees them.
 
-use cert_machine_pairs::covers::cover_of;
+use cert_model::covers::cover_of;
 use fs_ast::machine::Machine;
 use fs_cut::cover::Cover;
 use fs_pair::positions::Pairing;

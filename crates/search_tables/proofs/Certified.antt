@@ -22,7 +22,7 @@ use Rattle.propagate.specs.Modes.{Found}
 use Rattle.cert_model.specs.declared.reason.Reason.TheVariants as reason
 use Rattle.cert_model.specs.Obligations.{Judged, node_at, first_missing, start_reaches, judge_move, mode_fits, same_forms, judge_output, moves_by, owed_by}
 use Rattle.cert_model.specs.Obligations.{obligations, Yes, verdict_by, verdict_from, verdict}
-use Rattle.search_ranks.specs.Graphs.{above, AreRanks}
+use Rattle.search_tables.specs.Graphs.{above, AreRanks}
 use Rattle.search_tables.specs.declared.moves.Move.{Move}
 use Rattle.search_tables.specs.SearchTables.{MachinePair, positions_of, SearchNode, Table, is_at, start_node, Keeps, effect}
 use Rattle.search_tables.specs.Next.{mode_at, paths_in, Nothing, next_move}

@@ -12,8 +12,8 @@ use Rattle.propagate.specs.Execution.{Post, arrive, end_of}
 use Rattle.sym_facts.specs.Facts.{Fact, vector_of}
 use Rattle.propagate.specs.Modes.{Traced, Found, WideAt, LargeAt}
 use Rattle.cert_model.specs.Obligations.{same_alone}
-use Rattle.search_ranks.specs.Graphs.{LongestChain, AreRanks}
-use Rattle.search_ranks.proofs.Longest.{longest_chain}
+use Rattle.search_tables.specs.Graphs.{LongestChain, AreRanks}
+use Rattle.search_tables.proofs.Longest.{longest_chain}
 use Rattle.search_tables.specs.SearchTables.{MachinePair, SearchNode, Table, Target, Unknown, Known, node_target, PathPair}
 use Rattle.search_tables.specs.Next.{mode_at, paths_in}
 use Rattle.search_tables.specs.LoneMoves.{moves_alone, if_alone, lone_target, lone_targets, lone_in, lone_from, lone_moves}

@@ -1,7 +1,7 @@
 -- A legal list of moves that ends has no other beside it.
 use Rattle.std.proofs.Common.{◌≡◌, ℕ, refl, ap₂, sym, subst, ◌∙◌, List, [], ◌∷◌, None}
-use Rattle.search_ranks.specs.Graphs.{AreRanks}
-use Rattle.search_ranks.proofs.Falls.{no_cycle}
+use Rattle.search_tables.specs.Graphs.{AreRanks}
+use Rattle.search_tables.proofs.Falls.{no_cycle}
 use Rattle.search_tables.specs.declared.moves.Move.{Move}
 use Rattle.search_tables.specs.SearchTables.{MachinePair, Table, first_table}
 use Rattle.search_tables.specs.Next.{Change, next_move, IsClosed}

@@ -18,7 +18,7 @@ use Rattle.sym_facts.specs.Facts.{Fact, vector_of}
 use Rattle.sym_facts.specs.Entailment.{Missing, entails, is_nothing}
 use Rattle.propagate.specs.Modes.{Found}
 use Rattle.cert_model.specs.Obligations.{Judged, node_at, first_missing, same_alone, rank_falls, reaches, judge_move}
-use Rattle.search_ranks.specs.Graphs.{above}
+use Rattle.search_tables.specs.Graphs.{above}
 use Rattle.search_tables.specs.SearchTables.{MachinePair, positions_of, SearchNode, Table, Known, node_target, Keeps, PathPair, effect}
 use Rattle.search_tables.specs.Next.{mode_at}
 use Rattle.search_tables.specs.LoneMoves.{moves_alone, if_alone, lone_target, lone_targets}

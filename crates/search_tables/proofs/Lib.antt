@@ -1,3 +1,11 @@
+pub mod RankLists
+pub mod Marking
+pub mod Stacks
+pub mod Steps
+pub mod Roots
+pub mod Falls
+pub mod Longest
+pub mod WayBack
 pub mod Lists
 pub mod Targets
 pub mod Prefixes

@@ -1,3 +1,6 @@
+pub mod Graphs
+pub mod Walks
+pub mod Ways
 pub mod SearchTables
 pub mod Next
 pub mod Legal

@@ -12,7 +12,7 @@ use Rattle.propagate.specs.Execution.{Post, arrive, end_of}
 use Rattle.sym_facts.specs.Facts.{vector_of}
 use Rattle.propagate.specs.Modes.{Traced, Found, WideAt, LargeAt}
 use Rattle.cert_model.specs.Obligations.{same_alone}
-use Rattle.search_ranks.specs.Graphs.{IsCycle, BeginsLeast}
+use Rattle.search_tables.specs.Graphs.{IsCycle, BeginsLeast}
 use Rattle.search_tables.specs.SearchTables.{MachinePair, SearchNode, Table, Target, Unknown, Known, node_target, PathPair}
 use Rattle.search_tables.specs.Next.{mode_at, paths_in}
 

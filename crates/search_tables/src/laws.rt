@@ -15,7 +15,7 @@ ghost use Rattle.sym_facts.specs.Pairings.{IsFactOf};
 ghost use Rattle.sym_facts.specs.Starts.{start_fact};
 ghost use Rattle.cert_model.specs.Lawful.{IsLawful, most_nodes, most_rank};
 ghost use Rattle.cert_model.specs.Obligations.{Yes, verdict};
-ghost use Rattle.search_ranks.specs.Graphs.{LongestChain, AreRanks};
+ghost use Rattle.search_tables.specs.Graphs.{LongestChain, AreRanks};
 ghost use Rattle.search_tables.specs.declared.moves.Move.{Move as PlainMove};
 ghost use Rattle.search_tables.specs.SearchTables.{MachinePair, Table, positions_of};
 ghost use Rattle.search_tables.specs.Next.{IsClosed};

@@ -1,12 +1,15 @@
 //! The table of a search for a certificate: what a move does to it, what is next, legal lists of moves, the certificate of a
-//! closed table, and obstacles.
+//! closed table, and obstacles. Ranks of the nodes of a graph.
 //!
-//! Promises: what is next in a table, legal lists, obstacles; a closed table's certificate meets all obligations.
+//! Promises: what is next in a table, legal lists, obstacles; a closed table's certificate meets all obligations;
+//! `rank_all`: the lengths of the longest chains of a graph, or the cycle of it that begins at the least node on any.
 //!
-//! Rules: `specs/SearchTables`, `specs/Next`, `specs/Legal`, `specs/Obstacles`, `src/laws`.
+//! Rules: `specs/SearchTables`, `specs/Next`, `specs/Legal`, `specs/Obstacles`, `src/laws`, `specs/Graphs`,
+//! `src/rank_laws`.
 //!
 //! Words:
 //! - budget: the most nodes and units of a table
+//! - chain (of a graph): nodes along its edges; the longest from a node gives its rank
 //! - closed (of a table): nothing is next
 //! - effect (of a move): what it does to a table
 //! - legal list: moves of which each is next and changes the table
@@ -20,6 +23,12 @@
 #![tactic(auto)]
 
 pub mod laws;
+pub(crate) mod least;
+pub(crate) mod marks;
+pub mod memory;
 pub mod moves;
 pub mod nodes;
 pub mod outcome;
+pub mod rank_laws;
+pub mod ranking;
+pub mod walk;

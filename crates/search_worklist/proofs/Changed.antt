@@ -15,7 +15,7 @@ use Rattle.search_places.specs.declared.entry.Entry.{Entry}
 use Rattle.search_places.specs.NodeLines.{NodeRecord, node_with_fact, item, node_records, table_of}
 use Rattle.search_places.specs.NodeChanges.{fresh, PutsLast, PutsAgain, PutsNode}
 use Rattle.search_places.specs.ItemOrder.{item_cmp, waits, Adds, AddsAll}
-use Rattle.search_ranks.proofs.Lists.{get_snoc, set_same, set_other, same_or_not}
+use Rattle.search_tables.proofs.RankLists.{get_snoc, set_same, set_other, same_or_not}
 use Rattle.search_worklist.specs.NodeUpdates.{put_by, put_fact, number_by, node_number}
 use Rattle.search_worklist.specs.Waiting.{Arrives}
 use Rattle.search_worklist.specs.States.{Ready}

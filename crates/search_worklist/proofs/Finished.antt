@@ -17,7 +17,7 @@ use Rattle.search_places.specs.declared.entry.Item.{Item}
 use Rattle.search_places.specs.NodeLines.{NodeRecord, item, record_of_node, table_of}
 use Rattle.search_places.specs.NodeChanges.{ListsArrival}
 use Rattle.search_places.specs.ItemOrder.{waits, IsLeastWaiting, Drops}
-use Rattle.search_ranks.proofs.Lists.{get_snoc, get_map_back, set_same, set_other, same_or_not}
+use Rattle.search_tables.proofs.RankLists.{get_snoc, get_map_back, set_same, set_other, same_or_not}
 use Rattle.search_worklist.specs.declared.state.State.{State}
 use Rattle.search_worklist.specs.declared.trial.Trial.{Trial}
 use Rattle.search_worklist.specs.declared.trial.Trial.TheVariants as tried

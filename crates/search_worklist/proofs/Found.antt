@@ -15,7 +15,7 @@ use Rattle.search_places.specs.declared.entry.Item.{Item}
 use Rattle.search_places.specs.NodeLines.{NodeRecord, item, table_of}
 use Rattle.search_places.specs.NodeChanges.{SetsMoves}
 use Rattle.search_places.specs.ItemOrder.{waits, AddsMoves, Drops}
-use Rattle.search_ranks.proofs.Lists.{set_same, set_other, same_or_not}
+use Rattle.search_tables.proofs.RankLists.{set_same, set_other, same_or_not}
 use Rattle.search_worklist.specs.declared.state.State.{State}
 use Rattle.search_places.specs.Moves.{most_moves}
 use Rattle.search_worklist.specs.Turns.{IsTurned}

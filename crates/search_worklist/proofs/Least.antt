@@ -18,7 +18,7 @@ use Rattle.search_tables.specs.Next.{Next, Nothing, mode_at, paths_in, move_by, 
 use Rattle.search_places.specs.declared.entry.Item.{Item}
 use Rattle.search_places.specs.NodeLines.{NodeRecord, item, table_of}
 use Rattle.search_places.specs.ItemOrder.{IsLeastWaiting}
-use Rattle.search_ranks.proofs.Lists.{get_map_back}
+use Rattle.search_tables.proofs.RankLists.{get_map_back}
 use Rattle.search_worklist.specs.Waiting.{IsEntailed, IsSettledMove, IsWaiting}
 
 -- a post that entails the fact of its target keeps the table

@@ -13,7 +13,7 @@ ghost use Rattle.search_worklist.specs.DifferingOutputs.{OutputAt};
 ghost use Rattle.search_worklist.specs.View.{machines_in};
 
 use crate::sides::Sides;
-use cert_machine_pairs::outputs::{is_output, number_of, same_forms};
+use cert_model::outputs::{is_output, number_of, same_forms};
 use fs_cut::cover::Point;
 use fs_model::parts::VarInfo;
 use indexmap::IndexMap;

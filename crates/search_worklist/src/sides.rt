@@ -7,7 +7,7 @@ ghost use Rattle.fs_cut.specs.Covers.{cover_of, paths_of};
 ghost use Rattle.fs_cut.specs.View.{point_of, path_of};
 ghost use Rattle.fs_pair.specs.Positions.{positions};
 
-use cert_machine_pairs::covers::paths;
+use cert_model::covers::paths;
 use fs_ast::machine::Machine;
 use fs_cut::cover::{Cover, Path, Point};
 use fs_pair::positions::Pairing;

@@ -12,7 +12,7 @@ ghost use Rattle.show_move_lines.specs.View.{side_machines, position_name_in};
 use crate::lines::{write_node, write_turn};
 use crate::sides::Sides;
 use crate::turns::{make_turn, turn};
-use cert_machine_pairs::covers::cover_of;
+use cert_model::covers::cover_of;
 use fs_ast::machine::Machine;
 use fs_cut::cover::{Cover, Point};
 use fs_pair::positions::Pairing;

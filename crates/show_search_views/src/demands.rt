@@ -10,8 +10,8 @@ ghost use Rattle.show_search_views.specs.Demands.{start_demand, mode_demand, dem
 use crate::modes::mode_text;
 use crate::move_demands::{push_both, push_lefts, push_outputs, push_rights};
 use cert_bisimulation::mode::Mode;
-use cert_machine_pairs::covers::cover_of;
 use cert_model::cert::Node;
+use cert_model::covers::cover_of;
 use fs_ast::machine::Machine;
 use fs_cut::cover::{Cover, Point};
 use nf_terms::stop::NoMemory;

@@ -13,7 +13,7 @@ ghost use Rattle.show_search_views.specs.SearchPictures.{table_node_lines, searc
 use crate::edges::draw_moves;
 use crate::marks::marks_of;
 use crate::table_nodes::write_table_nodes;
-use cert_machine_pairs::covers::cover_of;
+use cert_model::covers::cover_of;
 use fs_ast::machine::Machine;
 use fs_cut::cover::Cover;
 use fs_pair::positions::Pairing;

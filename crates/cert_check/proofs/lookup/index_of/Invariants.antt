@@ -1,7 +1,7 @@
 use Rattle.std.proofs.Common.{◌≡◌, ◌++◌, map, drop}
 use Rattle.fs_cut.specs.View.{point_of}
 use Rattle.cert_model.specs.View.{node_of}
-use Rattle.cert_machine_pairs.specs.PointKeys.{key_of}
+use Rattle.cert_model.specs.PointKeys.{key_of}
 use Rattle.cert_check.proofs.lookup.index_of.Given as goal
 
 abbrev pub invariant-loop-node : goal.invariant-loop-node

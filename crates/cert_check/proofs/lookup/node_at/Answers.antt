@@ -2,7 +2,7 @@ use Rattle.std.proofs.Common.{ap, ◌∙◌}
 use Rattle.std.specs.Map.{lookup}
 use Rattle.fs_cut.specs.View.{point_of}
 use Rattle.cert_model.specs.View.{node_of}
-use Rattle.cert_machine_pairs.proofs.SameKeys.{same_key}
+use Rattle.cert_model.proofs.SameKeys.{same_key}
 use Rattle.cert_check.proofs.Keyed.{stands}
 use Rattle.cert_check.proofs.lookup.node_at.Goals as goal
 

@@ -1,7 +1,7 @@
 use Rattle.std.proofs.Common.{ap, ◌∙◌}
 use Rattle.indexmap.specs.IndexMap.{insert_entry}
 use Rattle.cert_model.specs.View.{node_of}
-use Rattle.cert_machine_pairs.proofs.SameKeys.{same_key}
+use Rattle.cert_model.proofs.SameKeys.{same_key}
 use Rattle.cert_check.proofs.Keyed.{added}
 use Rattle.cert_check.proofs.lookup.put.Goals as goal
 

@@ -1,7 +1,7 @@
 use Rattle.std.proofs.Common.{◌≡◌, ℕ, ◌<◌, ◌++◌, map}
 use Rattle.std.specs.List.{All}
 use Rattle.fs_model.specs.Source.{Source}
-use Rattle.hls_line_machines.specs.RowMachines.{moves}
+use Rattle.hls_line_schedules.specs.RowMachines.{moves}
 use Rattle.hls_line_filling.specs.Plans.{filled_in}
 use Rattle.hls_line_schedules.specs.SourceRows.{placed_in_line, rows_in_line}
 use Rattle.hls_sched.specs.RowMoves.{move_of, IsMoveAmong}

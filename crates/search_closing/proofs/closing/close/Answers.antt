@@ -1,6 +1,6 @@
 use Rattle.std.proofs.Common.{◌≡◌, ap, sym, subst, ◌∙◌, length, IfOk}
 use Rattle.std.proofs.lemmas.List.{length-map}
-use Rattle.search_ranks.specs.Walks.{lists_in}
+use Rattle.search_tables.specs.Walks.{lists_in}
 use Rattle.search_tables.specs.LoneMoves.{lone_moves}
 use Rattle.search_tables.specs.View.{table_in, table_node_in}
 use Rattle.search_closing.specs.Closings.{GivesClosing}

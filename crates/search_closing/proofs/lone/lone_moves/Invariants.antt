@@ -1,5 +1,5 @@
 use Rattle.std.proofs.Common.{◌≡◌, ◌++◌, drop}
-use Rattle.search_ranks.specs.Walks.{lists_in}
+use Rattle.search_tables.specs.Walks.{lists_in}
 use Rattle.search_tables.specs.LoneMoves.{lone_from, lone_moves}
 use Rattle.search_tables.specs.View.{table_in}
 use Rattle.search_closing.specs.LoneSideMoves.{AreShort}

@@ -1,5 +1,5 @@
 use Rattle.std.proofs.Common.{◌≡◌, drop}
-use Rattle.search_ranks.specs.Walks.{lists_in}
+use Rattle.search_tables.specs.Walks.{lists_in}
 use Rattle.search_strengthening_tables.specs.Edges.{are_edges}
 use Rattle.search_strengthening_tables.proofs.ranks.are_edges.Given as goal
 

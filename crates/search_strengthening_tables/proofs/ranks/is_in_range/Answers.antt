@@ -1,6 +1,6 @@
 use Rattle.std.proofs.Common.{ℕ, Vec, Global, length, arith}
 use Rattle.std.proofs.lemmas.List.{length-map}
-use Rattle.search_ranks.specs.Walks.{lists_in}
+use Rattle.search_tables.specs.Walks.{lists_in}
 use Rattle.search_strengthening_tables.proofs.Ranges.{in_range_by}
 use Rattle.search_strengthening_tables.proofs.ranks.is_in_range.Goals as goal
 

@@ -1,4 +1,0 @@
-pub mod PathExpressions
-pub mod ExpressionSameness
-pub mod Alike
-pub mod ExpressionValues

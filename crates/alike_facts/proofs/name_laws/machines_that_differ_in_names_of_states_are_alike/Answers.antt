@@ -1,5 +1,0 @@
-use Rattle.alike_facts.proofs.Names.{alike}
-use Rattle.alike_facts.proofs.name_laws.machines_that_differ_in_names_of_states_are_alike.Goals as goal
-
-pub returns : goal.returns
-returns c = alike

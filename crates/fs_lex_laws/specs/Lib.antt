@@ -1,2 +1,0 @@
-pub mod Vocabulary
-pub mod Tokenization

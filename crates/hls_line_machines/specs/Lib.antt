@@ -1,4 +1,0 @@
-pub mod StraightLines
-pub mod RowMachines
-pub mod MachineSelections
-pub mod ScheduledMachines

@@ -1,5 +1,0 @@
-use Rattle.search_ranks.proofs.Longest.{longest_chain}
-use Rattle.search_ranks.proofs.laws.ranks_are_lengths_of_longest_chains.Goals as goal
-
-pub returns : goal.returns
-returns c = longest_chain
