@@ -1,14 +1,14 @@
 //! The fact that is made of claims.
 
-use crate::equating::equate;
 use crate::literals::literals_over;
-use crate::settling::settle;
-use crate::solution::{Solution, position_value};
 use fs_pair::positions::{Pairing, Position};
 use nf_terms::form::Nf;
 use nf_terms::stop::NoMemory;
 use search_strengthening_claims::claims::Claims;
 use search_strengthening_claims::tested_facts::tested_fact;
+use search_strengthening_solutions::equating::equate;
+use search_strengthening_solutions::settling::settle;
+use search_strengthening_solutions::solution::{Solution, position_value};
 use search_strengthening_terms::stop::Stop;
 use search_strengthening_terms::universe::Universe;
 use search_strengthening_terms::work::Work;

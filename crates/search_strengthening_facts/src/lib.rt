@@ -1,16 +1,7 @@
-//! The fact that is made of claims, and values of positions, over those that are free, that make terms equal which claims
-//! hold equal.
+//! The fact that is made of claims.
 //!
-//! Promises: `fact_of`, `settle`, `equate`: calls are safe and end, and no more is promised.
-//!
-//! Words:
-//! - settle: to give the positions of each class one value
-//! - equate: to give the terms of each class one value
+//! Promises: `fact_of`: calls are safe and end, and no more is promised.
 #![tactic(auto)]
 
-pub mod equating;
 pub mod facts;
 mod literals;
-pub mod settling;
-pub mod solution;
-mod solving;
