@@ -13,7 +13,7 @@ use serde_json::Value;
 use std::alloc::Global;
 
 /// Why the bytes of a file have no JSON value.
-#[derive(Clone, Copy, Debug)]
+#[derive(Clone, Copy)]
 pub enum JsonError {
     /// The bytes are not text, or not JSON.
     NotJson,

@@ -1,7 +1,7 @@
 //! Why the bytes of a certificate are refused before its nodes are looked at.
 
 /// Why the bytes of a certificate are refused before its nodes are looked at.
-#[derive(Clone, Copy, Debug)]
+#[derive(Clone, Copy)]
 pub enum FileError {
     /// The bytes are not text, or not JSON.
     NotJson,

@@ -3,7 +3,6 @@
 ghost use Rattle.std.specs.Prelude.{◌≡◌, true, false, option_map, map, IfOk};
 ghost use Rattle.std.specs.List.{list_any};
 ghost use Rattle.fs_cut.specs.Paths.{is_point};
-ghost use Rattle.fs_cut.specs.Covers.{same_point as same};
 ghost use Rattle.fs_cut.specs.View.{point_of};
 ghost use Rattle.cert_model.specs.View.{node_of};
 ghost use Rattle.cert_text.specs.PartAnswers.{Tells};
@@ -18,6 +17,7 @@ use cert_model::cert::Node;
 use cert_terms::table::{NameTable, number_of};
 use fs_ast::machine::Machine;
 use fs_cut::cover::Point;
+use fs_cut::points::is_point;
 use fs_model::parts::StateId;
 
 // The point of a text, if there is one.
@@ -46,41 +46,15 @@ fn known_point(node: u32, states: &NameTable<'_>, text: &[u8]) -> Result<Point, 
     }
 }
 
-// Whether a machine's paths are cut at a point: at a state that is not the reset state and has more than one branch.
-fn is_cut(m: &Machine, point: Point) -> bool
-    ensures { result ≡ is_point m.now (point_of point) }
-{
-    match point {
-        Point::Start | Point::Done => true,
-        Point::At(state) => {
-            state.0 < m.state_count() && state.0 != m.reset().0 && m.branches(state).len() > 1
-        }
-    }
-}
-
 // Refuses a node at a state at which paths are not cut.
 fn cut_point(node: u32, m: &Machine, point: Point) -> Result<Point, Stop>
     ensures same { Tells point_of result (cut node m.now (point_of point)) }
     ensures point { IfOk result (λ P. is_point m.now (point_of point) ≡ true) }
 {
-    if is_cut(m, point) {
+    if is_point(m, point) {
         Ok(point)
     } else {
         Err(Stop::Refused(CertError::NotCutpoint { node }))
-    }
-}
-
-// Whether two points are one.
-fn same_point(left: Point, right: Point) -> bool
-    ensures { result ≡ same (point_of left) (point_of right) }
-{
-    match left {
-        Point::Start => matches!(right, Point::Start),
-        Point::At(state) => match right {
-            Point::At(other) => state.0 == other.0,
-            Point::Start | Point::Done => false,
-        },
-        Point::Done => matches!(right, Point::Done),
     }
 }
 
@@ -88,7 +62,7 @@ fn same_point(left: Point, right: Point) -> bool
 fn is_at(left: Point, right: Point, node: &Node) -> bool
     ensures { result ≡ stands_at (point_of left) (point_of right) (node_of node.now) }
 {
-    same_point(node.left, left) && same_point(node.right, right)
+    node.left.is_same(left) && node.right.is_same(right)
 }
 
 // Whether one of the nodes stands at two points.

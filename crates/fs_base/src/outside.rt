@@ -5,11 +5,11 @@ ghost use Rattle.std.specs.Result.{IfErr, OnErr};
 use std::alloc::Global;
 
 /// There is no memory.
-#[derive(Clone, Copy, PartialEq, Eq, Debug)]
+#[derive(Clone, Copy, PartialEq, Eq)]
 pub struct NoMemory;
 
 /// Why a file was not loaded.
-#[derive(Clone, Copy, Debug)]
+#[derive(Clone, Copy)]
 pub enum LoadError {
     /// The file could not be read, or there is none of that name.
     Failed,
@@ -20,7 +20,7 @@ pub enum LoadError {
 }
 
 /// Why a file was not stored.
-#[derive(Clone, Copy, PartialEq, Eq, Debug)]
+#[derive(Clone, Copy, PartialEq, Eq)]
 pub enum StoreError {
     /// The file could not be written.
     Failed,
@@ -29,7 +29,7 @@ pub enum StoreError {
 }
 
 /// The sink took nothing of a piece.
-#[derive(Clone, Copy, PartialEq, Eq, Debug)]
+#[derive(Clone, Copy, PartialEq, Eq)]
 pub struct SinkFailed;
 
 /// Files by name.

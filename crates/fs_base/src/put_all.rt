@@ -6,7 +6,7 @@ ghost use Rattle.fs_base.specs.Outside.{Rose, got_after, room_after, HasRoom};
 use crate::outside::Sink;
 
 /// The sink failed once it had taken the first `sent` bytes.
-#[derive(Clone, Copy, PartialEq, Eq, Debug)]
+#[derive(Clone, Copy, PartialEq, Eq)]
 pub struct PutError {
     /// How many bytes the sink took.
     pub sent: u64,

@@ -2,14 +2,15 @@
 //! IEEE TCAD 2008, and Banerjee and others, IEEE TCAD 2014).
 
 ghost use Rattle.std.specs.Prelude.{◌≡◌, map};
-ghost use Rattle.fs_cut.specs.Covers.{points_with_paths, paths_from};
+ghost use Rattle.fs_cut.specs.Covers.{points_with_paths, paths_from, same_point};
+ghost use Rattle.fs_cut.specs.Paths.{Done};
 ghost use Rattle.fs_cut.specs.View.{point_of, path_of, listed_paths, ListsPoints};
 
 use fs_model::parts::StateId;
 use std::marker::Model;
 
 /// Where runs are cut.
-#[derive(Clone, Copy, PartialEq, Eq)]
+#[derive(Clone, Copy)]
 pub enum Point {
     /// The reset state as a run begins.
     Start,
@@ -17,6 +18,29 @@ pub enum Point {
     At(StateId),
     /// The return to the reset state.
     Done,
+}
+
+impl Point {
+    /// Whether two points are the same. Takes no memory.
+    pub fn is_same(self, other: Point) -> bool
+        ensures { result ≡ same_point (point_of self) (point_of other) }
+    {
+        match self {
+            Point::Start => matches!(other, Point::Start),
+            Point::At(state) => match other {
+                Point::At(second) => state.0 == second.0,
+                Point::Start | Point::Done => false,
+            },
+            Point::Done => matches!(other, Point::Done),
+        }
+    }
+
+    /// Whether a run is over here. Takes no memory.
+    pub fn is_done(self) -> bool
+        ensures { result ≡ same_point (point_of self) Done }
+    {
+        matches!(self, Point::Done)
+    }
 }
 
 /// A path: one branch of the state of a point, and then states with one branch, up to the next point.

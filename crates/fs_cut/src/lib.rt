@@ -16,4 +16,5 @@ pub mod cover;
 pub mod laws;
 pub mod make_cover;
 pub mod memory;
+pub mod points;
 mod walk;

@@ -3,7 +3,7 @@
 use std::alloc::AllocFailed;
 
 /// Out of memory.
-#[derive(Clone, Copy, Debug)]
+#[derive(Clone, Copy)]
 pub struct NoMemory;
 
 impl<T: Drop> From<AllocFailed<T>> for NoMemory {

@@ -98,7 +98,7 @@ impl Model for Name {
 }
 
 /// Memory was refused.
-#[derive(Clone, Copy, Debug)]
+#[derive(Clone, Copy)]
 pub struct NoMemory;
 
 impl Name {

@@ -13,7 +13,7 @@ use std::rc::Rc;
 pub struct VarId(pub u32);
 
 /// The number of a state: its place among the states of its machine, from 0.
-#[derive(Clone, Copy, Debug, PartialEq, Eq)]
+#[derive(Clone, Copy, PartialEq, Eq)]
 pub struct StateId(pub u32);
 
 /// Whether a variable holds a number, a number at each index, or a list of emitted numbers.

@@ -1,7 +1,7 @@
 //! The rules that a machine keeps.
 
 /// A rule that the parts of a machine may break, in the order in which they are answered.
-#[derive(Clone, Copy, Debug, PartialEq, Eq)]
+#[derive(Clone, Copy, PartialEq, Eq)]
 pub enum CheckRule {
     TwiceNamed,
     UnknownName,
@@ -18,7 +18,7 @@ pub enum CheckRule {
 }
 
 /// A broken rule, and the line of the text where it is broken, from 1.
-#[derive(Clone, Copy, Debug)]
+#[derive(Clone, Copy)]
 pub struct CheckFault {
     pub rule: CheckRule,
     pub line: u32,

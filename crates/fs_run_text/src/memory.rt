@@ -1,7 +1,7 @@
 //! Memory, which may be refused.
 
 /// Out of memory.
-#[derive(Clone, Copy, Debug)]
+#[derive(Clone, Copy)]
 pub struct NoMemory;
 
 impl From<fs_runs::memory::NoMemory> for NoMemory {

@@ -25,7 +25,7 @@ pub struct Ended {
 }
 
 /// Why a run has no end.
-#[derive(Clone, Copy, Debug)]
+#[derive(Clone, Copy)]
 pub enum RunStop {
     /// Within so many steps it does not return to the reset state.
     StepsOver { limit: u64 },

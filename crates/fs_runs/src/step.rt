@@ -15,7 +15,7 @@ use fs_model::parts::StateId;
 use std::alloc::Global;
 
 /// Why a step is not taken.
-#[derive(Clone, Copy, Debug)]
+#[derive(Clone, Copy)]
 pub enum StepStop {
     /// A number that the step touches lies outside 128 bits.
     PastWide,

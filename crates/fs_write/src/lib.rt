@@ -30,7 +30,7 @@ use fs_model::parts::Parts;
 use std::alloc::Global;
 
 /// Out of memory.
-#[derive(Clone, Copy, Debug)]
+#[derive(Clone, Copy)]
 pub struct NoMemory;
 
 /// The canonical text of parts that a text can spell, in format 2 exactly where they declare ports or

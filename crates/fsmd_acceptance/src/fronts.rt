@@ -8,28 +8,28 @@ pub static TABLES: &str = r"# fronts that end too early
 # A front that ends behind a token or inside a name. A name that is cut short is a name as well.
 check a.fsmd b.fsmd¦<<0 to {1} of:fsmd 1; input a, b; output g; local x, y; reset s0;\nstate s0: goto s1: x = a, y = b;\nstate s1: when x == y goto s0: g = x; goto s2;\nstate s2: when x > y goto s3; goto s4;\nstate s3: goto s1: x = x - y;\nstate s4: goto s1: y = y - x;\n>>▸¦fsmd 1; input a, b; output g; local x, y; reset q0;\nstate q0: goto q1: x = a, y = b;\nstate q1: when x == y goto q0: g = x; goto q2;\nstate q2: when x > y goto q1: x = x - y; goto q1: y = y - x;\n¦¦bad input: a.fsmd:▸: Ended\n
 :
-⟪0 to 1:#
-⟫⟪4 to 9:#
-⟫⟪13 to 21:#
-⟫⟪26 to 31:#
-⟫⟪35 to 43:#
-⟫⟪47 to 51:#
-⟫⟪57 to 61:#
-⟫⟪66 to 84:#
-⟫⟪90 to 94:#
-⟫⟪99 to 103:#
-⟫⟪104 to 108:#
-⟫⟪111 to 122:#
-⟫⟪127 to 131:#
-⟫⟪137 to 141:#
-⟫⟪146 to 154:#
-⟫⟪157 to 161:#
-⟫⟪166 to 170:#
-⟫⟪176 to 180:#
-⟫⟪185 to 200:#
-⟫⟪206 to 210:#
-⟫⟪215 to 229:#
-⟫229
+(each 0 to 1:#
+each)(each 4 to 9:#
+each)(each 13 to 21:#
+each)(each 26 to 31:#
+each)(each 35 to 43:#
+each)(each 47 to 51:#
+each)(each 57 to 61:#
+each)(each 66 to 84:#
+each)(each 90 to 94:#
+each)(each 99 to 103:#
+each)(each 104 to 108:#
+each)(each 111 to 122:#
+each)(each 127 to 131:#
+each)(each 137 to 141:#
+each)(each 146 to 154:#
+each)(each 157 to 161:#
+each)(each 166 to 170:#
+each)(each 176 to 180:#
+each)(each 185 to 200:#
+each)(each 206 to 210:#
+each)(each 215 to 229:#
+each)229
 
 # fronts that end inside a reserved word
 # A reserved word that is cut short is a name, which can't follow where the whole word can in this text, and the first sign of

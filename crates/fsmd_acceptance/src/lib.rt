@@ -14,11 +14,11 @@
 //! that begins with `+`, if any, for `{A}`, `{B}`, `{C}`. The name of a text between braces is that text: `named` has them. `\n`,
 //! `\t` and `\r` are those bytes, `<<3 times:x>>` is xxx, and `<<2 to 4:x# x#+1, >>` is x2 x3, x3 x4, for each number and the
 //! next; round several of these stand `(*3 times:` and `*)`; and `<<2 to 4 of:text>>` is what stands in the text from byte 2 up
-//! to byte 4. `⟪2 to 4:#` and so on up to `⟫` is written out before a table is parted into rows. Where `▸` stands in `a.fsmd`
-//! is the place that `▸` in the reply means; it is no byte of the file. A reply, or what is stored, that ends with `…` may go
-//! on in any way. `text«piece»other` for `c.json` is the text with the other piece in place of the first one. Of words that
-//! ` && ` parts the last ones have the reply, over the files as the others left them. Where calls are to fail, one more call than
-//! those that the words made fails, too.
+//! to byte 4. `(each 2 to 4:#` and so on up to `each)` is written out before a table is parted into rows. Where `▸` stands in
+//! `a.fsmd` is the place that `▸` in the reply means; it is no byte of the file. A reply, or what is stored, that ends with `…`
+//! may go on in any way. `text«piece»other` for `c.json` is the text with the other piece in place of the first one. Of words
+//! that ` && ` parts the last ones have the reply, over the files as the others left them. Where calls are to fail, one more call
+//! than those that the words made fails, too.
 #![tactic(auto)]
 
 #[cfg(test)]

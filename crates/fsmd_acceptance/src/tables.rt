@@ -21,7 +21,7 @@ fn each_table(rt: &impl Abort, alloc: Global, text: &str) -> Result<(), AllocErr
 
 // The same of a text whose names stand for nothing more.
 fn each_named(rt: &impl Abort, alloc: Global, text: &str) -> Result<(), AllocError> {
-    let text = with_runs(alloc, text, "⟪", "⟫")?;
+    let text = with_runs(alloc, text, "(each ", "each)")?;
     each_written(rt, alloc, text.as_str())
 }
 

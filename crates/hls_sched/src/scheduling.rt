@@ -55,7 +55,7 @@ pub struct Scheduled {
 }
 
 /// Why a machine is not scheduled.
-#[derive(Clone, Copy, Debug)]
+#[derive(Clone, Copy)]
 pub enum SchedError {
     /// A transition of the state uses more of the unit than is given.
     Over { state: StateId, unit: Unit },

@@ -6,11 +6,11 @@ ghost use Rattle.nf_terms.specs.declared.stop.NfStop.TheVariants.{NoMemory as Ou
 use std::alloc::{AllocError, AllocFailed};
 
 /// Memory was refused.
-#[derive(Clone, Copy, Debug)]
+#[derive(Clone, Copy)]
 pub struct NoMemory;
 
 /// Why an operation on normal forms gives none.
-#[derive(Clone, Copy, Debug, PartialEq, Eq)]
+#[derive(Clone, Copy, PartialEq, Eq)]
 pub enum NfStop {
     /// The operation's weight is past 2^127 - 1: the weights of its two sides.
     Wide { left: u128, right: u128 },

@@ -3,7 +3,7 @@
 ghost use Rattle.std.specs.Prelude.{◌≡◌, ◌++◌, IsTrue, map, IfOk};
 ghost use Rattle.fs_cut.specs.Paths.{is_point};
 ghost use Rattle.fs_cut.specs.Paths as paths;
-ghost use Rattle.fs_cut.specs.Covers.{cover_of, same_point};
+ghost use Rattle.fs_cut.specs.Covers.{cover_of};
 ghost use Rattle.fs_cut.specs.View.{point_of, path_of};
 ghost use Rattle.nf_terms.specs.Computed.{Answers};
 ghost use Rattle.nf_rel.specs.Literals.{is_refuted as refuted};
@@ -123,13 +123,6 @@ fn mode_of_counts(left: usize, right: usize) -> Mode
     }
 }
 
-// Whether a point is the return to the reset state.
-fn is_done(p: Point) -> bool
-    ensures { result ≡ same_point (point_of p) paths.Done }
-{
-    matches!(p, Point::Done)
-}
-
 // The mode of two points at which neither machine is done, by their paths, under a fact with this vector.
 fn mode_by_paths(
     alloc: Global,
@@ -172,7 +165,7 @@ pub fn mode(
     requires right_point { IsTrue (is_point b.now (point_of right)) }
     ensures { Traces result (mode_of a.now b.now fact.now (point_of left) (point_of right)) }
 {
-    match (is_done(left), is_done(right)) {
+    match (left.is_done(), right.is_done()) {
         (true, true) => Ok(Mode::End),
         (true, false) => Ok(Mode::Right),
         (false, true) => Ok(Mode::Left),

@@ -1,9 +1,5 @@
 //! Pairs of points, as keys.
 
-ghost use Rattle.std.specs.Prelude.{◌≡◌};
-ghost use Rattle.fs_cut.specs.Covers.{same_point as same};
-ghost use Rattle.fs_cut.specs.View.{point_of};
-
 use cert_model::keys::number_of;
 use fs_cut::cover::Point;
 use std::hash::{Hash, Hasher};
@@ -15,20 +11,6 @@ pub struct PointPair {
     pub right: Point,
 }
 
-// Whether two points are the same.
-fn same_point(p: Point, q: Point) -> bool
-    ensures { result ≡ same (point_of p) (point_of q) }
-{
-    match p {
-        Point::Start => matches!(q, Point::Start),
-        Point::At(state) => match q {
-            Point::At(other) => state.0 == other.0,
-            Point::Start | Point::Done => false,
-        },
-        Point::Done => matches!(q, Point::Done),
-    }
-}
-
 impl PartialEq for PointPair {
     ghost use Rattle.search_places.specs.Pairs.{same_pair, pairs_partly};
 
@@ -37,7 +19,7 @@ impl PartialEq for PointPair {
     ghost laws = { pairs_partly };
 
     fn eq(&self, other: &PointPair) -> bool {
-        same_point(other.left, self.left) && same_point(other.right, self.right)
+        other.left.is_same(self.left) && other.right.is_same(self.right)
     }
 }
 

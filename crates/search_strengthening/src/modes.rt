@@ -189,11 +189,6 @@ fn moves_in(
     }
 }
 
-// Whether a machine is done at a point.
-fn is_done(point: Point) -> bool {
-    matches!(point, Point::Done)
-}
-
 // The mode of the node at a place. Keeps what its fact shows of its points.
 fn mode_at(
     alloc: Global,
@@ -204,7 +199,7 @@ fn mode_at(
     let Some(node) = state.nodes.get(place) else {
         return Ok(Mode::End);
     };
-    match (is_done(node.left), is_done(node.right)) {
+    match (node.left.is_done(), node.right.is_done()) {
         (true, true) => return Ok(Mode::End),
         (true, false) => return Ok(Mode::Right),
         (false, true) => return Ok(Mode::Left),

@@ -15,7 +15,7 @@ use crate::nodes::SearchNode;
 use crate::state::UNIT_LIMIT;
 use cert_model::cert::{Cert, Node};
 use fs_ast::machine::Machine;
-use fs_cut::cover::Point;
+use fs_cut::points::is_point;
 use fs_pair::positions::Pairing;
 use nf_terms::form::Nf;
 use nf_terms::stop::NoMemory;
@@ -99,42 +99,16 @@ fn certificate_nodes(
     Ok(Some(out))
 }
 
-// Whether a machine's paths are cut at a point: at a state that is not the reset state and has more than one branch.
-fn is_cut(m: &Machine, point: Point) -> bool
-    ensures { result ≡ is_point m.now (point_of point) }
-{
-    match point {
-        Point::Start | Point::Done => true,
-        Point::At(state) => {
-            state.0 < m.state_count() && state.0 != m.reset().0 && m.branches(state).len() > 1
-        }
-    }
-}
-
 // Whether the points of nodes are points of the machines.
 fn have_points(a: &Machine, b: &Machine, nodes: &[Node]) -> bool
     ensures { result ≡ list_all (λ n. is_point a.now n.left && is_point b.now n.right) (map node_of nodes.now) }
 {
     for node in nodes {
-        if !(is_cut(a, node.left) && is_cut(b, node.right)) {
+        if !(is_point(a, node.left) && is_point(b, node.right)) {
             return false;
         }
     }
     true
-}
-
-// Whether two points are one.
-fn same_point(left: Point, right: Point) -> bool
-    ensures { result ≡ same (point_of left) (point_of right) }
-{
-    match left {
-        Point::Start => matches!(right, Point::Start),
-        Point::At(state) => match right {
-            Point::At(other) => state.0 == other.0,
-            Point::Start | Point::Done => false,
-        },
-        Point::Done => matches!(right, Point::Done),
-    }
 }
 
 // Whether one of the nodes stands at the points of a node.
@@ -143,7 +117,7 @@ fn stands_among(node: &Node, others: &[Node]) -> bool
         (map node_of others.now) }
 {
     for other in others {
-        if same_point(node.left, other.left) && same_point(node.right, other.right) {
+        if node.left.is_same(other.left) && node.right.is_same(other.right) {
             return true;
         }
     }

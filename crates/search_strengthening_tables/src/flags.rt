@@ -18,7 +18,7 @@ pub struct Flags {
 // The place of what is kept of two points.
 fn find(all: &[Flags], left: Point, right: Point) -> Option<usize> {
     for (place, flags) in all.iter().enumerate() {
-        if flags.left == left && flags.right == right {
+        if flags.left.is_same(left) && flags.right.is_same(right) {
             return Some(place);
         }
     }

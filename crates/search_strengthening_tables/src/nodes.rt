@@ -44,7 +44,7 @@ pub struct SearchNode {
 /// The place of the node at two points.
 pub fn find(nodes: &[SearchNode], left: Point, right: Point) -> Option<usize> {
     for (place, node) in nodes.iter().enumerate() {
-        if node.left == left && node.right == right {
+        if node.left.is_same(left) && node.right.is_same(right) {
             return Some(place);
         }
     }

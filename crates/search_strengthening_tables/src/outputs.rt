@@ -6,7 +6,6 @@ ghost use Rattle.fs_model.specs.Limits.{most_variables};
 use crate::nodes::SearchNode;
 use crate::sides::Sides;
 use cert_model::outputs::{is_output, number_of, same_forms};
-use fs_cut::cover::Point;
 use fs_model::parts::VarInfo;
 use nf_substitution::vector::Vector;
 use nf_terms::stop::NoMemory;
@@ -54,7 +53,7 @@ pub fn outputs_differ(
     sides: &Sides<'_>,
     node: &SearchNode,
 ) -> Result<bool, NoMemory> {
-    if !matches!(node.left, Point::Done) || !matches!(node.right, Point::Done) {
+    if !node.left.is_done() || !node.right.is_done() {
         return Ok(false);
     }
     let v = node.fact.vector(alloc)?;

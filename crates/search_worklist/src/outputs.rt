@@ -14,7 +14,6 @@ ghost use Rattle.search_worklist.specs.View.{machines_in};
 
 use crate::sides::Sides;
 use cert_model::outputs::{is_output, number_of, same_forms};
-use fs_cut::cover::Point;
 use fs_model::parts::VarInfo;
 use indexmap::IndexMap;
 use nf_substitution::vector::Vector;
@@ -61,18 +60,11 @@ fn first_differing(
     Ok(None)
 }
 
-// Whether a machine is done at a point.
-fn is_done(p: Point) -> bool
-    ensures { result ≡ same_point (point_of p) paths.Done }
-{
-    matches!(p, Point::Done)
-}
-
 // Whether both machines are done at two points.
 fn is_end(points: PointPair) -> bool
     ensures { result ≡ same_point (point_of points.left) paths.Done && same_point (point_of points.right) paths.Done }
 {
-    is_done(points.left) && is_done(points.right)
+    points.left.is_done() && points.right.is_done()
 }
 
 /// The first left output of a node at the end whose two terms differ. The one refusal is out of memory.

@@ -1,7 +1,6 @@
 //! The node at two points.
 
 ghost use Rattle.std.specs.Prelude.{◌≡◌, option_map};
-ghost use Rattle.fs_cut.specs.Covers.{same_point};
 ghost use Rattle.fs_cut.specs.View.{point_of, path_of};
 ghost use Rattle.sym_paths.specs.Execution.{end_of};
 ghost use Rattle.search_tables.specs.SearchTables.{is_at, node_target};
@@ -18,31 +17,11 @@ pub struct Standing<'a> {
     pub node: &'a TableNode,
 }
 
-// Whether two points are the same.
-fn same_point(p: Point, q: Point) -> bool
-    ensures { result ≡ same_point (point_of p) (point_of q) }
-{
-    match p {
-        Point::Start => match q {
-            Point::Start => true,
-            Point::At(_) | Point::Done => false,
-        },
-        Point::At(state) => match q {
-            Point::At(other) => state.0 == other.0,
-            Point::Start | Point::Done => false,
-        },
-        Point::Done => match q {
-            Point::Done => true,
-            Point::Start | Point::At(_) => false,
-        },
-    }
-}
-
 // Whether a node stands at two points.
 fn is_at(left: Point, right: Point, node: &TableNode) -> bool
     ensures { result ≡ is_at (point_of left) (point_of right) (table_node_in node.now) }
 {
-    same_point(node.left, left) && same_point(node.right, right)
+    node.left.is_same(left) && node.right.is_same(right)
 }
 
 /// The first node at two points.

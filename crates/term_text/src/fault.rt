@@ -7,7 +7,7 @@ use nf_terms::stop::NoMemory;
 use std::alloc::{AllocError, AllocFailed};
 
 /// Why a term could not be read.
-#[derive(Clone, Copy, Debug)]
+#[derive(Clone, Copy)]
 pub enum ReadError {
     /// The bytes spell no term of the sort that is wanted.
     BadTerm,

@@ -17,7 +17,7 @@ use term_text::fault::ReadError;
 use term_text::tree::{WrittenArray, WrittenList, WrittenPolynomial};
 
 /// Why the text of a term is refused.
-#[derive(Clone, Copy, Debug)]
+#[derive(Clone, Copy)]
 pub enum TermError {
     /// The bytes spell no term of the sort that is wanted, or more than 64 brackets are open at once.
     BadTerm,

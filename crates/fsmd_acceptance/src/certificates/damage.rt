@@ -6,8 +6,8 @@ pub static TABLES: &str = r"# fronts of a certificate
 verify a.fsmd b.fsmd c.json¦{sum before a test}¦{sum behind a test}¦¦{2}\n¦<<0 to {1} of:{certificate of a sum past a test}>>
 :
 503¦yes
-⟪0 to 502:#¦bad input: c.json: NotJson
-⟫502¦bad input: c.json: NotJson
+(each 0 to 502:#¦bad input: c.json: NotJson
+each)502¦bad input: c.json: NotJson
 
 # strings of a certificate
 # A string, by its first byte and the first one behind it, is left out, or gets a byte more at its front or at its end.

@@ -59,7 +59,7 @@ fn sizes_of_files(rt: HostRuntime) -> io::Result<()> {
 #[test]
 fn standard_output(rt: HostRuntime) {
     let mut out = WriterSink::new(io::writer(&rt));
-    assert_eq!(rt; put_all(&mut out, b"equivalent\n"), Ok(()));
+    assert!(rt; put_all(&mut out, b"equivalent\n") == Ok(()));
 }
 
 // A pipe that takes at most so many bytes of each write.
