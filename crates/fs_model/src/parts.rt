@@ -48,7 +48,7 @@ impl Sort {
 }
 
 /// What a variable is for.
-#[derive(Clone, Copy, PartialEq, Eq)]
+#[derive(Clone, Copy)]
 pub enum Role {
     Input,
     Output,

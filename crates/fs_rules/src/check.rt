@@ -1,7 +1,7 @@
 //! The rules that a machine keeps.
 
 /// A rule that the parts of a machine may break, in the order in which they are answered.
-#[derive(Clone, Copy, PartialEq, Eq)]
+#[derive(Clone, Copy)]
 pub enum CheckRule {
     TwiceNamed,
     UnknownName,

@@ -11,7 +11,7 @@ use hls_unit_counts::Unit;
 use std::marker::Model;
 
 /// How a command ended.
-#[derive(Clone, Copy, PartialEq, Eq)]
+#[derive(Clone, Copy)]
 pub enum Status {
     /// The question was answered, and where it can have a yes, with that.
     Fine,

@@ -91,7 +91,7 @@ impl Effects {
 }
 
 /// How an item stands to a later one: in a row before it, in no later row, or anyhow.
-#[derive(Clone, Copy, PartialEq, Eq)]
+#[derive(Clone, Copy)]
 pub enum Edge {
     Apart,
     Weak,
