@@ -12,8 +12,8 @@ use crate::progress::{Progress, advance};
 use cert_model::outputs::{is_output, number_of, same_forms};
 use cert_model::reason::Reason;
 use fs_model::parts::{Sort, VarInfo};
-use nf_substitution::vector::Vector;
 use nf_terms::stop::{NfStop, NoMemory};
+use nf_vectors::vector::Vector;
 use std::alloc::Global;
 
 // Why an output fails: it has not the same form as the right variable.

@@ -7,14 +7,14 @@ ghost use Rattle.fs_model.specs.Limits.{most_variables};
 ghost use Rattle.fs_model.specs.Runs.{is_output};
 ghost use Rattle.nf_terms.specs.Forms.{same_form};
 ghost use Rattle.nf_terms.specs.declared.form.Nf.TheVariants.{Num, Arr, Seq};
-ghost use Rattle.nf_substitution.specs.Vectors.{number_at, array_form, list_at};
+ghost use Rattle.nf_vectors.specs.Vectors.{number_at, array_form, list_at};
 ghost use Rattle.cert_model.specs.Obligations.{same_forms};
 
 use fs_model::name::Name;
 use fs_model::parts::{Role, Sort, VarInfo};
-use nf_substitution::vector::Vector;
 use nf_terms::stop::NoMemory;
 use nf_terms::tree::{Pos, Side};
+use nf_vectors::vector::Vector;
 use std::alloc::Global;
 
 // Whether the numbers of two positions are the same.

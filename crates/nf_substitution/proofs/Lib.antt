@@ -1,8 +1,7 @@
-pub mod Copying
-pub mod Entries
 pub mod Known
 pub mod FirstFactors
 pub mod Values
-pub mod LoneSymbols
 pub mod Unchanged
 pub mod Following
+pub use Rattle.nf_vectors.proofs.Entries
+pub use Rattle.nf_vectors.proofs.LoneSymbols

@@ -31,12 +31,12 @@ use Rattle.nf_sums.proofs.Exact.{small_done}
 use Rattle.nf_sums.proofs.Settling.{form_stays}
 use Rattle.nf_sums.proofs.Sorting.{joined_deep}
 use Rattle.nf_sums.proofs.Terms.{size-sum, weight-sum}
-use Rattle.nf_substitution.specs.SamePlaces.{pos_equal}
-use Rattle.nf_substitution.specs.Vectors.{form_at, number_or, number_at}
-use Rattle.nf_substitution.specs.BareNumbers.{bare_number}
+use Rattle.nf_vectors.specs.SamePlaces.{pos_equal}
+use Rattle.nf_vectors.specs.Vectors.{form_at, number_or, number_at}
+use Rattle.nf_vectors.specs.BareNumbers.{bare_number}
 use Rattle.nf_substitution.specs.StayingTerms.{most_atoms, is_symbol, number_symbol, symbol_stays, atoms_stay, monomial_stays, terms_stay, has_symbol}
 use Rattle.nf_substitution.specs.Substitution.{atoms_substituted, terms_substituted, polynomial_substituted}
-use Rattle.nf_substitution.proofs.LoneSymbols.{bare_number_is}
+use Rattle.nf_vectors.proofs.LoneSymbols.{bare_number_is}
 
 -- ---- an operation gives a raw sum that is in order
 

@@ -1,44 +1,41 @@
 -- Substitution keeps the meaning, of all terms and vectors.
-use Rattle.std.proofs.Common.{◌≡◌, ℤ, ◌+ℤ◌, ◌*ℤ◌, List, [], ◌∷◌, ◌++◌, map, append_assoc, arith, refl, ap, ap₂, sym, ◌∙◌}
+use Rattle.std.proofs.Common.{◌≡◌, ℤ, ◌+ℤ◌, ◌*ℤ◌, List, [], ◌∷◌, ◌++◌, map, append_assoc, arith, refl, ap, ap₂, sym, subst, ◌∙◌}
 use Rattle.std.proofs.lemmas.List.{append-nil}
 use Rattle.std.proofs.lemmas.Int.{ints}
 use Rattle.fs_model.specs.Division.{quotient, remainder}
 use Rattle.fs_model.proofs.Ring.{mul_assoc_z}
-use Rattle.std.specs.Prelude.{cond, nat_le, unsigned_abs, Bool, true, false}
-use Rattle.nf_terms.specs.TermLimits.{weight_limit}
 use Rattle.nf_terms.specs.NormalTerms.{Atom, Monomial, Polynomial, ArrayTerm, Writes, Symbol, Read, Quotient, Remainder, One, Times, Zero, Plus, Over, NoWrites}
-use Rattle.nf_terms.specs.NormalTerms.{Write, polynomial_of_number}
+use Rattle.nf_terms.specs.NormalTerms.{Write}
 use Rattle.nf_terms.specs.Lists.{ListTerm}
 use Rattle.nf_terms.specs.TermMeaning.{Valuation, value_of, value_of_atom, value_of_monomial, contents, contents_after, contents_of_base, items_of_base}
 use Rattle.nf_terms.specs.TermMeaning.{items_in, contents_after_write as stored}
 use Rattle.std.specs.Prelude.{Result, Ok, Err, IfOk}
 use Rattle.nf_terms.specs.declared.stop.NfStop.{NfStop}
-use Rattle.nf_terms.specs.Computed.{Computed, Done, Wide, after, Answers}
+use Rattle.nf_terms.specs.Computed.{Computed, Done, after, Answers, IfDone}
+use Rattle.nf_terms.specs.Means.{IsNumberOf}
 use Rattle.fs_model.specs.declared.sides.Pos.{Pos}
 use Rattle.nf_terms.specs.declared.tree.Base.{Base}
 use Rattle.nf_terms.specs.declared.tree.Base.TheVariants as base
 use Rattle.nf_terms.specs.declared.tree.SeqBase.{SeqBase}
 use Rattle.nf_terms.specs.declared.tree.SeqBase.TheVariants as list
 use Rattle.nf_terms.specs.declared.form.Nf.{Nf}
-use Rattle.nf_terms.proofs.Partings.{value_of_number}
 use Rattle.nf_sums.specs.Operations.{normal_sum, normal_product, number}
+use Rattle.nf_sums.proofs.Exact.{number_means}
 use Rattle.nf_sums.proofs.Values.{goes_done, added_value, multiplied_value}
 use Rattle.nf_arrays.specs.NewAtoms.{quotient_of, remainder_of}
 use Rattle.nf_arrays.specs.Writes.{write_array, read_at}
 use Rattle.nf_arrays.specs.Pushes.{list_with_item}
 use Rattle.nf_arrays.proofs.Values.{read_value, write_value, quotient_value, remainder_value}
 use Rattle.nf_arrays.proofs.Pushing.{push_value}
-use Rattle.nf_substitution.specs.Vectors.{number_at, array_of_base, list_of_base, vector_meaning}
+use Rattle.nf_vectors.specs.Vectors.{number_at, array_of_base, list_of_base, vector_meaning}
 use Rattle.nf_substitution.specs.Substitution.{atom_substituted, atoms_substituted, terms_substituted, writes_substituted, array_substituted}
 use Rattle.nf_substitution.specs.Substitution.{polynomial_substituted}
 use Rattle.nf_substitution.specs.Substitution.{items_substituted, list_substituted}
 
 pub number_is : (w : Valuation) (c : ℤ) (r : Polynomial) → number c ≡ Done r → value_of w r ≡ c
-number_is w c r e = by_test (nat_le (unsigned_abs c) weight_limit) e
-  where
-    by_test : (t : Bool) → cond {A = Computed Polynomial} t (Done (polynomial_of_number c)) (Wide (unsigned_abs c) 0) ≡ Done r → value_of w r ≡ c
-    by_test true g = let k : polynomial_of_number c ≡ r = cc g in sym (ap (value_of w) k) ∙ value_of_number w c
-    by_test false g = absurd (cc g)
+number_is w c r e =
+    let n : IsNumberOf (λ x. c) r = subst (λ (k : Computed Polynomial). IfDone k (IsNumberOf (λ x. c))) e (number_means c) in
+    n.means w
 
 same_read : (f g : ℤ → ℤ) (i j : ℤ) → f ≡ g → i ≡ j → f i ≡ g j
 same_read f g i j e h = λ k. e k (h k)

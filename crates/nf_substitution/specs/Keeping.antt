@@ -9,7 +9,7 @@ use Rattle.nf_terms.specs.declared.form.Nf.{Nf}
 use Rattle.nf_terms.specs.Computed.{Done}
 pub use Rattle.nf_bank.specs.Atoms.{with_terms, with_array, IsFront}
 use Rattle.nf_bank.specs.AtomNumbers.{atom_at}
-use Rattle.nf_substitution.specs.VectorPlaces.{coded_vector}
+use Rattle.nf_vectors.specs.VectorPlaces.{coded_vector}
 use Rattle.nf_substitution.specs.Substitution.{atom_substituted}
 
 -- a vector and the atoms that were substituted

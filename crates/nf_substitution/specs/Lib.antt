@@ -1,10 +1,10 @@
-pub mod Vectors
-pub mod VectorPlaces
 pub mod Substitution
 pub mod Keeping
-pub mod SamePlaces
-pub mod BareNumbers
 pub mod StayingTerms
 pub use Rattle.nf_arrays.specs.NewAtoms
 pub use Rattle.nf_arrays.specs.Pushes
 pub use Rattle.nf_arrays.specs.Writes
+pub use Rattle.nf_vectors.specs.Vectors
+pub use Rattle.nf_vectors.specs.VectorPlaces
+pub use Rattle.nf_vectors.specs.SamePlaces
+pub use Rattle.nf_vectors.specs.BareNumbers

@@ -8,8 +8,8 @@ use Rattle.nf_terms.specs.declared.form.Nf.{Nf}
 use Rattle.nf_terms.specs.declared.form.Nf.TheVariants.{Num, Arr, Seq}
 use Rattle.nf_terms.specs.declared.symbols.Sort.{Sort}
 use Rattle.nf_terms.specs.declared.symbols.Sort.TheVariants.{Scalar}
-use Rattle.nf_substitution.specs.Vectors.{form_at}
-use Rattle.nf_substitution.specs.BareNumbers.{bare_number}
+use Rattle.nf_vectors.specs.Vectors.{form_at}
+use Rattle.nf_vectors.specs.BareNumbers.{bare_number}
 
 -- the most atoms of a monomial that is looked at: its product with the last of them has a raw size within the limit
 abbrev pub most_atoms : ℕ

@@ -10,7 +10,7 @@ use Rattle.nf_sums.specs.Operations.{normal_sum, normal_product, number}
 use Rattle.nf_arrays.specs.NewAtoms.{quotient_of, remainder_of}
 use Rattle.nf_arrays.specs.Writes.{write_array, read_at}
 use Rattle.nf_arrays.specs.Pushes.{list_with_item}
-use Rattle.nf_substitution.specs.Vectors.{number_at, array_of_base, list_of_base}
+use Rattle.nf_vectors.specs.Vectors.{number_at, array_of_base, list_of_base}
 
 abbrev mutual
   -- an atom: its parts in order, then the operation

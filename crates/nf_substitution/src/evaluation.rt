@@ -13,7 +13,6 @@ ghost use Rattle.nf_substitution.specs.Keeping.{AreValues};
 
 use crate::memo::Memo;
 use crate::shared_number::SharedNumber;
-use crate::vector::Vector;
 use nf_arrays::division::{div, rem};
 use nf_arrays::reads::read;
 use nf_arrays::writes::write;
@@ -24,6 +23,7 @@ use nf_sums::sums::{mul, number};
 use nf_terms::arr::Arr;
 use nf_terms::poly::Poly;
 use nf_terms::stop::NfStop;
+use nf_vectors::vector::Vector;
 use std::alloc::Global;
 
 // The value of the atom of a number, which is found once.

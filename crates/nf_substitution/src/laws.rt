@@ -1,17 +1,13 @@
-//! Laws of vectors and of substitution. The functions do nothing.
+//! Laws of substitution. The functions do nothing.
 
-ghost use Rattle.std.specs.Prelude.{◌≡◌, ◌&&◌, cond, Some, List};
+ghost use Rattle.std.specs.Prelude.{◌≡◌, List};
 ghost use Rattle.nf_terms.specs.NormalTerms.{Polynomial, ArrayTerm};
 ghost use Rattle.nf_terms.specs.Lists.{ListTerm};
-ghost use Rattle.nf_terms.specs.Mentions.{same_pos};
 ghost use Rattle.nf_terms.specs.TermMeaning.{Valuation, value_of, contents, items_in};
 ghost use Rattle.nf_terms.specs.Computed.{Done};
-ghost use Rattle.nf_terms.specs.Forms.{sort_of_form};
 ghost use Rattle.fs_model.specs.declared.sides.Pos.{Pos as Position};
-ghost use Rattle.nf_terms.specs.declared.symbols.Sort.{Sort};
 ghost use Rattle.nf_terms.specs.declared.form.Nf.{Nf as Form};
-ghost use Rattle.nf_terms.specs.TermSorts.{same_term_sort};
-ghost use Rattle.nf_substitution.specs.Vectors.{form_at, with_form, vector_meaning};
+ghost use Rattle.nf_vectors.specs.Vectors.{vector_meaning};
 ghost use Rattle.nf_substitution.specs.Substitution.{polynomial_substituted, array_substituted, list_substituted};
 
 /// A law, with nothing to run: a substituted term means what the term means in the pair of stores that the vector means.
@@ -22,10 +18,4 @@ pub fn substitution_keeps_the_meaning()
         → contents w b ≡ contents (vector_meaning v w) a }
     ensures lists { (w : Valuation) (v : List (Position × Form)) (l m : ListTerm) → list_substituted v l ≡ Done m
         → items_in w m ≡ items_in (vector_meaning v w) l }
-{}
-
-/// A law, with nothing to run: a form that is put stands for its position, and all others stay.
-pub fn a_put_changes_one_form()
-    ensures { (v : List (Position × Form)) (p q : Position) (f : Form) (s : Sort)
-        → form_at s q (with_form p f v) ≡ cond (same_pos q p && same_term_sort s (sort_of_form f)) (Some f) (form_at s q v) }
 {}

@@ -1,22 +1,17 @@
-//! Vectors of normal forms, and their substitution in normal forms.
+//! Substitution of a vector in normal forms: each symbol becomes the vector's form for it. What vectors are stands in
+//! `nf_vectors`, and is passed on.
 //!
-//! Promises: vectors, and substitution that keeps each atom once.
+//! Promises: substitution that keeps each atom once.
 //!
-//! Rules: `specs/Vectors`, `specs/Substitution`, `specs/Keeping`, `specs/BareNumbers`, `specs/StayingTerms`.
-//!
-//! Words:
-//! - vector: a normal form for each position
+//! Rules: `specs/Substitution`, `specs/Keeping`, `specs/StayingTerms`, `src/laws`.
 #![tactic(auto)]
 
-pub mod bare_numbers;
-mod copies;
 mod evaluation;
 mod kept_atoms;
 pub mod laws;
 mod memo;
-mod place;
-pub mod shared_form;
 mod shared_number;
 mod staying;
 pub mod subst;
-pub mod vector;
+
+pub use nf_vectors::{bare_numbers, shared_form, vector};

@@ -4,11 +4,11 @@ ghost use Rattle.std.specs.Prelude.{◌≡◌};
 ghost use Rattle.nf_terms.specs.View.{atom_in, monomial_in, polynomial_in};
 ghost use Rattle.nf_substitution.specs.StayingTerms.{is_symbol, symbol_stays, atom_stays, atoms_stay, monomial_stays, terms_stay};
 
-use crate::bare_numbers::bare_number;
-use crate::vector::Vector;
 use nf_terms::form::Nf;
 use nf_terms::symbols::Sort;
 use nf_terms::tree::{Atom, MonoTree, PolyTree, Pos};
+use nf_vectors::bare_numbers::bare_number;
+use nf_vectors::vector::Vector;
 
 // The most atoms of a monomial that is looked at.
 const MOST_ATOMS: usize = 2048;

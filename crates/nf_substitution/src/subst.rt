@@ -7,7 +7,7 @@ ghost use Rattle.nf_terms.specs.TermMeaning.{Valuation, value_of, contents, item
 ghost use Rattle.nf_terms.specs.View.{polynomial_in, array_in};
 ghost use Rattle.nf_terms.specs.Computed.{Answers, Done};
 ghost use Rattle.nf_bank.specs.AtomNumbers.{bound_of_sum, bound_of_array, sum_over, array_over, SpellsSum, SpellsArray};
-ghost use Rattle.nf_substitution.specs.Vectors.{list_of_base, vector_meaning};
+ghost use Rattle.nf_vectors.specs.Vectors.{list_of_base, vector_meaning};
 ghost use Rattle.nf_substitution.specs.Substitution.{polynomial_substituted, array_substituted, items_substituted};
 ghost use Rattle.nf_substitution.specs.Substitution.{list_substituted};
 ghost use Rattle.nf_substitution.specs.Keeping.{with_terms, with_array, with_items, IsFront};
@@ -17,7 +17,6 @@ use crate::evaluation::{array_value, sum_value};
 use crate::kept_atoms::put_terms;
 use crate::memo::Memo;
 use crate::staying::terms_stay;
-use crate::vector::Vector;
 use nf_arrays::pushes::push;
 use nf_bank::bank::Bank;
 use nf_bank::items::Items;
@@ -28,6 +27,7 @@ use nf_terms::poly::Poly;
 use nf_terms::seq::Seq;
 use nf_terms::stop::{NfStop, NoMemory};
 use nf_terms::tree::{ArrTree, PolyTree, SeqBase};
+use nf_vectors::vector::Vector;
 use std::alloc::Global;
 use std::marker::Model;
 

@@ -31,7 +31,7 @@ use Rattle.fs_model.specs.Runs.{is_port}
 use Rattle.fs_model.specs.VariableNames.{name_or_nothing}
 use Rattle.nf_terms.specs.declared.symbols.Sort.{Sort as TermSort}
 use Rattle.nf_terms.specs.TermSorts.{same_term_sort}
-use Rattle.nf_substitution.specs.SamePlaces.{pos_equal, sorts_equal}
+use Rattle.nf_vectors.specs.SamePlaces.{pos_equal, sorts_equal}
 use Rattle.sym_facts.specs.Facts.{sort_of_terms}
 use Rattle.sym_facts.specs.Pairings.{is_position}
 use Rattle.term_text.specs.TermTexts.{symbol_text}

@@ -7,8 +7,8 @@ use crate::nodes::SearchNode;
 use crate::sides::Sides;
 use cert_model::outputs::{is_output, number_of, same_forms};
 use fs_model::parts::VarInfo;
-use nf_substitution::vector::Vector;
 use nf_terms::stop::NoMemory;
+use nf_vectors::vector::Vector;
 use std::alloc::Global;
 
 // Whether a left variable is an output that has another form than the right variable of its name.

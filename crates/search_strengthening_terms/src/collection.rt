@@ -4,11 +4,11 @@ use crate::universe::{Term, Universe};
 use fs_pair::positions::Position;
 use nf_rel::copies::is_same;
 use nf_rel::literals::NLit;
-use nf_substitution::vector::Vector;
 use nf_terms::form::Nf;
 use nf_terms::stop::NoMemory;
 use nf_terms::symbols::Sort;
 use nf_terms::tree::Pos;
+use nf_vectors::vector::Vector;
 use std::alloc::Global;
 
 /// The most terms of a universe.

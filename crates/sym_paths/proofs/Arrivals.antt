@@ -11,7 +11,7 @@ use Rattle.nf_terms.specs.Computed.{Done, after}
 use Rattle.fs_model.specs.declared.sides.Pos.{Pos}
 use Rattle.nf_terms.specs.declared.form.Nf.{Nf}
 use Rattle.nf_sums.proofs.Values.{goes_done}
-use Rattle.nf_substitution.specs.Vectors.{vector_meaning}
+use Rattle.nf_vectors.specs.Vectors.{vector_meaning}
 use Rattle.nf_rel.specs.Literals.{NormalLiteral, is_true_in, all_true_in}
 use Rattle.sym_paths.specs.ValuationStores.{store_on, other}
 use Rattle.sym_paths.specs.Execution.{Post, conditions, steps_over, execute_if, arrive, takes_if, effect_if}

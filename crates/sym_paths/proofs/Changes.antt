@@ -31,8 +31,8 @@ use Rattle.nf_arrays.specs.Writes.{write_array}
 use Rattle.nf_arrays.specs.Pushes.{list_with_item}
 use Rattle.nf_arrays.proofs.Values.{write_value}
 use Rattle.nf_arrays.proofs.Pushing.{push_value}
-use Rattle.nf_substitution.specs.Vectors.{form_at, with_form, number_or, array_or, list_or, array_form, list_at, vector_meaning}
-use Rattle.nf_substitution.proofs.Entries.{form_put}
+use Rattle.nf_vectors.specs.Vectors.{form_at, with_form, number_or, array_or, list_or, array_form, list_at, vector_meaning}
+use Rattle.nf_vectors.proofs.Entries.{form_put}
 use Rattle.sym_paths.specs.ValuationStores.{at, store_on, other}
 use Rattle.sym_paths.specs.Sequences.{each}
 use Rattle.sym_paths.specs.Evaluation.{evaluate, Change, SetTo, PutAt, PushTo, evaluate_assignment, change, change_all, act_over}

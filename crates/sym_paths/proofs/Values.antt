@@ -1,5 +1,5 @@
 -- Expressions and literals over a vector mean what they mean in the store that it means.
-use Rattle.std.proofs.Common.{◌≡◌, ℕ, ap, ap₂, sym, ◌∙◌, List, [], ◌∷◌, ◌+ℤ◌, ◌-ℤ◌, ◌*ℤ◌, neg_ℤ}
+use Rattle.std.proofs.Common.{◌≡◌, ℕ, ap, ap₂, sym, subst, ◌∙◌, List, [], ◌∷◌, ◌+ℤ◌, ◌-ℤ◌, ◌*ℤ◌, neg_ℤ}
 use Rattle.std.specs.Prelude.{◌&&◌}
 use Rattle.std.specs.List.{list_all}
 use Rattle.fs_model.specs.Division.{quotient, remainder}
@@ -7,18 +7,19 @@ use Rattle.fs_model.specs.Terms.{Term, Number, Variable, Read, Sum, Difference, 
 use Rattle.fs_model.specs.Meaning.{value, relates, literal_holds}
 use Rattle.nf_terms.specs.NormalTerms.{Polynomial}
 use Rattle.nf_terms.specs.TermMeaning.{Valuation, value_of, contents}
-use Rattle.nf_terms.specs.Computed.{Computed, Done, after}
+use Rattle.nf_terms.specs.Computed.{Computed, Done, after, IfDone}
+use Rattle.nf_terms.specs.Means.{IsNumberOf}
 use Rattle.fs_model.specs.declared.sides.Side.{Side}
 use Rattle.fs_model.specs.declared.sides.Pos.{Pos}
 use Rattle.nf_terms.specs.declared.form.Nf.{Nf}
 use Rattle.nf_sums.specs.Operations.{normal_sum, normal_difference, normal_product, normal_negation}
+use Rattle.nf_sums.proofs.Exact.{number_means}
 use Rattle.nf_sums.proofs.Forms.{negation_value}
 use Rattle.nf_sums.proofs.Values.{goes_done, added_value, subtracted_value, multiplied_value}
 use Rattle.nf_arrays.specs.NewAtoms.{quotient_of, remainder_of}
 use Rattle.nf_arrays.specs.Writes.{read_at}
 use Rattle.nf_arrays.proofs.Values.{read_value, quotient_value, remainder_value}
-use Rattle.nf_substitution.specs.Vectors.{number_at, array_form, vector_meaning}
-use Rattle.nf_substitution.proofs.Values.{number_is}
+use Rattle.nf_vectors.specs.Vectors.{number_at, array_form, vector_meaning}
 use Rattle.nf_rel.specs.Literals.{NormalLiteral, is_true_in, literal}
 use Rattle.nf_rel.proofs.Values.{literal_means}
 use Rattle.sym_paths.specs.ValuationStores.{at, store_on}
@@ -42,7 +43,9 @@ operands side v a b f r e =
 
 module _ (w : Valuation) (side : Side) (v : List (Pos × Nf)) where
   pub evaluated : (e : Term ℕ) (r : Polynomial) → evaluate side v e ≡ Done r → value_of w r ≡ value e (store_on side (vector_meaning v w))
-  evaluated (Number n) r e = number_is w n r e
+  evaluated (Number n) r e =
+      let m : IsNumberOf (λ x. n) r = subst (λ (k : Computed Polynomial). IfDone k (IsNumberOf (λ x. n))) e (number_means n) in
+      m.means w
   evaluated (Variable x) r e = let k : number_at v (at side x) ≡ r = cc e in sym (ap (value_of w) k)
   evaluated (Read x i) r e =
       let s = goes_done (evaluate side v i) (λ j. read_at (array_form v (at side x)) j) r e in

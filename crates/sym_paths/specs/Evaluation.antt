@@ -12,7 +12,7 @@ use Rattle.nf_sums.specs.Operations.{normal_sum, normal_difference, normal_produ
 use Rattle.nf_arrays.specs.NewAtoms.{quotient_of, remainder_of}
 use Rattle.nf_arrays.specs.Writes.{write_array, read_at}
 use Rattle.nf_arrays.specs.Pushes.{list_with_item}
-use Rattle.nf_substitution.specs.Vectors.{number_at, array_form, list_at, with_form}
+use Rattle.nf_vectors.specs.Vectors.{number_at, array_form, list_at, with_form}
 use Rattle.nf_rel.specs.Literals.{NormalLiteral, literal}
 use Rattle.sym_paths.specs.ValuationStores.{at}
 use Rattle.sym_paths.specs.Sequences.{each}

@@ -12,11 +12,11 @@ use crate::evaluation::{at, evaluate};
 use fs_model::parts::{Assign, VarId};
 use nf_arrays::pushes::push;
 use nf_arrays::writes::write;
-use nf_substitution::vector::Vector;
 use nf_terms::form::Nf;
 use nf_terms::poly::Poly;
 use nf_terms::stop::NfStop;
 use nf_terms::tree::Side;
+use nf_vectors::vector::Vector;
 use std::alloc::Global;
 
 // An assignment with its parts evaluated.

@@ -14,11 +14,11 @@ use nf_arrays::division::{div, rem};
 use nf_arrays::reads::read;
 use nf_rel::literals::NLit;
 use nf_rel::normalize::literal;
-use nf_substitution::vector::Vector;
 use nf_sums::sums::{add, mul, neg, number, sub};
 use nf_terms::poly::Poly;
 use nf_terms::stop::NfStop;
 use nf_terms::tree::{Pos, Side};
+use nf_vectors::vector::Vector;
 use std::alloc::Global;
 use std::rc::Rc;
 

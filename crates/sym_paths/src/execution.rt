@@ -17,9 +17,9 @@ use fs_ast::machine::Machine;
 use fs_cut::cover::{Path, Point};
 use fs_model::parts::{Assign, Branch, Lit, StateId, VarId};
 use nf_rel::literals::NLit;
-use nf_substitution::vector::Vector;
 use nf_terms::stop::NfStop;
 use nf_terms::tree::Side;
+use nf_vectors::vector::Vector;
 use std::alloc::Global;
 use std::rc::Rc;
 

@@ -10,7 +10,7 @@ ghost use Rattle.fs_model.specs.declared.sides.Side.TheVariants.{Left, Right};
 ghost use Rattle.fs_model.specs.declared.sides.Pos.{Pos};
 ghost use Rattle.nf_terms.specs.declared.form.Nf.{Nf};
 ghost use Rattle.nf_terms.specs.declared.symbols.Sort.{Sort};
-ghost use Rattle.nf_substitution.specs.Vectors.{form_at, vector_meaning};
+ghost use Rattle.nf_vectors.specs.Vectors.{form_at, vector_meaning};
 ghost use Rattle.nf_rel.specs.Literals.{NormalLiteral, all_true_in};
 ghost use Rattle.sym_paths.specs.ValuationStores.{at, store_on, other};
 ghost use Rattle.sym_paths.specs.Execution.{Post, conditions, steps_over, execute, arrive, takes_if, effect_if};

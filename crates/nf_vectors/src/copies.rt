@@ -3,7 +3,7 @@
 ghost use Rattle.std.specs.Prelude.{◌≡◌, [], IfOk};
 ghost use Rattle.std.specs.Result.{OnOk};
 ghost use Rattle.indexmap.specs.IndexMap.{insert_entry};
-ghost use Rattle.nf_substitution.specs.SamePlaces.{same_place};
+ghost use Rattle.nf_vectors.specs.SamePlaces.{same_place};
 
 use crate::place::Place;
 use crate::shared_form::SharedForm;

@@ -13,7 +13,7 @@ use Rattle.fs_model.specs.Sides.{same_side}
 use Rattle.nf_terms.specs.declared.symbols.Sort.{Sort}
 use Rattle.nf_terms.specs.declared.symbols.Sort.TheVariants as sort
 use Rattle.nf_terms.specs.TermSorts.{same_term_sort}
-use Rattle.nf_substitution.specs.declared.place.Place.{Place}
+use Rattle.nf_vectors.specs.declared.place.Place.{Place}
 
 -- whether two places are the same
 abbrev pub same_place : Place → Place → Bool

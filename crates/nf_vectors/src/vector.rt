@@ -5,9 +5,9 @@ ghost use Rattle.std.specs.Ordering.{is_eq};
 ghost use Rattle.nf_terms.specs.Order.{cmp_polynomial, cmp_array};
 ghost use Rattle.nf_terms.specs.Lists.{cmp_list};
 ghost use Rattle.nf_terms.specs.declared.form.Nf.TheVariants as normal;
-ghost use Rattle.nf_substitution.specs.Vectors.{form_at, form_of, has_form, number_at, array_form, list_at, array_of_base};
-ghost use Rattle.nf_substitution.specs.Vectors.{list_of_base};
-ghost use Rattle.nf_substitution.specs.Vectors.{with_form, AreNormalForms};
+ghost use Rattle.nf_vectors.specs.Vectors.{form_at, form_of, has_form, number_at, array_form, list_at, array_of_base};
+ghost use Rattle.nf_vectors.specs.Vectors.{list_of_base};
+ghost use Rattle.nf_vectors.specs.Vectors.{with_form, AreNormalForms};
 
 use crate::copies::copy_forms;
 use crate::place::Place;
@@ -33,7 +33,7 @@ impl Model for Vector {
     ghost use Rattle.std.specs.Prelude.{List, map};
     ghost use Rattle.fs_model.specs.declared.sides.Pos.{Pos};
     ghost use Rattle.nf_terms.specs.declared.form.Nf.{Nf};
-    ghost use Rattle.nf_substitution.specs.VectorPlaces.{coded_vector, position_entry, ArePlaced};
+    ghost use Rattle.nf_vectors.specs.VectorPlaces.{coded_vector, position_entry, ArePlaced};
 
     ghost Value = { List (Pos × Nf) };
 

@@ -26,7 +26,7 @@ fn same_sort(left: Sort, right: Sort) -> bool
 }
 
 impl PartialEq for Place {
-    ghost use Rattle.nf_substitution.specs.SamePlaces.{same_place, places_partly};
+    ghost use Rattle.nf_vectors.specs.SamePlaces.{same_place, places_partly};
 
     ghost eq = { same_place };
 
@@ -38,7 +38,7 @@ impl PartialEq for Place {
 }
 
 impl Eq for Place {
-    ghost use Rattle.nf_substitution.specs.SamePlaces.{places_same};
+    ghost use Rattle.nf_vectors.specs.SamePlaces.{places_same};
 
     ghost laws = { places_same };
 }
@@ -46,7 +46,7 @@ impl Eq for Place {
 #[derived]
 impl Hash for Place {
     ghost use Rattle.std.specs.Hash.{same_Alike};
-    ghost use Rattle.nf_substitution.specs.SamePlaces.{places_decide};
+    ghost use Rattle.nf_vectors.specs.SamePlaces.{places_decide};
 
     ghost respects_eq = { (same_Alike _ places_decide).fed };
 }

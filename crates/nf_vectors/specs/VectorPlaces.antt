@@ -6,7 +6,7 @@ use Rattle.nf_terms.specs.FormCodes.{coded_form}
 use Rattle.nf_terms.specs.Forms.{IsNormalForm, sort_of_form}
 use Rattle.fs_model.specs.declared.sides.Pos.{Pos}
 use Rattle.nf_terms.specs.declared.form.Nf.{Nf}
-use Rattle.nf_substitution.specs.declared.place.Place.{Place}
+use Rattle.nf_vectors.specs.declared.place.Place.{Place}
 
 -- an entry with its position alone
 abbrev pub position_entry : Place × Nf → Pos × Nf

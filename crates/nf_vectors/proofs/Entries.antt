@@ -10,10 +10,10 @@ use Rattle.fs_model.specs.declared.sides.Pos.{Pos}
 use Rattle.nf_terms.specs.declared.symbols.Sort.{Sort}
 use Rattle.nf_terms.specs.declared.form.Nf.{Nf}
 use Rattle.nf_terms.specs.TermSorts.{same_term_sort}
-use Rattle.nf_substitution.specs.Vectors.{is_entry_at, form_at, with_form, AreNormalForms}
-use Rattle.nf_substitution.specs.VectorPlaces.{position_entry, ArePlaced}
-use Rattle.nf_substitution.specs.SamePlaces.{same_place, places_equal, pos_equal, own_pos, sorts_equal, own_sort}
-use Rattle.nf_substitution.specs.declared.place.Place.{Place}
+use Rattle.nf_vectors.specs.Vectors.{is_entry_at, form_at, with_form, AreNormalForms}
+use Rattle.nf_vectors.specs.VectorPlaces.{position_entry, ArePlaced}
+use Rattle.nf_vectors.specs.SamePlaces.{same_place, places_equal, pos_equal, own_pos, sorts_equal, own_sort}
+use Rattle.nf_vectors.specs.declared.place.Place.{Place}
 
 pub normal_forms : (es : List (Place × Nf)) → ArePlaced es → AreNormalForms (map position_entry es)
 normal_forms [] h = tt

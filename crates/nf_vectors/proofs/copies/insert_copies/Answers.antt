@@ -1,6 +1,6 @@
 use Rattle.std.proofs.Common.{rules}
-use Rattle.nf_substitution.proofs.Copying.{one_more}
-use Rattle.nf_substitution.proofs.copies.insert_copies.Goals as goal
+use Rattle.nf_vectors.proofs.Copying.{one_more}
+use Rattle.nf_vectors.proofs.copies.insert_copies.Goals as goal
 
 pub loop-place-preserved : goal.loop-place-preserved
 loop-place-preserved c = record {

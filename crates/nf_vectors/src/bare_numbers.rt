@@ -3,7 +3,7 @@
 ghost use Rattle.std.specs.Prelude.{◌≡◌, [], ◌∷◌};
 ghost use Rattle.nf_terms.specs.View.{atom_in, monomial_in};
 ghost use Rattle.nf_terms.specs.NormalTerms.{polynomial_of};
-ghost use Rattle.nf_substitution.specs.BareNumbers.{lone_atom, lone_symbol, bare_number};
+ghost use Rattle.nf_vectors.specs.BareNumbers.{lone_atom, lone_symbol, bare_number};
 
 use nf_terms::poly::Poly;
 use nf_terms::tree::{Atom, MonoTree, Pos};

@@ -5,8 +5,8 @@ use Rattle.std.specs.List.{IsDistinct, AllByRecursion}
 use Rattle.std.specs.Map.{keys_of}
 use Rattle.indexmap.specs.IndexMap.{insert_entry}
 use Rattle.nf_terms.specs.declared.form.Nf.{Nf}
-use Rattle.nf_substitution.specs.SamePlaces.{same_place, places_same}
-use Rattle.nf_substitution.specs.declared.place.Place.{Place}
+use Rattle.nf_vectors.specs.SamePlaces.{same_place, places_same}
+use Rattle.nf_vectors.specs.declared.place.Place.{Place}
 
 at_end : (P : Place → Type 0) (done rest : List (Place × Nf)) (k : Place) (f : Nf) → AllByRecursion P (keys_of (done ++ (k, f) ∷ rest)) → P k
 at_end P [] rest k f h = h.0

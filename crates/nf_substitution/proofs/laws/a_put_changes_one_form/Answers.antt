@@ -1,5 +1,0 @@
-use Rattle.nf_substitution.proofs.Entries.{form_put}
-use Rattle.nf_substitution.proofs.laws.a_put_changes_one_form.Goals as goal
-
-pub returns : goal.returns
-returns c = form_put

@@ -1,0 +1,4 @@
+pub mod Vectors
+pub mod VectorPlaces
+pub mod SamePlaces
+pub mod BareNumbers
