@@ -1,5 +1,5 @@
 -- The first members of objects whose names get more.
-use Rattle.std.proofs.Common.{◌≡◌, ℕ, zero, suc, ◌+◌, ◌<◌, ◌≤◌, List, [], ◌∷◌, ◌++◌, length, Bool, true, false, Option, Some, None, String, Global}
+use Rattle.std.proofs.Common.{◌≡◌, ℕ, zero, suc, ◌+◌, ◌<◌, ◌≤◌, List, [], ◌∷◌, ◌++◌, length, Bool, true, false, ◌&&◌, Option, Some, None, String, Global}
 use Rattle.std.proofs.Common.{Ordering, Less, Equal, Greater, nat_cmp, string_bytes, string_cmp, bytes_eq, refl, sym, ap, ◌∙◌, subst, arith}
 use Rattle.std.specs.Prelude.{is_some, IsSome, IfSome, ◌↔◌, if◌then◌else◌}
 use Rattle.std.specs.Cmp.Lexicographic.{slice_cmp}
@@ -151,34 +151,6 @@ ascending_first (suc n) (member k d ms) h = (behind_first n k ms h.0, ascending_
 
 -- ---- members that are no texts
 
-text_put_at : (k l : List ℕ) (d e : Data) (ms : Members) (o : Ordering) → is_some (as_str d) ≡ true → is_some (as_str e) ≡ true → name_texts ms ≡ true
-    → name_texts (put k d ms) ≡ true
-    → name_texts (match_ordering o (member k d (member l e ms)) (member l d ms) (member l e (put k d ms))) ≡ true
-text_put_at k l d e ms Less text old others more = rw (text, old, others)
-text_put_at k l d e ms Equal text old others more = rw (text, others)
-text_put_at k l d e ms Greater text old others more = rw (old, more)
-
--- texts, and a text put in
-pub text_put : (k : List ℕ) (d : Data) (ms : Members) → is_some (as_str d) ≡ true → name_texts ms ≡ true → name_texts (put k d ms) ≡ true
-text_put k d no_members text h = rw text
-text_put k d (member l e ms) text h =
-    let p = and_parts (is_some (as_str e)) (name_texts ms) h in
-    text_put_at k l d e ms (slice_cmp nat_cmp k l) text p.0 p.1 (text_put k d ms text p.1)
-
-other_at : (b : Bool) (q k : List ℕ) (d : Data) (ms ns : Members) → bytes_eq q k ≡ b → is_no_text (get_member q ms) ≡ is_no_text (get_member q ns)
-    → is_no_text (get_member q (put k d ms)) ≡ is_no_text (get_member q (put k d ns))
-other_at true q k d ms ns is same =
-    let at : q ≡ k = (bytes_eq-Decides q k).0 is in
-    subst (λ j. is_no_text (get_member j (put k d ms)) ≡ is_no_text (get_member j (put k d ns))) (sym at)
-    (ap is_no_text (get_member-put k d ms ∙ sym (get_member-put k d ns)))
-other_at false q k d ms ns is same =
-    let apart : q ≡ k → ⊥ = λ at. false≢true (sym is ∙ (bytes_eq-Decides q k).1 at) in
-    ap is_no_text (get_member-put_other q k d ms apart) ∙ same ∙ sym (ap is_no_text (get_member-put_other q k d ns apart))
-
-pub other_put : (q k : List ℕ) (d : Data) (ms ns : Members) → is_no_text (get_member q ms) ≡ is_no_text (get_member q ns)
-    → is_no_text (get_member q (put k d ms)) ≡ is_no_text (get_member q (put k d ns))
-other_put q k d ms ns same = other_at (bytes_eq q k) q k d ms ns refl same
-
 none_chosen : (o : Ordering) (a : Option Data) (d : Data) → is_no_text a ≡ false → is_some (as_str d) ≡ true
     → is_no_text (match_ordering o a (Some d) a) ≡ false
 none_chosen Less a d h text = h
@@ -202,7 +174,8 @@ rest_at q k d ms Equal is behind h =
     ap is_no_text (subst (λ j. get_member j ms ≡ None) (sym (exact_bytes q k is)) (none_behind k ms behind))
 rest_at q k d ms Greater is behind h = h
 
-texts_from : (ms : Members) → AreAscending ms → ((q : List ℕ) → is_no_text (get_member q ms) ≡ false) → name_texts ms ≡ true
+-- of members that ascend, all are texts where no name has anything else
+pub texts_from : (ms : Members) → AreAscending ms → ((q : List ℕ) → is_no_text (get_member q ms) ≡ false) → name_texts ms ≡ true
 texts_from no_members up none = refl
 texts_from (member k d ms) up none =
     let same : slice_cmp nat_cmp k k ≡ Equal = tied_itself nat_list_cmp_total k in
@@ -211,15 +184,23 @@ texts_from (member k d ms) up none =
     let text : is_some (as_str d) ≡ true = not-false (is_some (as_str d)) here in
     rw (text, texts_from ms up.1 (λ q. rest_at q k d ms (slice_cmp nat_cmp q k) refl up.0 (none q)))
 
-same_texts_at : (ms ns : Members) (a b : Bool) → name_texts ms ≡ a → name_texts ns ≡ b → AreAscending ms → AreAscending ns
-    → ((q : List ℕ) → is_no_text (get_member q ms) ≡ is_no_text (get_member q ns)) → a ≡ b
-same_texts_at ms ns true true ea eb h hs same = refl
-same_texts_at ms ns true false ea eb h hs same =
-    sym ea ∙ ea ∙ sym (texts_from ns hs (λ q. sym (same q) ∙ texts_no_other q ms ea)) ∙ eb
-same_texts_at ms ns false true ea eb h hs same = sym ea ∙ texts_from ms h (λ q. same q ∙ texts_no_other q ns eb)
-same_texts_at ms ns false false ea eb h hs same = refl
+found_behind : (q k : List ℕ) (d : Data) (ms : Members) (o : Ordering) → slice_cmp nat_cmp q k ≡ o → AreBehind k ms
+    → is_no_text (get_member q ms) ≡ true → is_no_text (match_ordering o (get_member q ms) (Some d) (get_member q ms)) ≡ true
+found_behind q k d ms Less is behind h = h
+found_behind q k d ms Equal is behind h =
+    absurd (false≢true (sym (ap is_no_text (subst (λ j. get_member j ms ≡ None) (sym (exact_bytes q k is)) (none_behind k ms behind))) ∙ h))
+found_behind q k d ms Greater is behind h = h
 
--- of members that ascend, all are texts where no name has anything else
-pub same_texts : (ms ns : Members) → AreAscending ms → AreAscending ns
-    → ((q : List ℕ) → is_no_text (get_member q ms) ≡ is_no_text (get_member q ns)) → name_texts ms ≡ name_texts ns
-same_texts ms ns h hs same = same_texts_at ms ns (name_texts ms) (name_texts ns) refl refl h hs same
+found_at : (k : List ℕ) (d : Data) (ms : Members) (b : Bool) → is_some (as_str d) ≡ b → AreBehind k ms → name_texts (member k d ms) ≡ false
+    → (name_texts ms ≡ false → (q : List ℕ) × (is_no_text (get_member q ms) ≡ true))
+    → (q : List ℕ) × (is_no_text (get_member q (member k d ms)) ≡ true)
+found_at k d ms false is behind h more =
+    let same : slice_cmp nat_cmp k k ≡ Equal = tied_itself nat_list_cmp_total k in (k, rw (same, is))
+found_at k d ms true is behind h more =
+    let rest = more (sym (ap (λ b. b && name_texts ms) is) ∙ h) in
+    (rest.0, found_behind rest.0 k d ms (slice_cmp nat_cmp rest.0 k) refl behind rest.1)
+
+-- of members that ascend and are not all texts, some name has something else
+pub other_found : (ms : Members) → AreAscending ms → name_texts ms ≡ false → (q : List ℕ) × (is_no_text (get_member q ms) ≡ true)
+other_found no_members up h = absurd (false≢true (sym h))
+other_found (member k d ms) up h = found_at k d ms (is_some (as_str d)) refl up.0 h (λ rest. other_found ms up.1 rest)

@@ -3,6 +3,7 @@ mod Turns
 pub mod FirstNames
 pub mod TrimLaws
 mod ListLaws
+mod Others
 mod ObjectLaws
 pub mod KeptParts
 pub mod OrderedValues

@@ -15,11 +15,11 @@ use Rattle.serde_json.specs.declared.value.Value.{Null, Object, the_lemmas}
 use Rattle.serde_json.proofs.Views.{members_len-members_view, view-Object, Entry}
 use Rattle.cert_json.specs.Shape.{name_texts}
 use Rattle.cert_json.specs.Trim.{below, exceeds, keeps_first, first_names, short_equations, short_object, trim, trim_members}
-use Rattle.cert_json.specs.Objects.{AreAscending, IsShortObject, is_no_text}
+use Rattle.cert_json.specs.Objects.{AreAscending, TellsOthers, IsShortObject, is_no_text}
 use Rattle.cert_json.specs.declared.short_object.ShortObject.{ShortObject}
 use Rattle.cert_json.specs.declared.level.Level.{Level}
 use Rattle.cert_json.specs.declared.level.Level.TheVariants.{File, FileMember, Node, NodeMember, Deeper}
-use Rattle.cert_json.proofs.FirstNames.{first_put, ascending_put, text_put, other_put, texts_no_other, same_texts}
+use Rattle.cert_json.proofs.FirstNames.{first_put, ascending_put}
 use Rattle.cert_json.proofs.TrimLaws.{few_names, many_names, trim-members_len}
 
 trim-choice : (v : Level) (o : Ordering) (a b c : Members)
@@ -45,59 +45,45 @@ kept_put v w k d x before after ms level value members put_in =
 
 -- ---- what is kept of one member more
 
-texts_before : (a b : Bool) (P : Type 0) → (a && b) ≡ true → (a ≡ true → b ≡ true → P) → P
-texts_before a b P e h = let p = and_parts a b e in h p.0 p.1
-
--- where the first names are kept, and all were texts
-pub text_added : (v : Level) (k : List ℕ) (d : Data) (ms : Members) (before after : ShortObject) → keeps_first v ≡ true → before.all_texts ≡ true
-    → is_some (as_str d) ≡ true
+-- where the first names are kept
+pub first_added : (v : Level) (k : List ℕ) (d : Data) (ms : Members) (before after : ShortObject) → keeps_first v ≡ true
     → first_names (members_view after.members.entries) ≡ first_names (put k d (members_view before.members.entries))
-    → name_texts (members_view after.members.entries) ≡ true → AreAscending (members_view after.members.entries)
+    → (TellsOthers ms (members_view before.others.entries) before.is_partial
+    → TellsOthers (put k d ms) (members_view after.others.entries) after.is_partial)
     → IsShortObject v ms before → IsShortObject v (put k d ms) after
-text_added v k d ms before after keeps old text first texts up h =
-    let all : name_texts (put k d ms) ≡ true = text_put k d ms text (h.texts old) in
-    let now : Members = members_view after.members.entries in
-    record {
-      whole = λ none. absurd (false≢true (sym none ∙ keeps));
-      first = first ∙ first_put 385 k d (members_view before.members.entries) ∙ ap (λ ns. first_names (put k d ns)) h.first ∙ sym (first_put 385 k d ms);
-      others = λ q. texts_no_other q now texts ∙ sym (texts_no_other q (put k d ms) all);
-      ascending = ascending_put k d ms h.ascending;
-      kept_ascending = up;
-      texts = λ _. all;
-      kept_texts = λ _. texts;
-    }
+first_added v k d ms before after keeps first noted h = record {
+  whole = λ none. absurd (false≢true (sym none ∙ keeps));
+  first = first ∙ first_put 385 k d (members_view before.members.entries) ∙ ap (λ ns. first_names (put k d ns)) h.first ∙ sym (first_put 385 k d ms);
+  others = λ first. noted (h.others first);
+  ascending = ascending_put k d ms h.ascending;
+}
 
 -- and elsewhere
-pub any_added : (v : Level) (k : List ℕ) (d : Data) (ms : Members) (before after : ShortObject)
-    → after.all_texts ≡ (before.all_texts && is_some (as_str d))
+pub any_added : (v : Level) (k : List ℕ) (d : Data) (ms : Members) (before after : ShortObject) → keeps_first v ≡ false
     → members_view after.members.entries ≡ put k d (members_view before.members.entries)
     → IsShortObject v ms before → IsShortObject v (put k d ms) after
-any_added v k d ms before after flag is h =
+any_added v k d ms before after none is h =
     let old : Members = members_view before.members.entries in
-    let new : Members = members_view after.members.entries in
     record {
       whole = λ none. is ∙ ap (put k d) (h.whole none);
       first = ap first_names is ∙ first_put 385 k d old ∙ ap (λ ns. first_names (put k d ns)) h.first ∙ sym (first_put 385 k d ms);
-      others = λ q. ap (λ ns. is_no_text (get_member q ns)) is ∙ other_put q k d old ms (h.others q);
+      others = λ first. absurd (false≢true (sym none ∙ first));
       ascending = ascending_put k d ms h.ascending;
-      kept_ascending = subst AreAscending (sym is) (ascending_put k d old h.kept_ascending);
-      texts = λ all. texts_before before.all_texts (is_some (as_str d)) _ (sym flag ∙ all) (λ a text. text_put k d ms text (h.texts a));
-      kept_texts = λ all. texts_before before.all_texts (is_some (as_str d)) _ (sym flag ∙ all)
-          (λ a text. ap name_texts is ∙ text_put k d old text (h.kept_texts a));
     }
 
 -- an object of no members
-pub none_added : (v : Level) (o : ShortObject) → o.members.entries ≡ [] → IsShortObject v no_members o
-none_added v o none =
+pub none_added : (v : Level) (o : ShortObject) → o.members.entries ≡ [] → o.others.entries ≡ [] → IsShortObject v no_members o
+none_added v o none no_others =
     let same : members_view o.members.entries ≡ no_members = ap members_view none in
     record {
       whole = λ _. same;
       first = ap first_names same;
-      others = λ q. ap (λ ns. is_no_text (get_member q ns)) same;
+      others = λ _. record {
+        agree = λ q _. ap (λ es. is_no_text (get_member q (members_view es))) no_others;
+        rest = λ _ q _. refl;
+        ascending = subst (λ es. AreAscending (members_view es)) (sym no_others) tt;
+      };
       ascending = tt;
-      kept_ascending = subst AreAscending (sym same) tt;
-      texts = λ _. refl;
-      kept_texts = λ _. ap name_texts same;
     }
 
 -- ---- names only get more
@@ -137,15 +123,6 @@ not_first FileMember n e = refl
 not_first Node n e = refl
 not_first NodeMember n e = absurd (false≢true e)
 not_first Deeper n e = refl
-
--- the first names of equations
-pub kept_equations : (v : Level) (o : ShortObject) (ms : Members) → keeps_first v ≡ true → IsShortObject v ms o
-    → short_equations (members_view o.members.entries) ≡ short_object v ms
-kept_equations v o ms keeps h =
-    let same : short_equations (members_view o.members.entries) ≡ short_equations ms =
-    ap₂ (λ (b : Bool) (ns : Members). if b then object ns else null)
-    (same_texts (members_view o.members.entries) ms h.kept_ascending h.ascending h.others) h.first in
-    same ∙ sym (rw keeps)
 
 pub kept_object : (v : Level) (o : ShortObject) (ms : Members) → keeps_first v ≡ false → IsShortObject v ms o
     → exceeds v (length o.members.entries) ≡ false → view (Object o.members) ≡ short_object v ms

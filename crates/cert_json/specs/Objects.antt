@@ -6,7 +6,6 @@ use Rattle.std.specs.declared.cmp.Ordering.TheVariants.{Less}
 use Rattle.serde_json.specs.Data.{Data, Members, no_members, member}
 use Rattle.serde_json.specs.Find.{get_member, as_str}
 use Rattle.serde_json.specs.View.{members_view}
-use Rattle.cert_json.specs.Shape.{name_texts}
 use Rattle.cert_json.specs.Trim.{keeps_first, first_names}
 use Rattle.cert_json.specs.declared.level.Level.{Level}
 use Rattle.cert_json.specs.declared.short_object.ShortObject.{ShortObject}
@@ -26,12 +25,16 @@ abbrev pub is_no_text : Option Data → Bool
 is_no_text None = false
 is_no_text (Some d) = not (is_some (as_str d))
 
--- what is kept of these members at a level: where the first names are kept, these, and each member that is no text
+-- of the names that are noted, whether the last value is a text, and of no other name is it anything else, where none was
+-- left out
+pub record TellsOthers (ms noted : Members) (is_partial : Bool) : Type 0 where
+  pub agree : (q : List ℕ) → is_some (get_member q noted) ≡ true → is_no_text (get_member q noted) ≡ is_no_text (get_member q ms)
+  pub rest : is_partial ≡ false → (q : List ℕ) → is_some (get_member q noted) ≡ false → is_no_text (get_member q ms) ≡ false
+  pub ascending : AreAscending noted
+
+-- what is kept of these members at a level: where the first names are kept, these, and which values are no texts
 pub record IsShortObject (v : Level) (ms : Members) (o : ShortObject) : Type 0 where
   pub whole : keeps_first v ≡ false → members_view o.members.entries ≡ ms
   pub first : first_names (members_view o.members.entries) ≡ first_names ms
-  pub others : (q : List ℕ) → is_no_text (get_member q (members_view o.members.entries)) ≡ is_no_text (get_member q ms)
+  pub others : keeps_first v ≡ true → TellsOthers ms (members_view o.others.entries) o.is_partial
   pub ascending : AreAscending ms
-  pub kept_ascending : AreAscending (members_view o.members.entries)
-  pub texts : o.all_texts ≡ true → name_texts ms ≡ true
-  pub kept_texts : o.all_texts ≡ true → name_texts (members_view o.members.entries) ≡ true

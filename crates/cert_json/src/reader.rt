@@ -1,14 +1,33 @@
 //! Reading the JSON of a certificate.
 
-ghost use Rattle.std.specs.Prelude.{IfOk, IfErr};
+ghost use Rattle.std.specs.Prelude.{◌≡◌, ◌≢◌, Some, None, Err, IfOk, IfErr};
+ghost use Rattle.serde_json.specs.Data.{Data};
+ghost use Rattle.serde_json.specs.Read.{read as read_text};
 ghost use Rattle.serde_json.specs.View.{view};
+ghost use Rattle.cert_json.specs.Trim.{trim};
 ghost use Rattle.cert_json.specs.Refusals.{IsShortFileOf, IsRefusedAsShape};
+ghost use Rattle.cert_json.specs.declared.level.Level.TheVariants.{File};
 
 use crate::faults::FileError;
 use crate::shape::{has_too_many, is_file};
 use crate::trim::{Fault, read_trimmed};
 use serde_json::Value;
 use std::alloc::Global;
+
+// The value of a text without what no certificate has in a list or an object. Of the names whose values are no texts some are
+// kept, and where that tells too little, the text is read once more and all are kept.
+fn read_again(alloc: Global, text: &str) -> Result<Value, Fault>
+    ensures ok { IfOk result (λ v. (d : Data) × (read_text text.now ≡ Some d) × (view v ≡ trim File d)) }
+    ensures err { result ≡ Err Fault.NotJson → read_text text.now ≡ None }
+    ensures settled { result ≢ Err Fault.Again }
+{
+    match read_trimmed(alloc, text, false) {
+        Ok(value) => Ok(value),
+        Err(Fault::Again) => read_trimmed(alloc, text, true),
+        Err(Fault::NotJson) => Err(Fault::NotJson),
+        Err(Fault::NoMemory) => Err(Fault::NoMemory),
+    }
+}
 
 /// The JSON value of a certificate's bytes, in time linear in them. Of the equations of a node the first 385 are kept, in byte
 /// order of their names.
@@ -24,10 +43,11 @@ pub fn read_file(alloc: Global, bytes: &[u8]) -> Result<Value, FileError>
         Ok(text) => text,
         Err(_) => return Err(FileError::NotJson),
     };
-    let value = match read_trimmed(alloc, text) {
+    let value = match read_again(alloc, text) {
         Ok(found) => found,
         Err(Fault::NotJson) => return Err(FileError::NotJson),
         Err(Fault::NoMemory) => return Err(FileError::NoMemory),
+        Err(Fault::Again) => unreachable!(),
     };
     if !is_file(&value) {
         return Err(FileError::Shape);

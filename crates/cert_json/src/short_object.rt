@@ -1,12 +1,11 @@
 //! Objects of which is kept what a certificate may have.
 
-ghost use Rattle.std.specs.Prelude.{◌≡◌, ◌&&◌, [], length, true, false, IsTrue, OnOk, is_some};
+ghost use Rattle.std.specs.Prelude.{◌≡◌, [], length, true, false, None, IsTrue, IfSome, OnOk, is_some};
 ghost use Rattle.serde_json.specs.Data.{Data, Members, no_members, put};
-ghost use Rattle.serde_json.specs.Find.{as_str};
+ghost use Rattle.serde_json.specs.Find.{as_str, get_member};
 ghost use Rattle.serde_json.specs.View.{view, members_view};
-ghost use Rattle.cert_json.specs.Shape.{name_texts as are_name_texts};
-ghost use Rattle.cert_json.specs.Trim.{exceeds, keeps_first, first_names, short_object, short_equations};
-ghost use Rattle.cert_json.specs.Objects.{IsShortObject, AreAscending};
+ghost use Rattle.cert_json.specs.Trim.{exceeds, first_names, short_object, short_equations};
+ghost use Rattle.cert_json.specs.Objects.{IsShortObject, AreAscending, TellsOthers};
 
 use crate::level::Level;
 use crate::shape::name_texts;
@@ -19,8 +18,10 @@ use std::cmp::Ordering;
 pub struct ShortObject {
     /// The members that are kept.
     pub members: Map<String, Value>,
-    /// Whether each member that was put in is a text.
-    pub all_texts: bool,
+    /// Where the first names are kept: names of which a value was no text, each with a text where its last value is one.
+    pub others: Map<String, Value>,
+    /// Whether such names were left out.
+    pub is_partial: bool,
 }
 
 /// An object of no members.
@@ -28,10 +29,12 @@ pub struct ShortObject {
 pub fn empty_object(alloc: Global) -> ShortObject
     ensures short { (level : Level) → IsShortObject level no_members result }
     ensures none { result.members.entries ≡ [] }
+    ensures whole { result.is_partial ≡ false }
 {
     ShortObject {
         members: Map::new(alloc),
-        all_texts: true,
+        others: Map::new(alloc),
+        is_partial: false,
     }
 }
 
@@ -82,20 +85,16 @@ fn cut(found: &mut Map<String, Value>)
     }
 }
 
-// Puts a text in, of which nothing is kept behind the first names. The one refusal is out of memory.
+// Puts a member in, of which nothing is kept behind the first names. The one refusal is out of memory.
 #[inline(always)]
-fn put_text(
+fn put_first(
     alloc: Global,
     found: &mut Map<String, Value>,
     name: &str,
     member: Value,
 ) -> Result<(), AllocError>
-    ensures first { OnOk result (first_names (members_view found.new.entries)
+    ensures { OnOk result (first_names (members_view found.new.entries)
         ≡ first_names (put name.now (view member) (members_view found.old.entries))) }
-    ensures texts { OnOk result (is_some (as_str (view member)) ≡ true
-        → are_name_texts (members_view found.old.entries) ≡ true → are_name_texts (members_view found.new.entries) ≡ true) }
-    ensures ascending { OnOk result (AreAscending (members_view found.old.entries)
-        → AreAscending (members_view found.new.entries)) }
 {
     if is_past(found, name) {
         return Ok(());
@@ -105,23 +104,56 @@ fn put_text(
     Ok(())
 }
 
-// Whether each member is a text with one more.
+// A value that is a text, or one that is none.
 #[inline(always)]
-fn stay_texts(all_texts: bool, member: &Value) -> bool
-    ensures { result ≡ (all_texts && is_some (as_str (view member.now))) }
+fn sign(alloc: Global, is_text: bool) -> Value
+    ensures { is_some (as_str (view result)) ≡ is_text }
 {
-    all_texts && member.is_string()
+    if is_text {
+        Value::String(String::new(alloc))
+    } else {
+        Value::Null
+    }
 }
 
-// Whether nothing is kept behind the first names.
+// Whether a name is noted.
 #[inline(always)]
-fn is_cut(level: Level, all_texts: bool) -> bool
-    ensures { result ≡ (keeps_first level && all_texts) }
+fn is_noted(others: &Map<String, Value>, name: &str) -> bool
+    ensures { result ≡ is_some (get_member name.now (members_view others.now.entries)) }
 {
-    level.keeps_first() && all_texts
+    others.contains_key(name)
 }
 
-/// Puts a member in, over the value of its name where there is one. The one refusal is out of memory.
+// Notes whether the value of a name is a text: of each name that has had another value, or, where not all are to be kept, of
+// so many such names. The one refusal is out of memory.
+#[inline(always)]
+fn note_value(
+    alloc: Global,
+    object: &mut ShortObject,
+    name: &str,
+    is_text: bool,
+    whole: bool,
+) -> Result<(), AllocError>
+    ensures others { OnOk result ((ms : Members) → (d : Data) → is_some (as_str d) ≡ is_text
+        → TellsOthers ms (members_view object.old.others.entries) object.old.is_partial
+        → TellsOthers (put name.now d ms) (members_view object.new.others.entries) object.new.is_partial) }
+    ensures members { object.new.members ≡ object.old.members }
+    ensures whole { whole ≡ true → object.old.is_partial ≡ false → object.new.is_partial ≡ false }
+{
+    let is_new = !is_noted(&object.others, name);
+    if is_new && is_text {
+        return Ok(());
+    }
+    if is_new && !whole && object.others.len() >= 385 {
+        object.is_partial = true;
+        return Ok(());
+    }
+    put_member(alloc, &mut object.others, name, sign(alloc, is_text))?;
+    Ok(())
+}
+
+/// Puts a member in, over the value of its name where there is one. Where `whole` is said, no name is left out of what is noted
+/// of values that are no texts. The one refusal is out of memory.
 #[inline(always)]
 pub fn add_member(
     alloc: Global,
@@ -129,39 +161,49 @@ pub fn add_member(
     level: Level,
     name: &str,
     member: Value,
+    whole: bool,
 ) -> Result<(), AllocError>
-    ensures { OnOk result ((ms : Members)
+    ensures short { OnOk result ((ms : Members)
         → IsShortObject level ms object.old → IsShortObject level (put name.now (view member) ms) object.new) }
+    ensures whole { OnOk result (whole ≡ true → object.old.is_partial ≡ false → object.new.is_partial ≡ false) }
 {
-    object.all_texts = stay_texts(object.all_texts, &member);
-    if is_cut(level, object.all_texts) {
-        put_text(alloc, &mut object.members, name, member)?;
+    if !level.keeps_first() {
+        put_member(alloc, &mut object.members, name, member)?;
         return Ok(());
     }
-    put_member(alloc, &mut object.members, name, member)?;
+    note_value(alloc, object, name, member.is_string(), whole)?;
+    put_first(alloc, &mut object.members, name, member)?;
     Ok(())
 }
 
-// The value of equations, or null where they are not all texts.
-fn value_of_equations(found: Map<String, Value>) -> Value
-    ensures { view result ≡ short_equations (members_view found.entries) }
+// The value of equations, or null where they are not all texts; none where what was left out would tell.
+fn value_of_equations(object: ShortObject) -> Option<Value>
+    ensures value { IfSome result (λ v. (ms : Members)
+        → first_names (members_view object.members.entries) ≡ first_names ms → AreAscending ms
+        → TellsOthers ms (members_view object.others.entries) object.is_partial → view v ≡ short_equations ms) }
+    ensures none { result ≡ None → object.is_partial ≡ true }
 {
-    if !name_texts(&found) {
-        return Value::Null;
+    if !name_texts(&object.others) {
+        return Some(Value::Null);
     }
-    let mut found = found;
+    if object.is_partial {
+        return None;
+    }
+    let mut found = object.members;
     cut(&mut found);
-    Value::Object(found)
+    Some(Value::Object(found))
 }
 
-/// The object of what was kept, or null where the first names are kept and are not all texts.
-pub fn value_of_object(object: ShortObject, level: Level) -> Value
-    ensures { (ms : Members) → IsShortObject level ms object → exceeds level (length object.members.entries) ≡ false
-        → view result ≡ short_object level ms }
+/// The object of what was kept, or null where the first names are kept and are not all texts. None where names were left out,
+/// of which one might have a value that is no text.
+pub fn value_of_object(object: ShortObject, level: Level) -> Option<Value>
+    ensures value { IfSome result (λ v. (ms : Members)
+        → IsShortObject level ms object → exceeds level (length object.members.entries) ≡ false → view v ≡ short_object level ms) }
+    ensures none { result ≡ None → object.is_partial ≡ true }
 {
     if level.keeps_first() {
-        value_of_equations(object.members)
+        value_of_equations(object)
     } else {
-        Value::Object(object.members)
+        Some(Value::Object(object.members))
     }
 }

@@ -1,6 +1,6 @@
 //! Reading JSON without what no certificate has in a list or an object.
 
-ghost use Rattle.std.specs.Prelude.{◌≡◌, ◌<◌, length, Some, None, Err, IfOk, OnOk};
+ghost use Rattle.std.specs.Prelude.{◌≡◌, ◌<◌, length, false, Some, None, Err, IfOk, OnOk};
 ghost use Rattle.json.specs.Json.{value, items, members};
 ghost use Rattle.serde_json.specs.Data.{Data, Items, Members, no_members};
 ghost use Rattle.serde_json.specs.Read.{of_json, of_items, of_members, converted, read as read_text};
@@ -22,6 +22,8 @@ use std::alloc::{AllocError, Global};
 pub enum Fault {
     /// The text is not JSON.
     NotJson,
+    /// Names were left out, of which one might have a value that is no text.
+    Again,
     /// There is no memory.
     NoMemory,
 }
@@ -50,10 +52,17 @@ impl From<AllocError> for Fault {
 
 #[cycle(read)]
 #[inline(always)]
-fn read(alloc: Global, reader: &mut Reader<'_>, depth: usize, level: Level) -> Result<Value, Fault>
+fn read(
+    alloc: Global,
+    reader: &mut Reader<'_>,
+    depth: usize,
+    level: Level,
+    whole: bool,
+) -> Result<Value, Fault>
     ensures ok { IfOk result
         (λ v. (d : Data) × (converted of_json (value depth reader.old) ≡ Some (d, reader.new)) × (view v ≡ trim level d)) }
     ensures shorter { OnOk result (length reader.new < length reader.old) }
+    ensures again { result ≡ Err Fault.Again → whole ≡ false }
     ensures err { result ≡ Err Fault.NotJson → converted of_json (value depth reader.old) ≡ None }
 {
     let token = reader.next().ok_or(Invalid)?;
@@ -70,13 +79,13 @@ fn read(alloc: Global, reader: &mut Reader<'_>, depth: usize, level: Level) -> R
             if depth == 0 {
                 return Err(Fault::NotJson);
             }
-            Ok(read_items(alloc, reader, depth - 1, level.below())?)
+            Ok(read_items(alloc, reader, depth - 1, level.below(), whole)?)
         }
         Token::BeginObject => {
             if depth == 0 {
                 return Err(Fault::NotJson);
             }
-            Ok(read_members(alloc, reader, depth - 1, level)?)
+            Ok(read_members(alloc, reader, depth - 1, level, whole)?)
         }
     }
 }
@@ -89,16 +98,18 @@ fn read_items(
     reader: &mut Reader<'_>,
     depth: usize,
     level: Level,
+    whole: bool,
 ) -> Result<Value, Fault>
     ensures ok { IfOk result
         (λ v. (ds : Items) × (converted of_items (items (value depth) (length reader.old) reader.old) ≡ Some (ds, reader.new))
         × (view v ≡ short_list (trim_items level ds))) }
     ensures shorter { OnOk result (length reader.new < length reader.old) }
+    ensures again { result ≡ Err Fault.Again → whole ≡ false }
     ensures err { result ≡ Err Fault.NotJson → converted of_items (items (value depth) (length reader.old) reader.old) ≡ None }
 {
     let mut found = empty_list(alloc);
     'items: while !reader.take_end_array() {
-        let item = read(alloc, reader, depth, level)?;
+        let item = read(alloc, reader, depth, level, whole)?;
         add_to_list(&mut found, item)?;
         if is_settled(&found) {
             let texts = skip_items(reader, depth)?;
@@ -117,37 +128,44 @@ fn read_members(
     reader: &mut Reader<'_>,
     depth: usize,
     level: Level,
+    whole: bool,
 ) -> Result<Value, Fault>
     ensures ok { IfOk result
         (λ v. (ms : Members)
         × (converted (λ es. of_members es no_members) (members (value depth) (length reader.old) reader.old)
         ≡ Some (ms, reader.new)) × (view v ≡ short_object level (trim_members (below level) ms))) }
     ensures shorter { OnOk result (length reader.new < length reader.old) }
+    ensures again { result ≡ Err Fault.Again → whole ≡ false }
     ensures err { result ≡ Err Fault.NotJson
         → converted (λ es. of_members es no_members) (members (value depth) (length reader.old) reader.old) ≡ None }
 {
     let mut found = empty_object(alloc);
     'members: while let Some(name) = reader.next_key()? {
-        let member = read(alloc, reader, depth, level.below())?;
-        add_member(alloc, &mut found, level, name, member)?;
+        let member = read(alloc, reader, depth, level.below(), whole)?;
+        add_member(alloc, &mut found, level, name, member, whole)?;
         if level.exceeds(found.members.len()) {
             skip_members(reader, depth)?;
             return Ok(Value::Null);
         }
     }
-    Ok(value_of_object(found, level))
+    match value_of_object(found, level) {
+        Some(value) => Ok(value),
+        None => Err(Fault::Again),
+    }
 }
 
 /// The value of a text without what no certificate has in a list or an object.
 ///
-/// `NotJson` comes only where the text is not JSON, and `NoMemory` may come at any time.
-pub fn read_trimmed(alloc: Global, text: &str) -> Result<Value, Fault>
+/// `NotJson` comes only where the text is not JSON, `Again` only where names may be left out, which `whole` forbids, and
+/// `NoMemory` may come at any time.
+pub fn read_trimmed(alloc: Global, text: &str, whole: bool) -> Result<Value, Fault>
     ensures ok { IfOk result (λ v. (d : Data) × (read_text text.now ≡ Some d) × (view v ≡ trim File d)) }
     ensures err { result ≡ Err Fault.NotJson → read_text text.now ≡ None }
+    ensures again { result ≡ Err Fault.Again → whole ≡ false }
 {
     let mut scratch = Scratch::new(alloc);
     let mut reader = Reader::new(text, &mut scratch)?;
-    let value = read(alloc, &mut reader, 127, Level::File)?;
+    let value = read(alloc, &mut reader, 127, Level::File, whole)?;
     if reader.next().is_some() {
         return Err(Fault::NotJson);
     }

@@ -1,21 +1,17 @@
-use Rattle.std.proofs.Common.{sym, ◌∙◌}
-use Rattle.std.specs.Prelude.{is_some}
-use Rattle.std.proofs.lemmas.Bool.{and_parts}
-use Rattle.serde_json.specs.Find.{as_str}
-use Rattle.serde_json.specs.View.{view}
-use Rattle.cert_json.specs.Trim.{keeps_first}
-use Rattle.cert_json.proofs.ObjectLaws.{text_added, any_added}
+use Rattle.std.proofs.Common.{sym, ap, ◌∙◌}
+use Rattle.serde_json.specs.View.{view, members_view}
+use Rattle.cert_json.specs.Trim.{first_names}
+use Rattle.serde_json.specs.Data.{put}
+use Rattle.cert_json.proofs.ObjectLaws.{first_added, any_added}
 use Rattle.cert_json.proofs.short_object.add_member.Goals as goal
 
-pub returns-then-is_cut : goal.returns-then-is_cut
-returns-then-is_cut c ms h =
-    let d = view c.args.member in
-    let cuts = and_parts (keeps_first c.args.level) c.stay_texts-object.result (sym c.if-is_cut.ensures) in
-    let texts = and_parts c.args.object.now.all_texts (is_some (as_str d)) (sym c.stay_texts-object.ensures ∙ cuts.1) in
-    let done = c.in_ok-put_text.ensures in
-    text_added c.args.level c.args.name.now d ms c.args.object.now _ cuts.0 texts.0 texts.1 done.first (done.texts texts.1 (h.kept_texts texts.0))
-    (done.ascending h.kept_ascending) h
+pub returns-then-not-keeps_first-clause-short : goal.returns-then-not-keeps_first-clause-short
+returns-then-not-keeps_first-clause-short c ms h =
+    any_added c.args.level c.args.name.now (view c.args.member) ms c.args.object.now _ (sym c.if-not-keeps_first.ensures) c.in_ok-put_member.ensures h
 
-pub returns : goal.returns
-returns c ms h =
-    any_added c.args.level c.args.name.now (view c.args.member) ms c.args.object.now _ c.stay_texts-object.ensures c.in_ok-put_member.ensures h
+pub returns-clause-short : goal.returns-clause-short
+returns-clause-short c ms h =
+    let d = view c.args.member in
+    first_added c.args.level c.args.name.now d ms c.args.object.now _ (sym c.if-not-keeps_first.ensures)
+    (c.in_ok-put_first.ensures ∙ ap (λ m. first_names (put c.args.name.now d (members_view m.entries))) c.in_ok-note_value.ensures.members)
+    (c.in_ok-note_value.ensures.others ms d (sym c.is_string.ensures)) h

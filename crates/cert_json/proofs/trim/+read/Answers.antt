@@ -219,7 +219,7 @@ pub read_members-members-init : goal.read_members-members-init
 read_members-members-init t c =
     let made = c.empty_object-found.ensures in
     let few = ap (λ es. exceeds c.args.level (length es)) made.none ∙ none_exceed c.args.level in
-    (length c.args.reader.now, omega arith, no_members, refl, made.short c.args.level, few, omega arith)
+    (length c.args.reader.now, omega arith, no_members, refl, made.short c.args.level, few, omega arith, λ _. made.whole)
 
 pub read_members-returns-in_err-name-clause-err : goal.read_members-returns-in_err-name-clause-err
 read_members-returns-in_err-name-clause-err t c refused =
@@ -259,9 +259,10 @@ read_members-members-preserved t c =
       omega (arith, l.invariant.1),
       put k d old,
       l.invariant.3 ∙ member_read p old n k l.reader s r d (omega (arith, l.invariant.1)) named done.ok.1,
-      kept_put c.args.level c.below.result k d (view v) _ _ old c.below.ensures done.ok.2 l.invariant.4 c.in_ok-add_member.ensures,
+      kept_put c.args.level c.below.result k d (view v) _ _ old c.below.ensures done.ok.2 l.invariant.4 c.in_ok-add_member.ensures.short,
       ap (exceeds c.args.level) (sym c.len.ensures.len) ∙ sym c.if-exceeds.ensures,
       omega (arith, l.invariant.6),
+      λ all. c.in_ok-add_member.ensures.whole all (l.invariant.7 all),
     )
 
 pub read_members-returns-in_err-skip_members-clause-err : goal.read_members-returns-in_err-skip_members-clause-err
@@ -301,18 +302,18 @@ read_members-returns-then-exceeds-clause-ok t c =
     let level = c.args.level in
     let object = c.add_member.new.object in
     let same : IsShortObject level (trim_members (below level) (put k d old)) object =
-    kept_put level c.below.result k d (view v) _ _ old c.below.ensures done.ok.2 l.invariant.4 c.in_ok-add_member.ensures in
+    kept_put level c.below.result k d (view v) _ _ old c.below.ensures done.ok.2 l.invariant.4 c.in_ok-add_member.ensures.short in
     let many : exceeds level (length object.members.entries) ≡ true = ap (exceeds level) (sym c.len.ensures.len) ∙ sym c.if-exceeds.ensures in
     let read = l.invariant.3 ∙ member_read p old n k l.reader s r d (omega (arith, l.invariant.1, less, lesser)) named done.ok.1 in
     settled_members level object (put k d old) _ _ _ read same many (c.in_ok-skip_members.ensures.ok (put k d old) (n - 1) enough)
 
-pub read_members-returns-clause-ok : goal.read_members-returns-clause-ok
-read_members-returns-clause-ok t c =
+pub read_members-returns-in-Some-value_of_object-clause-ok : goal.read_members-returns-in-Some-value_of_object-clause-ok
+read_members-returns-in-Some-value_of_object-clause-ok t c =
     let p = value c.args.depth in
     let l = c.members in
     let n = l.invariant.0 in
     let old = l.invariant.2 in (
       old,
       l.invariant.3 ∙ members_over p old n l.reader c.next_key.new.self l.invariant.1 (grind arith),
-      c.value_of_object.ensures (trim_members (below c.args.level) old) l.invariant.4 l.invariant.5,
+      c.in-Some-value_of_object.ensures.value (trim_members (below c.args.level) old) l.invariant.4 l.invariant.5,
     )

@@ -1,4 +1,4 @@
-use Rattle.std.proofs.Common.{◌≡◌, ℕ, ◌+◌, ◌*◌, ◌≤◌, false, length}
+use Rattle.std.proofs.Common.{◌≡◌, ℕ, ◌+◌, ◌*◌, ◌≤◌, true, false, length}
 use Rattle.json.specs.Json.{items, members, value, parse_map}
 use Rattle.serde_json.specs.Data.{Items, Members, no_members}
 use Rattle.serde_json.specs.Read.{of_items, of_members, converted}
@@ -35,6 +35,7 @@ invariant-read_members-members l =
     × IsShortObject l.level (trim_members (below l.level) ms) l.found
     × (exceeds l.level (length l.found.members.entries) ≡ false)
     × (length l.reader ≤ length l.initial.reader)
+    × (l.whole ≡ true → l.found.is_partial ≡ false)
 
 abbrev pub decreases-read_members-members : goal.decreases-read_members-members
 decreases-read_members-members l = length l.reader

@@ -1,0 +1,23 @@
+use Rattle.std.proofs.Common.{sym, ◌∙◌, subst}
+use Rattle.serde_json.specs.Data.{put}
+use Rattle.serde_json.specs.View.{view, members_view}
+use Rattle.cert_json.specs.Objects.{TellsOthers}
+use Rattle.cert_json.proofs.Others.{text_of_new, left_out, put_in}
+use Rattle.cert_json.proofs.short_object.note_value.Goals as goal
+
+pub returns-then-is_text-clause-others : goal.returns-then-is_text-clause-others
+returns-then-is_text-clause-others c ms d is h =
+    let object = c.args.object.now in
+    text_of_new c.args.name.now d ms (members_view object.others.entries) object.is_partial h (sym c.if-is_new.ensures) (is ∙ c.if-is_text.true)
+
+pub returns-then-len-ge385-clause-others : goal.returns-then-len-ge385-clause-others
+returns-then-len-ge385-clause-others c ms d is h =
+    let object = c.args.object.now in
+    left_out c.args.name.now d ms (members_view object.others.entries) object.is_partial h (sym c.if-is_new-2.ensures)
+
+pub returns-clause-others : goal.returns-clause-others
+returns-clause-others c ms d is h =
+    let object = c.args.object.now in
+    let k = c.args.name.now in
+    subst (λ ns. TellsOthers (put k d ms) ns object.is_partial) (sym c.in_ok-put_member.ensures)
+    (put_in k d ms (members_view object.others.entries) object.is_partial h (view c.sign.result) (c.sign.ensures ∙ sym is))

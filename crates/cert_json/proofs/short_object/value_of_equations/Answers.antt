@@ -1,0 +1,17 @@
+use Rattle.std.proofs.Common.{◌≡◌, sym, ap, ◌∙◌, arith, rules}
+use Rattle.serde_json.specs.Data.{null, object}
+use Rattle.serde_json.specs.View.{view, members_view}
+use Rattle.serde_json.specs.declared.value.Value.{Null, the_lemmas}
+use Rattle.serde_json.proofs.Views.{view-Object}
+use Rattle.cert_json.proofs.Others.{some_other, none_other}
+use Rattle.cert_json.proofs.short_object.value_of_equations.Goals as goal
+
+pub returns-then-not-name_texts-clause-value : goal.returns-then-not-name_texts-clause-value
+returns-then-not-name_texts-clause-value c ms first up h =
+    let seen : view Null ≡ null = search (rules, the_lemmas) in
+    seen ∙ sym (some_other ms _ _ h (sym c.if-not-name_texts.ensures))
+
+pub returns-clause-value : goal.returns-clause-value
+returns-clause-value c ms first up h =
+    view-Object c.cut.new.found ∙ ap object (c.cut.ensures ∙ first)
+    ∙ sym (none_other ms _ _ up h (sym c.if-not-name_texts.ensures) c.if-object.false)
