@@ -101,6 +101,20 @@ verify a.fsmd b.fsmd c.json¦{machine}¦{machine}¦¦bad input: c.json: {2}\n¦{
 {"format":1,"nodes":[{"conds":[<<64 times:"x",>>"x"],"equations":{},"left":"start","mode":"both","rank":0,"right":"start"}]}¦TooMany
 {"format":1,"nodes":[{"conds":[<<63 times:"x",>>"x"],"equations":{},"left":"start","mode":"both","rank":0,"right":"start"}]}¦BadTerm node 0
 
+# names with several values
+# Of equal keys the last counts, however many names there are.
+verify a.fsmd b.fsmd c.json¦{machine}¦{machine}¦¦bad input: c.json: {2}\n¦{"format":1,"nodes":[{"conds":[],"equations":{ {1} },"left":"start","mode":"both","rank":0,"right":"start"}]}
+:
+"x":0¦Shape
+"x":0,"x":"0"¦UnknownName node 0
+"x":"0","x":0¦Shape
+<<1 to 1000:"x#":0,>>"y":"0"¦Shape
+<<1 to 1000:"x#":0,>><<1 to 1000:"x#":"0",>>"y":"0"¦UnknownName node 0
+<<1 to 1000:"x#":0,>><<1 to 999:"x#":"0",>>"y":"0"¦Shape
+<<1 to 1000:"x#":0,>><<2 to 1000:"x#":"0",>>"y":"0"¦Shape
+<<1 to 1000:"x#":"0",>><<1 to 1000:"x#":0,>>"y":"0"¦Shape
+<<1 to 1000:"x#":[{}],>><<1 to 1000:"x#":"",>>"x1":null¦Shape
+
 # points
 # A point is the start, the return, or a state with more than one branch that is not the reset state.
 verify a.fsmd b.fsmd c.json¦{sum before a test}¦{sum behind a test}¦¦{3}\n¦{certificate of a sum past a test}«{1}»{2}
