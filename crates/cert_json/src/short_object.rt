@@ -197,8 +197,8 @@ fn value_of_equations(object: ShortObject) -> Option<Value>
 /// The object of what was kept, or null where the first names are kept and are not all texts. None where names were left out,
 /// of which one might have a value that is no text.
 pub fn value_of_object(object: ShortObject, level: Level) -> Option<Value>
-    ensures value { IfSome result (λ v. (ms : Members)
-        → IsShortObject level ms object → exceeds level (length object.members.entries) ≡ false → view v ≡ short_object level ms) }
+    ensures value { IfSome result (λ v. (ms : Members) → IsShortObject level ms object
+        → exceeds level (length object.members.entries) ≡ false → view v ≡ short_object level ms) }
     ensures none { result ≡ None → object.is_partial ≡ true }
 {
     if level.keeps_first() {
