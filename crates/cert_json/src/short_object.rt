@@ -144,7 +144,7 @@ fn note_value(
     if is_new && is_text {
         return Ok(());
     }
-    if is_new && !whole && object.others.len() >= 385 {
+    if is_new && !whole && object.others.len() >= 16 {
         object.is_partial = true;
         return Ok(());
     }

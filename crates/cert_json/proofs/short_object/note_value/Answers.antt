@@ -10,8 +10,8 @@ returns-then-is_text-clause-others c ms d is h =
     let object = c.args.object.now in
     text_of_new c.args.name.now d ms (members_view object.others.entries) object.is_partial h (sym c.if-is_new.ensures) (is ∙ c.if-is_text.true)
 
-pub returns-then-len-ge385-clause-others : goal.returns-then-len-ge385-clause-others
-returns-then-len-ge385-clause-others c ms d is h =
+pub returns-then-len-ge16-clause-others : goal.returns-then-len-ge16-clause-others
+returns-then-len-ge16-clause-others c ms d is h =
     let object = c.args.object.now in
     left_out c.args.name.now d ms (members_view object.others.entries) object.is_partial h (sym c.if-is_new-2.ensures)
 
