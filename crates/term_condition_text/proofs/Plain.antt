@@ -10,7 +10,7 @@ use Rattle.term_text.specs.TermTexts.{Atom, Monomial, Sum, Polynomial, ArrayTerm
 use Rattle.term_text.specs.TermTexts.{Plus, Minus, Zero, Of, ZeroArray, Bare, Written, symbol_text, atom_text, monomial_text, sum_text, polynomial_text}
 use Rattle.term_text.specs.TermTexts.{array_text}
 use Rattle.term_text.specs.SpellableTerms.{is_symbol_name, atom_spelled, monomial_spelled, sum_spelled, polynomial_spelled, array_spelled}
-use Rattle.term_text.proofs.Depths.{differs, number_bytes, name_bytes}
+use Rattle.term_condition_text.proofs.Depths.{differs, number_bytes, name_bytes}
 use Rattle.term_condition_text.specs.ConditionParts.{is_plain}
 
 abbrev pub Plain : List ℕ → Type 0

@@ -18,7 +18,7 @@ use Rattle.term_text.specs.SpellableTerms.{polynomial_spelled}
 use Rattle.term_text.specs.Machine.{TermMadeAs}
 use Rattle.term_text.specs.Brackets.{most_open}
 use Rattle.term_text.specs.View.{written_polynomial_in}
-use Rattle.term_text.proofs.Depths.{term_open}
+use Rattle.term_condition_text.proofs.Depths.{term_open}
 use Rattle.term_condition_text.specs.ConditionTexts.{Integer, ZeroInteger, Positive, Negative, Condition, False, Compared, integer_text, kind_text}
 use Rattle.term_condition_text.specs.ConditionTexts.{condition_text, integer_spelled, SpellsCondition}
 use Rattle.term_condition_text.specs.ConditionParts.{condition_parts}

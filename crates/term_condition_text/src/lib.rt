@@ -1,6 +1,6 @@
-//! The text of conditions, as a certificate writes them.
+//! The text of whole terms and of conditions, as a certificate writes them.
 //!
-//! Promises: the text of conditions is read exactly.
+//! Promises: the text of polynomials, arrays, lists and conditions is read exactly, at most 64 brackets open.
 //!
 //! Rules: `specs/ConditionParts`, `specs/ConditionTexts`.
 //!
@@ -8,6 +8,9 @@
 //! - condition (of a certificate): a literal as the text of a node has it
 #![tactic(auto)]
 
+pub mod brackets;
 pub mod condition;
 mod parts;
 pub mod reader;
+pub mod sums;
+pub mod whole_terms;

@@ -7,9 +7,9 @@ ghost use Rattle.term_condition_text.specs.View.{condition_in};
 
 use crate::condition::WrittenCondition;
 use crate::parts::{is_false, parts};
+use crate::whole_terms::read_polynomial;
 use std::alloc::Global;
 use term_text::fault::ReadError;
-use term_text::reader::read_polynomial;
 
 /// The condition that bytes spell, in time linear in the bytes.
 ///

@@ -1,6 +1,6 @@
 //! The text of terms: polynomials, arrays and lists as a certificate writes them.
 //!
-//! Promises: the text of polynomials, arrays and lists is read exactly, at most 64 brackets open.
+//! Promises: a polynomial, an array or a monomial at the beginning of bytes is read exactly, and what follows it is told.
 //!
 //! Rules: `specs/SpellableTerms`, `specs/TermTexts`.
 //!
@@ -8,12 +8,9 @@
 //! - term (of a certificate): a polynomial, an array or a list as it is written
 #![tactic(auto)]
 
-pub mod brackets;
 pub mod fault;
 mod parts;
-pub mod reader;
-mod scan;
-mod signs;
-pub mod sums;
-mod terms;
+pub mod scan;
+pub mod signs;
+pub mod terms;
 pub mod tree;

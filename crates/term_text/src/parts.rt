@@ -2,10 +2,9 @@
 
 ghost use Rattle.std.specs.Prelude.{◌≡◌, ◌<◌, map, length};
 ghost use Rattle.term_text.specs.Machine.{TermMadeAs};
-ghost use Rattle.term_text.specs.TermTexts.{Monomial, ArrayTerm, ListSyntax, One, Times, Read, Quotient, Remainder, Written};
-ghost use Rattle.term_text.specs.TermTexts.{Pushed};
+ghost use Rattle.term_text.specs.TermTexts.{Monomial, ArrayTerm, One, Times, Read, Quotient, Remainder, Written};
 ghost use Rattle.term_text.specs.View.{written_atom_in, head_in, written_monomial_in, written_polynomial_in, written_array_in};
-ghost use Rattle.term_text.specs.View.{written_term_in, written_write_in, times_all, written_all, pushed_all, sum_of, first_sum};
+ghost use Rattle.term_text.specs.View.{written_term_in, written_write_in, times_all, written_all, sum_of, first_sum};
 ghost use Rattle.term_text.specs.View.{more_sum};
 
 use crate::fault::ReadError;
@@ -116,17 +115,4 @@ pub fn first_of<'a>(
     let mut monomials = Vec::new(alloc);
     monomials.push((minus, first))?;
     Ok(monomials)
-}
-
-/// Adds an item to a list. The one refusal is out of memory.
-#[tactic(auto, using(crate::proofs::Steps::item_more))]
-pub fn push_item<'a>(
-    items: &mut Vec<WrittenPolynomial<'a>>,
-    next: WrittenPolynomial<'a>,
-) -> Result<(), ReadError>
-    ensures { TermMadeAs result
-        (λ _. (l : ListSyntax) → pushed_all l (map written_polynomial_in items.new.items)
-        ≡ Pushed (pushed_all l (map written_polynomial_in items.old.items)) (written_polynomial_in next.entry)) }
-{
-    Ok(items.push(next)?)
 }

@@ -53,7 +53,7 @@ fn word_len(bytes: &[u8]) -> usize
 
 /// The digits of a number, and what follows it.
 #[tactic(auto, using(crate::proofs::Steps::number_starts))]
-pub fn number(bytes: &[u8]) -> Result<(&[u8], &[u8]), ReadError>
+pub(crate) fn number(bytes: &[u8]) -> Result<(&[u8], &[u8]), ReadError>
     requires { begins is_digit bytes.now ≡ true }
     ensures goes { (k : ForMonomial) → Goes result (term_reading bytes.now (at_monomial k))
         (λ x. term_reading x.1.now (after_monomial (Number x.0.now) k)) }

@@ -14,7 +14,7 @@ use crate::scan::expect;
 use fs_model::name::is_digit;
 
 /// Takes `, `, between the two sides of a division.
-pub fn comma(bytes: &[u8]) -> Result<&[u8], ReadError>
+pub(crate) fn comma(bytes: &[u8]) -> Result<&[u8], ReadError>
     ensures quotient { (p : Polynomial) (k : ForAtom)
         → Goes result (term_reading bytes.now (after_polynomial p (dividend k)))
         (λ r. term_reading r.now (at_polynomial (divisor p k))) }
@@ -30,7 +30,7 @@ pub fn comma(bytes: &[u8]) -> Result<&[u8], ReadError>
 }
 
 /// Takes `: `, between the index and the value of a write.
-pub fn colon(bytes: &[u8]) -> Result<&[u8], ReadError>
+pub(crate) fn colon(bytes: &[u8]) -> Result<&[u8], ReadError>
     ensures goes { (p : Polynomial) (a : ArrayTerm) (k : ForArray)
         → Goes result (term_reading bytes.now (after_polynomial p (place a k)))
         (λ r. term_reading r.now (at_polynomial (value a p k))) }
@@ -43,7 +43,7 @@ pub fn colon(bytes: &[u8]) -> Result<&[u8], ReadError>
 }
 
 /// Takes `)`, the end of a division.
-pub fn close_paren(bytes: &[u8]) -> Result<&[u8], ReadError>
+pub(crate) fn close_paren(bytes: &[u8]) -> Result<&[u8], ReadError>
     ensures quotient { (l p : Polynomial) (k : ForAtom)
         → Goes result (term_reading bytes.now (after_polynomial p (divisor l k)))
         (λ r. term_reading r.now (atom_done (Quotient l p) k)) }
@@ -59,7 +59,7 @@ pub fn close_paren(bytes: &[u8]) -> Result<&[u8], ReadError>
 }
 
 /// Takes `]`, the end of a read.
-pub fn close_bracket(bytes: &[u8]) -> Result<&[u8], ReadError>
+pub(crate) fn close_bracket(bytes: &[u8]) -> Result<&[u8], ReadError>
     ensures goes { (p : Polynomial) (a : ArrayTerm) (k : ForAtom)
         → Goes result (term_reading bytes.now (after_polynomial p (index a k)))
         (λ r. term_reading r.now (atom_done (Read a p) k)) }
@@ -72,7 +72,7 @@ pub fn close_bracket(bytes: &[u8]) -> Result<&[u8], ReadError>
 }
 
 /// Takes `}`, the end of a write or of an item.
-pub fn close_brace(bytes: &[u8]) -> Result<&[u8], ReadError>
+pub(crate) fn close_brace(bytes: &[u8]) -> Result<&[u8], ReadError>
     ensures write { (i p : Polynomial) (a : ArrayTerm) (k : ForArray)
         → Goes result (term_reading bytes.now (after_polynomial p (value a i k)))
         (λ r. term_reading r.now (after_array (Written a i p) k)) }
@@ -87,7 +87,7 @@ pub fn close_brace(bytes: &[u8]) -> Result<&[u8], ReadError>
 }
 
 /// Takes `[`, after an array that is read.
-pub fn open_bracket(bytes: &[u8]) -> Result<&[u8], ReadError>
+pub(crate) fn open_bracket(bytes: &[u8]) -> Result<&[u8], ReadError>
     requires { EndsWrites bytes.now }
     ensures goes { (a : ArrayTerm) (k : ForAtom)
         → Goes result (term_reading bytes.now (after_array a (read_of k))) (λ r. term_reading r.now (at_polynomial (index a k))) }
@@ -112,7 +112,7 @@ pub fn rest_after(bytes: &[u8], byte: u8) -> Option<&[u8]>
 }
 
 /// Takes `+ ` or `- `: whether it is the latter.
-pub fn sign(bytes: &[u8]) -> Result<(bool, &[u8]), ReadError>
+pub(crate) fn sign(bytes: &[u8]) -> Result<(bool, &[u8]), ReadError>
     ensures goes { (s : Sum) (k : ForPolynomial)
         → Goes result (term_reading bytes.now (at_sign s k)) (λ x. term_reading x.1.now (at_monomial (monomial_of_sum x.0 s k))) }
     ensures shorter { IfOk result (λ x. length x.1.now < length bytes.now) }
@@ -131,7 +131,7 @@ pub fn sign(bytes: &[u8]) -> Result<(bool, &[u8]), ReadError>
 }
 
 /// Whether a write or a read follows.
-pub fn goes_on_as_array(bytes: &[u8]) -> bool
+pub(crate) fn goes_on_as_array(bytes: &[u8]) -> bool
     ensures { IsNoArray bytes.now result }
 {
     match bytes {
@@ -141,7 +141,7 @@ pub fn goes_on_as_array(bytes: &[u8]) -> bool
 }
 
 /// Whether a digit follows.
-pub fn begins_with_digit(bytes: &[u8]) -> bool
+pub(crate) fn begins_with_digit(bytes: &[u8]) -> bool
     ensures { result ≡ begins is_digit bytes.now }
 {
     match bytes {

@@ -17,7 +17,7 @@ use nf_terms::arr::Arr;
 use nf_terms::poly::Poly;
 use nf_terms::seq::Seq;
 use std::alloc::Global;
-use term_text::reader::{read_array, read_list, read_polynomial};
+use term_condition_text::whole_terms::{read_array, read_list, read_polynomial};
 use term_text::tree::{WrittenArray, WrittenList, WrittenPolynomial};
 
 /// The polynomial that a written one stands for, where it is normal; `NotNormal` exactly where it isn't.

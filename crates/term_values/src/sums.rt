@@ -14,9 +14,9 @@ use crate::names::Names;
 use crate::tests::{Faultless, NamesKnown, NumbersFit, SortsFit};
 use nf_terms::limits::SIZE_LIMIT;
 use std::alloc::Global;
-use term_text::brackets::is_shallow;
+use term_condition_text::brackets::is_shallow;
+use term_condition_text::sums::{first_term, next_term};
 use term_text::fault::ReadError;
-use term_text::sums::{first_term, next_term};
 use term_text::tree::WrittenMonomial;
 
 /// How many monomials of a sum were read, and whether all their numbers fit, all their names are known and all sorts fit.

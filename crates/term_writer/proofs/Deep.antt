@@ -9,7 +9,7 @@ use Rattle.nf_terms.specs.Measures.{depth_of_atom, depth_of_monomial, depth_of, 
 use Rattle.term_text.specs.TermTexts.{Atom, Monomial, Sum, Polynomial, ArrayTerm, Number, One, Times, ZeroArray, Bare, Written, polynomial_text, array_text}
 use Rattle.term_text.specs.SpellableTerms.{polynomial_spelled, array_spelled}
 use Rattle.term_text.specs.Brackets.{most_open, atom_depth, monomial_depth, sum_depth, polynomial_depth, array_depth}
-use Rattle.term_text.proofs.Depths.{term_open}
+use Rattle.term_condition_text.proofs.Depths.{term_open}
 use Rattle.term_text.specs.TermTexts as text
 use Rattle.term_writer.specs.WrittenTerms.{sum_of_term, sum_with_term, atom_written, times_written, monomial_written, sum_written, polynomial_written}
 use Rattle.term_writer.specs.WrittenTerms.{writes_written}

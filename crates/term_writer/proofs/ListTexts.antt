@@ -12,7 +12,7 @@ use Rattle.term_text.specs.TermTexts as text
 use Rattle.term_text.specs.TermTexts.{ListSyntax, Pushed, polynomial_text, list_text}
 use Rattle.term_text.specs.SpellableTerms.{polynomial_spelled, list_spelled}
 use Rattle.term_text.specs.Brackets.{most_open, list_depth}
-use Rattle.term_text.proofs.Depths.{term_open}
+use Rattle.term_condition_text.proofs.Depths.{term_open}
 use Rattle.term_values.specs.NameMeanings.{Find, position_meant}
 use Rattle.term_values.specs.TermValues.{exact, list_base, list_items, list_value}
 use Rattle.term_writer.specs.WrittenTerms.{polynomial_written, items_written, list_base_written, list_written}

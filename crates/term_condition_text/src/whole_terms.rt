@@ -1,23 +1,22 @@
-//! Reading a whole text.
+//! Reading the whole text of a term.
 
 ghost use Rattle.std.specs.Prelude.{◌≡◌, map, IfOk};
 ghost use Rattle.term_text.specs.Machine.{TermMadeAs, IsRead, Goes, EndsWrites, term_reading, expect, in_array, in_list};
 ghost use Rattle.term_text.specs.Machine.{whole_polynomial};
 ghost use Rattle.term_text.specs.Machine.{whole_array, at_polynomial, at_array, at_list, at_symbol, after_array, after_list};
-ghost use Rattle.term_text.specs.TermTexts.{Polynomial, ArrayTerm, ListSyntax, polynomial, array, list};
+ghost use Rattle.term_text.specs.TermTexts.{Polynomial, ArrayTerm, ListSyntax, Pushed, polynomial, array, list};
 ghost use Rattle.term_text.specs.SpellableTerms.{SpellsTermText};
 ghost use Rattle.term_text.specs.View.{written_polynomial_in, written_array_in, written_list_in, base_in, list_base_in};
 ghost use Rattle.term_text.specs.View.{pushed_all};
 
 use crate::brackets::is_shallow;
-use crate::fault::ReadError;
-use crate::parts::push_item;
-use crate::scan::{expect, expect_three, word};
-use crate::signs::rest_after;
-use crate::terms::{braced, polynomial, writes};
-use crate::tree::{WrittenArray, WrittenBase, WrittenList, WrittenListBase, WrittenPolynomial};
 use nf_terms::tree::Side;
 use std::alloc::Global;
+use term_text::fault::ReadError;
+use term_text::scan::{expect, expect_three, word};
+use term_text::signs::rest_after;
+use term_text::terms::{braced, polynomial, writes};
+use term_text::tree::{WrittenArray, WrittenBase, WrittenList, WrittenListBase, WrittenPolynomial};
 
 // The polynomial that all bytes are read as.
 fn whole_polynomial<'a>(alloc: Global, bytes: &'a [u8]) -> Result<WrittenPolynomial<'a>, ReadError>
@@ -31,7 +30,7 @@ fn whole_polynomial<'a>(alloc: Global, bytes: &'a [u8]) -> Result<WrittenPolynom
 }
 
 // The symbol that an array begins with, after the letter of its side.
-#[tactic(auto, using(crate::proofs::Steps::array_base))]
+#[tactic(auto, using(term_text::proofs::Steps::array_base))]
 fn symbol_base<'a>(side: Side, bytes: &'a [u8]) -> Result<(WrittenBase<'a>, &'a [u8]), ReadError>
     ensures { Goes result (term_reading bytes.now (expect 46 (at_symbol side in_array)))
         (λ x. term_reading x.1.now (after_array (base_in x.0) whole_array)) }
@@ -53,7 +52,7 @@ fn array_base<'a>(bytes: &'a [u8]) -> Result<(WrittenBase<'a>, &'a [u8]), ReadEr
 }
 
 // The array that all bytes are read as.
-#[tactic(auto, using(crate::proofs::Steps::array_not_ended))]
+#[tactic(auto, using(term_text::proofs::Steps::array_not_ended))]
 fn whole_array<'a>(alloc: Global, bytes: &'a [u8]) -> Result<WrittenArray<'a>, ReadError>
     ensures { IsRead at_array (λ t. array (written_array_in t)) result bytes.now }
 {
@@ -66,7 +65,7 @@ fn whole_array<'a>(alloc: Global, bytes: &'a [u8]) -> Result<WrittenArray<'a>, R
 }
 
 // The symbol that a list begins with, after the letter of its side.
-#[tactic(auto, using(crate::proofs::Steps::list_base))]
+#[tactic(auto, using(term_text::proofs::Steps::list_base))]
 fn symbol_list_base<'a>(
     side: Side,
     bytes: &'a [u8],
@@ -94,7 +93,7 @@ fn list_base<'a>(bytes: &'a [u8]) -> Result<(WrittenListBase<'a>, &'a [u8]), Rea
 }
 
 // The list that nothing follows.
-#[tactic(auto, using(crate::proofs::Steps::list_not_ended))]
+#[tactic(auto, using(term_text::proofs::Steps::list_not_ended))]
 fn ended<'a>(
     base: WrittenListBase<'a>,
     items: Vec<WrittenPolynomial<'a>>,
@@ -108,6 +107,19 @@ fn ended<'a>(
         [] => Ok(WrittenList { base, items }),
         [_, ..] => Err(ReadError::BadTerm),
     }
+}
+
+// Adds an item to a list. The one refusal is out of memory.
+#[tactic(auto, using(term_text::proofs::Steps::item_more))]
+fn push_item<'a>(
+    items: &mut Vec<WrittenPolynomial<'a>>,
+    next: WrittenPolynomial<'a>,
+) -> Result<(), ReadError>
+    ensures { TermMadeAs result
+        (λ _. (l : ListSyntax) → pushed_all l (map written_polynomial_in items.new.items)
+        ≡ Pushed (pushed_all l (map written_polynomial_in items.old.items)) (written_polynomial_in next.entry)) }
+{
+    Ok(items.push(next)?)
 }
 
 // The list of a base and of items up to the end.

@@ -6,14 +6,14 @@ ghost use Rattle.term_text.specs.Machine.{after_sum, first_monomial_for};
 ghost use Rattle.term_text.specs.TermTexts.{Sum};
 ghost use Rattle.term_text.specs.View.{written_monomial_in, first_sum, more_sum};
 
-use crate::fault::ReadError;
-use crate::signs::begins_with_zero_or_minus;
-use crate::terms::{further, monomial};
-use crate::tree::WrittenMonomial;
 use std::alloc::Global;
+use term_text::fault::ReadError;
+use term_text::signs::begins_with_zero_or_minus;
+use term_text::terms::{further, monomial};
+use term_text::tree::WrittenMonomial;
 
 // The first monomial of a sum, after its sign.
-#[tactic(auto, using(crate::proofs::Steps::first_monomial))]
+#[tactic(auto, using(term_text::proofs::Steps::first_monomial))]
 fn after_sign<'a>(
     alloc: Global,
     minus: bool,
@@ -30,7 +30,7 @@ fn after_sign<'a>(
 /// The first monomial of a polynomial that does not begin with `0`, whether it is taken away, and what follows it.
 ///
 /// `BadTerm` comes only where no polynomial begins so: no monomial stands there. `NoMemory` may come at any time.
-#[tactic(auto, using(crate::proofs::Steps::polynomial_starts))]
+#[tactic(auto, using(term_text::proofs::Steps::polynomial_starts))]
 pub fn first_term<'a>(
     alloc: Global,
     bytes: &'a [u8],

@@ -2,10 +2,10 @@ use Rattle.std.proofs.Common.{sym, ◌∙◌}
 use Rattle.term_text.specs.Machine.{at_polynomial, whole_polynomial}
 use Rattle.term_text.specs.TermTexts.{polynomial}
 use Rattle.term_text.specs.View.{written_polynomial_in}
-use Rattle.term_text.proofs.Again.{again, found, polynomial_made}
+use Rattle.term_condition_text.proofs.Again.{again, found, polynomial_made}
 use Rattle.term_text.proofs.Sound.{polynomial_is_spelled}
 use Rattle.term_text.proofs.Walks.{read_again}
-use Rattle.term_text.proofs.reader.read_polynomial.Goals as goal
+use Rattle.term_condition_text.proofs.whole_terms.read_polynomial.Goals as goal
 
 pub returns-clause-found : goal.returns-clause-found
 returns-clause-found c = found (at_polynomial whole_polynomial) (λ t. polynomial (written_polynomial_in t)) c.whole_polynomial.result c.args.bytes.now

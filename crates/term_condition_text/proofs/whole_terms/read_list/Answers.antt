@@ -2,10 +2,10 @@ use Rattle.std.proofs.Common.{sym, ◌∙◌}
 use Rattle.term_text.specs.Machine.{at_list}
 use Rattle.term_text.specs.TermTexts.{list}
 use Rattle.term_text.specs.View.{written_list_in}
-use Rattle.term_text.proofs.Again.{again, found, list_made}
+use Rattle.term_condition_text.proofs.Again.{again, found, list_made}
 use Rattle.term_text.proofs.Sound.{list_is_spelled}
 use Rattle.term_text.proofs.Walks.{read_again}
-use Rattle.term_text.proofs.reader.read_list.Goals as goal
+use Rattle.term_condition_text.proofs.whole_terms.read_list.Goals as goal
 
 pub returns-clause-found : goal.returns-clause-found
 returns-clause-found c = found at_list (λ t. list (written_list_in t)) c.whole_list.result c.args.bytes.now (list_is_spelled c.args.bytes.now)

@@ -1,7 +1,7 @@
 use Rattle.std.proofs.Common.{◌≡◌, length, map}
 use Rattle.term_text.specs.Machine.{term_reading, after_list}
 use Rattle.term_text.specs.View.{list_base_in, written_polynomial_in, pushed_all}
-use Rattle.term_text.proofs.reader.items.Given as goal
+use Rattle.term_condition_text.proofs.whole_terms.items.Given as goal
 
 abbrev pub invariant-loop-after : goal.invariant-loop-after
 invariant-loop-after l = term_reading l.bytes (after_list (list_base_in l.base))

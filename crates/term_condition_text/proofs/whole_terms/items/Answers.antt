@@ -2,7 +2,7 @@ use Rattle.std.proofs.Common.{map, ap, sym, ◌∙◌}
 use Rattle.term_text.specs.Machine.{term_reading, after_list}
 use Rattle.term_text.specs.View.{list_base_in, written_polynomial_in, pushed_all}
 use Rattle.term_text.proofs.Steps.{found, list_goes_on}
-use Rattle.term_text.proofs.reader.items.Goals as goal
+use Rattle.term_condition_text.proofs.whole_terms.items.Goals as goal
 
 pub loop-after-preserved : goal.loop-after-preserved
 loop-after-preserved c =
