@@ -2,7 +2,7 @@
 //! 2014).
 //!
 //! Promises: `search`: a lawful certificate whose obligations all hold, or an obstacle with its moves, at most
-//! 1,314,816; of alike machines only a limit.
+//! 1,314,816; of alike machines only a limit; `run`: the moves of a search, each the next one, and how they end.
 //!
 //! Rules: `specs/SearchOutcomes`.
 //!
@@ -11,4 +11,5 @@
 //!   that table
 #![tactic(auto)]
 
+pub mod run;
 pub mod searching;

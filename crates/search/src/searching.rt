@@ -14,6 +14,7 @@ ghost use Rattle.search_worklist.specs.SearchEnds.{IsEnded};
 ghost use Rattle.search_tables.specs.SearchTables.{machines};
 ghost use Rattle.search.specs.SearchOutcomes.{IsSearchOutcome, ClosesOrMeetsLimit};
 
+use crate::run::run;
 use cert_model::covers::cover_of;
 use cert_model::kept::certificates_are_normal;
 use fs_ast::machine::Machine;
@@ -25,7 +26,6 @@ use search_tables::moves::Move;
 use search_tables::nodes::{NodePoints, TableNode};
 use search_tables::outcome::Outcome;
 use search_worklist::ends::{End, Ended};
-use search_worklist::run::run;
 use std::alloc::Global;
 
 // The points of nodes, in order. The one refusal is out of memory.

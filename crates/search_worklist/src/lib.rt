@@ -1,15 +1,14 @@
-//! The moves of a search, up to the first obstacle or to a closed table.
+//! What is next in a search, and the table after it, by the items that wait.
 //!
-//! Promises: `run`: the moves of a search, each the next one, and how they end.
+//! Promises: `next`: the move that is next, with the change that it makes, or how the moves end; `make`: the table after a change.
 //!
-//! Rules: `specs/Waiting`, `specs/SearchEnds`.
+//! Rules: `specs/Waiting`, `specs/Turns`, `specs/SearchEnds`.
 #![tactic(auto)]
 
 pub mod ends;
-mod outputs;
-pub mod run;
-mod sides;
-mod state;
-mod trial;
+pub mod outputs;
+pub mod sides;
+pub mod state;
+pub mod trial;
 mod trials;
-mod turns;
+pub mod turns;

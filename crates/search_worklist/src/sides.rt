@@ -20,9 +20,9 @@ pub struct Sides<'a> {
     pub pairing: &'a Pairing,
     pub left_cover: &'a Cover,
     pub right_cover: &'a Cover,
-    ghost paired: { pairing.now ≡ positions left.now right.now },
-    ghost left_is: { left_cover.now ≡ cover_of left.now },
-    ghost right_is: { right_cover.now ≡ cover_of right.now },
+    pub ghost paired: { pairing.now ≡ positions left.now right.now },
+    pub ghost left_is: { left_cover.now ≡ cover_of left.now },
+    pub ghost right_is: { right_cover.now ≡ cover_of right.now },
 }
 
 /// The paths of a point of the left machine.

@@ -9,17 +9,17 @@ ghost use Rattle.search_worklist.specs.SearchEnds.{IsEnded};
 ghost use Rattle.search_worklist.specs.States.{table as table_now};
 ghost use Rattle.search_worklist.specs.View.{machines_in};
 
-use crate::ends::{End, Ended};
-use crate::outputs::output_at;
-use crate::sides::Sides;
-use crate::state::{State, begin, make};
-use crate::turns::{Step, next};
 use fs_ast::machine::Machine;
 use fs_cut::cover::Cover;
 use fs_pair::positions::Pairing;
 use nf_terms::stop::NoMemory;
 use search_places::nodes::table;
 use search_tables::moves::Move;
+use search_worklist::ends::{End, Ended};
+use search_worklist::outputs::output_at;
+use search_worklist::sides::Sides;
+use search_worklist::state::{State, begin, make};
+use search_worklist::turns::{Step, next};
 use std::alloc::Global;
 
 // The nodes alone, with the moves that made them and how these end. The one refusal is out of memory.

@@ -3,7 +3,7 @@ use Rattle.search_worklist.specs.States.{table, IsReady}
 use Rattle.search_worklist.specs.View.{machines_in}
 use Rattle.search_worklist.proofs.Differing.{DiffersAlone}
 use Rattle.search_worklist.proofs.Legal.{moves_left}
-use Rattle.search_worklist.proofs.run.make_moves.Given as goal
+use Rattle.search.proofs.run.make_moves.Given as goal
 
 abbrev pub invariant-moves : goal.invariant-moves
 invariant-moves l = record {

@@ -12,7 +12,7 @@ use Rattle.search_worklist.specs.Turns.{IsNext}
 use Rattle.search_worklist.specs.View.{machines_in}
 use Rattle.search_worklist.proofs.Differing.{DiffersAlone, start_differs, put_differs, none_differs, one_differs}
 use Rattle.search_worklist.proofs.Legal.{makes_none, makes_more, made, fewer_left, number_in, ends_with, if_ok}
-use Rattle.search_worklist.proofs.run.make_moves.Goals as goal
+use Rattle.search.proofs.run.make_moves.Goals as goal
 
 pub moves-init : goal.moves-init
 moves-init c = record {
