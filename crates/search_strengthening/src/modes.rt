@@ -1,82 +1,18 @@
 //! Which machines move at a node.
 
 use cert_bisimulation::mode::Mode;
-use fs_cut::cover::{Path, Point};
-use nf_refutation::refutation::is_refuted;
-use nf_rel::literals::NLit;
+use fs_cut::cover::Point;
 use nf_terms::stop::NoMemory;
 use nf_terms::tree::Side;
 use nf_vectors::vector::Vector;
+use search_strengthening_facts::open_paths::has_many;
 use search_strengthening_tables::flags::{Flags, flags_at, keep};
 use search_strengthening_tables::nodes::{NodeMove, SearchNode, Settled};
-use search_strengthening_tables::sides::{Covered, Sides};
+use search_strengthening_tables::sides::Sides;
 use search_strengthening_tables::state::{State, clear};
-use search_strengthening_terms::stop::{Stop, within_limits};
+use search_strengthening_terms::stop::Stop;
 use search_strengthening_terms::work::Work;
 use std::alloc::Global;
-use sym_facts::fact::{Fact, copied_literals};
-use sym_paths::execution::conditions;
-
-// The units of work of the conditions of a path.
-const PATH_UNITS: u64 = 8;
-
-// The conditions of a path of a machine under a vector. `Bound` comes where they meet a limit.
-fn path_conditions(
-    alloc: Global,
-    machine: &Covered<'_>,
-    side: Side,
-    v: &Vector,
-    path: &Path,
-) -> Result<Vec<NLit>, Stop> {
-    within_limits(conditions(alloc, machine.machine, path, side, v))
-}
-
-// The literals of a fact, and then more of them, which are moved.
-fn literals_with(alloc: Global, fact: &Fact, more: &mut Vec<NLit>) -> Result<Vec<NLit>, NoMemory> {
-    let mut literals = copied_literals(alloc, fact.conds())?;
-    literals.append(more)?;
-    Ok(literals)
-}
-
-// Whether literals are refuted beside those of a fact.
-fn is_refuted_with(alloc: Global, fact: &Fact, more: &mut Vec<NLit>) -> Result<bool, NoMemory> {
-    let literals = literals_with(alloc, fact, more)?;
-    is_refuted(alloc, literals.as_slice())
-}
-
-// Whether a path is not refuted under a fact with this vector. `Bound` comes where its conditions meet a limit.
-fn is_open(
-    alloc: Global,
-    work: &mut Work,
-    machine: &Covered<'_>,
-    side: Side,
-    fact: &Fact,
-    v: &Vector,
-    path: &Path,
-) -> Result<bool, Stop> {
-    work.spend((fact.conds().len() as u64).saturating_add(PATH_UNITS))?;
-    let mut more = path_conditions(alloc, machine, side, v, path)?;
-    Ok(!is_refuted_with(alloc, fact, &mut more)?)
-}
-
-// Whether more than one path of a point is not refuted under a fact with this vector.
-fn has_many(
-    alloc: Global,
-    work: &mut Work,
-    machine: &Covered<'_>,
-    side: Side,
-    fact: &Fact,
-    v: &Vector,
-    point: Point,
-) -> Result<bool, Stop> {
-    let mut open = 0u32;
-    for path in machine.cover.from(point) {
-        if is_open(alloc, work, machine, side, fact, v, path)? {
-            open = open.saturating_add(1);
-        }
-    }
-    Ok(open > 1)
-}
 
 // A side alone moves where the other one has more ways on; where neither has, and one is at the head of a loop, the other one
 // moves alone.
@@ -105,10 +41,12 @@ fn see_ways(
 ) -> Result<(), Stop> {
     let fact = &node.fact;
     if !flags.many_left {
-        flags.many_left = has_many(alloc, work, &sides.left, Side::Left, fact, v, node.left)?;
+        let (a, c) = (sides.left.machine, &sides.left.cover);
+        flags.many_left = has_many(alloc, work, a, c, Side::Left, fact, v, node.left)?;
     }
     if !flags.many_right {
-        flags.many_right = has_many(alloc, work, &sides.right, Side::Right, fact, v, node.right)?;
+        let (b, c) = (sides.right.machine, &sides.right.cover);
+        flags.many_right = has_many(alloc, work, b, c, Side::Right, fact, v, node.right)?;
     }
     Ok(())
 }

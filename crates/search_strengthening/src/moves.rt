@@ -2,9 +2,9 @@
 
 use fs_cut::cover::{Path, Point};
 use nf_refutation::refutation::is_refuted;
-use search_strengthening_claims::claims::{Claims, claims_before};
 use search_strengthening_claims::weeding::weed;
 use search_strengthening_facts::facts::fact_of;
+use search_strengthening_facts::first_facts::{FirstFact, first_fact};
 use search_strengthening_tables::nodes::{NodeMove, SearchNode, Settled, find, find_version};
 use search_strengthening_tables::sides::{Covered, Sides};
 use search_strengthening_tables::state::{State, add, change_fact};
@@ -89,36 +89,16 @@ fn post_by(
     within_limits(arrive(alloc, a, b, &node.fact, left, right))
 }
 
-// What is claimed after the first arrival.
-fn first_claims(
-    alloc: Global,
-    sides: &Sides<'_>,
-    work: &mut Work,
-    post: &Post,
-) -> Result<Claims, Stop> {
-    let p = sides.pairing;
-    let mut claims = claims_before(alloc, &sides.universe, post, p)?;
-    let count = p.positions().len();
-    weed(alloc, work, &sides.universe, count, &mut claims, post)?;
-    Ok(claims)
-}
-
 // Adds the node of which this is claimed.
-fn add_claimed(
+fn add_first(
     alloc: Global,
     sides: &Sides<'_>,
     state: &mut State,
     left: Point,
     right: Point,
-    claims: Claims,
+    first: FirstFact,
 ) -> Result<Step, Stop> {
-    let fact = fact_of(
-        alloc,
-        &mut state.work,
-        &sides.universe,
-        sides.pairing,
-        &claims,
-    )?;
+    let FirstFact { claims, fact } = first;
     let place = add(alloc, sides, state, left, right, claims, fact)?;
     Ok(Step::Changes { place })
 }
@@ -132,8 +112,8 @@ fn add_target(
     left: Point,
     right: Point,
 ) -> Result<Step, Stop> {
-    let claims = first_claims(alloc, sides, &mut state.work, post)?;
-    add_claimed(alloc, sides, state, left, right, claims)
+    let first = first_fact(alloc, &mut state.work, &sides.universe, sides.pairing, post)?;
+    add_first(alloc, sides, state, left, right, first)
 }
 
 // Gives the node at a place the fact that is made of its claims.

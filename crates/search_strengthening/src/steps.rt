@@ -2,7 +2,9 @@
 
 use crate::modes::see_mode;
 use crate::moves::{Step, try_move};
-use search_strengthening_tables::outputs::outputs_differ;
+use nf_terms::stop::NoMemory;
+use search_strengthening_facts::outputs::outputs_differ;
+use search_strengthening_tables::nodes::SearchNode;
 use search_strengthening_tables::sides::Sides;
 use search_strengthening_tables::state::{CHANGE_LIMIT, CLEARING_LIMIT, State};
 use search_strengthening_terms::stop::Stop;
@@ -61,6 +63,14 @@ fn first_step(alloc: Global, sides: &Sides<'_>, state: &mut State) -> Result<Ste
     Ok(Step::Keeps)
 }
 
+// Whether both machines are done at a node, and an output has another form than the right variable of its name.
+fn differs_at_end(alloc: Global, sides: &Sides<'_>, node: &SearchNode) -> Result<bool, NoMemory> {
+    if !node.left.is_done() || !node.right.is_done() {
+        return Ok(false);
+    }
+    outputs_differ(alloc, sides.left.machine, sides.right.machine, &node.fact)
+}
+
 // Gives up where outputs differ at the node at a place.
 fn check_outputs(
     alloc: Global,
@@ -70,7 +80,7 @@ fn check_outputs(
 ) -> Result<(), Stop> {
     match state.nodes.get(place) {
         Some(node) => {
-            if outputs_differ(alloc, sides, node)? {
+            if differs_at_end(alloc, sides, node)? {
                 Err(Stop::Bound)
             } else {
                 Ok(())

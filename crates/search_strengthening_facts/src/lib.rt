@@ -1,7 +1,10 @@
-//! The fact that is made of claims.
+//! The facts of a second search: those that are made of claims, and what facts leave open.
 //!
-//! Promises: `fact_of`: calls are safe and end, and no more is promised.
+//! Promises: `fact_of`, `first_fact`, `has_many`, `outputs_differ`: calls are safe and end, and no more is promised.
 #![tactic(auto)]
 
 pub mod facts;
+pub mod first_facts;
 mod literals;
+pub mod open_paths;
+pub mod outputs;

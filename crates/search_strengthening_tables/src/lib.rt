@@ -8,7 +8,6 @@
 pub mod assembling;
 pub mod flags;
 pub mod nodes;
-pub mod outputs;
 pub mod ranks;
 pub mod sides;
 pub mod state;

@@ -1,15 +1,15 @@
-//! Whether outputs differ at the end.
+//! Whether outputs differ under a fact.
 
 ghost use Rattle.std.specs.Prelude.{◌≤◌, length};
 ghost use Rattle.fs_model.specs.Limits.{most_variables};
 
-use crate::nodes::SearchNode;
-use crate::sides::Sides;
 use cert_model::outputs::{is_output, number_of, same_forms};
+use fs_ast::machine::Machine;
 use fs_model::parts::VarInfo;
+use nf_substitution::vector::Vector;
 use nf_terms::stop::NoMemory;
-use nf_vectors::vector::Vector;
 use std::alloc::Global;
+use sym_facts::fact::Fact;
 
 // Whether a left variable is an output that has another form than the right variable of its name.
 fn differs(
@@ -46,21 +46,13 @@ fn some_differs(
     Ok(false)
 }
 
-/// Whether both machines are done at a node, and an output has another form than the right variable of its name. The one
-/// refusal is out of memory.
+/// Whether under a fact an output has another form than the right variable of its name. The one refusal is out of memory.
 pub fn outputs_differ(
     alloc: Global,
-    sides: &Sides<'_>,
-    node: &SearchNode,
+    a: &Machine,
+    b: &Machine,
+    fact: &Fact,
 ) -> Result<bool, NoMemory> {
-    if !node.left.is_done() || !node.right.is_done() {
-        return Ok(false);
-    }
-    let v = node.fact.vector(alloc)?;
-    some_differs(
-        alloc,
-        &v,
-        sides.left.machine.vars(),
-        sides.right.machine.vars(),
-    )
+    let v = fact.vector(alloc)?;
+    some_differs(alloc, &v, a.vars(), b.vars())
 }

@@ -1,0 +1,47 @@
+//! What is claimed after the first arrival, and the fact that is made of it.
+
+use crate::facts::fact_of;
+use fs_pair::positions::Pairing;
+use search_strengthening_claims::claims::{Claims, claims_before};
+use search_strengthening_claims::weeding::weed;
+use search_strengthening_terms::stop::Stop;
+use search_strengthening_terms::universe::Universe;
+use search_strengthening_terms::work::Work;
+use std::alloc::Global;
+use sym_facts::fact::Fact;
+use sym_paths::execution::Post;
+
+/// Claims, and the fact that is made of them.
+#[derive(Drop)]
+pub struct FirstFact {
+    pub claims: Claims,
+    pub fact: Fact,
+}
+
+// What is claimed after the first arrival.
+fn first_claims(
+    alloc: Global,
+    work: &mut Work,
+    universe: &Universe,
+    p: &Pairing,
+    post: &Post,
+) -> Result<Claims, Stop> {
+    let mut claims = claims_before(alloc, universe, post, p)?;
+    let count = p.positions().len();
+    weed(alloc, work, universe, count, &mut claims, post)?;
+    Ok(claims)
+}
+
+/// What is claimed after the first arrival, and the fact that is made of it. `Bound` comes where too little work is left, or what
+/// is made is no fact.
+pub fn first_fact(
+    alloc: Global,
+    work: &mut Work,
+    universe: &Universe,
+    p: &Pairing,
+    post: &Post,
+) -> Result<FirstFact, Stop> {
+    let claims = first_claims(alloc, work, universe, p, post)?;
+    let fact = fact_of(alloc, work, universe, p, &claims)?;
+    Ok(FirstFact { claims, fact })
+}
