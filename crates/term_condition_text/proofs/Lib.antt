@@ -1,5 +1,6 @@
 mod Again
 mod Plain
+mod Saturated
 mod Complete
 mod Sound
 pub mod Depths

@@ -1,3 +1,4 @@
 pub mod ConditionTexts
 pub mod ConditionParts
 pub mod View
+pub mod DigitNumbers

@@ -10,6 +10,7 @@
 
 pub mod brackets;
 pub mod condition;
+pub mod numbers;
 mod parts;
 pub mod reader;
 pub mod sums;

@@ -6,7 +6,7 @@ use Rattle.nf_terms.specs.TermLimits.{weight_limit}
 use Rattle.nf_terms.specs.NormalTerms as terms
 use Rattle.term_text.specs.TermTexts.{Atom, Monomial, Sum, Polynomial, ArrayTerm, ListSyntax, Symbol, Read, Quotient, Remainder, Number, One, Times, Positive}
 use Rattle.term_text.specs.TermTexts.{Negative, Plus, Minus, Zero, Of, ZeroArray, Bare, Written, EmptyList, BareList, Pushed}
-use Rattle.term_values.specs.DigitNumbers.{clipped_number}
+use Rattle.term_condition_text.specs.DigitNumbers.{clipped_number}
 use Rattle.term_values.specs.NameMeanings.{Find}
 use Rattle.term_values.specs.Checks.{numbers_fit, factor_passes, atom_passes, monomial_passes, sum_passes, polynomial_passes, array_passes, list_passes}
 use Rattle.term_values.specs.TermValues.{within_limit, exact, coefficient, atom_value, atoms_of, sum_value, polynomial_value, array_value, list_base}

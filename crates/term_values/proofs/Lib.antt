@@ -1,5 +1,4 @@
 mod Lists
-mod Saturated
 mod Normal
 mod Exact
 mod ListForms

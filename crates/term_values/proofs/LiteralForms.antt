@@ -18,7 +18,7 @@ use Rattle.term_condition_text.specs.ConditionTexts.{Integer, ZeroInteger, Posit
 use Rattle.term_values.specs.declared.faults.TermError.{TermError}
 use Rattle.term_values.specs.declared.faults.TermError.TheVariants.{BadTerm, NumberTooBig, UnknownName, SortOf, NotNormal, NoMemory}
 use Rattle.term_values.specs.NameMeanings.{Find}
-use Rattle.term_values.specs.DigitNumbers.{clipped_number}
+use Rattle.term_condition_text.specs.DigitNumbers.{clipped_number}
 use Rattle.term_values.specs.TermValues.{within_limit, exact}
 use Rattle.term_values.specs.Checks.{numbers_fit, polynomial_passes}
 use Rattle.term_values.specs.Conditions.{integer_value, condition_value, integer_passes, written_condition_passes}

@@ -1,4 +1,3 @@
-pub mod DigitNumbers
 pub mod NameMeanings
 pub mod TermValues
 pub mod Checks

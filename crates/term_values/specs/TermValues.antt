@@ -11,7 +11,7 @@ use Rattle.nf_terms.specs.Lists.{ListTerm}
 use Rattle.term_text.specs.TermTexts as text
 use Rattle.term_text.specs.TermTexts.{Symbol, Read, Quotient, Remainder, Number, One, Times, Positive, Negative, Plus, Minus}
 use Rattle.term_text.specs.TermTexts.{Zero, Of, ZeroArray, Bare, Written, EmptyList, BareList, Pushed}
-use Rattle.term_values.specs.DigitNumbers.{clipped_number}
+use Rattle.term_condition_text.specs.DigitNumbers.{clipped_number}
 use Rattle.term_values.specs.NameMeanings.{Find, position}
 
 -- what digits and names stand for

@@ -9,7 +9,6 @@ mod checks;
 pub mod faults;
 pub mod literals;
 pub mod names;
-mod numbers;
 pub mod reader;
 pub mod sums;
 mod tests;

@@ -5,14 +5,13 @@ ghost use Rattle.nf_rel.specs.Literals as literals;
 ghost use Rattle.nf_rel.specs.NormalLiterals.{is_normal_literal};
 ghost use Rattle.nf_rel.specs.View.{literal_in};
 ghost use Rattle.term_condition_text.specs.View.{integer_in, condition_in};
-ghost use Rattle.term_values.specs.DigitNumbers.{clipped_number};
+ghost use Rattle.term_condition_text.specs.DigitNumbers.{clipped_number};
 ghost use Rattle.term_values.specs.TermValues.{within_limit};
 ghost use Rattle.term_values.specs.Conditions.{integer_value, condition_value};
 ghost use Rattle.term_values.specs.TermFaults.{IsJudgedAs, IsLiteralOf, IsRefusedCondition};
 
 use crate::faults::{TermError, WrittenTerm, fault};
 use crate::names::Names;
-use crate::numbers::clip_number;
 use crate::reader::normal_polynomial;
 use nf_rel::kind::Kind;
 use nf_rel::literals::{Bound, NLit};
@@ -21,6 +20,7 @@ use nf_rel::primitive::is_primitive;
 use nf_terms::poly::Poly;
 use std::alloc::Global;
 use term_condition_text::condition::{WrittenCondition, WrittenInteger};
+use term_condition_text::numbers::clip_number;
 use term_condition_text::reader::read_condition;
 
 // The number that is written.

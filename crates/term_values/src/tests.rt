@@ -4,9 +4,9 @@ ghost use Rattle.term_values.specs.Checks.{numbers_fit, names_known, sorts_fit, 
 
 use crate::checks::Check;
 use crate::names::{Names, has_sort, is_known};
-use crate::numbers::fits;
 use nf_terms::symbols::Sort;
 use nf_terms::tree::Side;
+use term_condition_text::numbers::fits;
 
 /// Each number is at most 2^127 - 1.
 #[derive(Drop)]

@@ -4,18 +4,18 @@ ghost use Rattle.std.specs.Prelude.{◌≡◌, ◌++◌, ◌∷◌, [], map, pos
 ghost use Rattle.nf_terms.specs.NormalTerms as terms;
 ghost use Rattle.nf_terms.specs.View as view;
 ghost use Rattle.term_text.specs.View as text;
-ghost use Rattle.term_values.specs.DigitNumbers.{clipped_number};
+ghost use Rattle.term_condition_text.specs.DigitNumbers.{clipped_number};
 ghost use Rattle.term_values.specs.TermValues.{within_limit, coefficient, atom_value, atoms_of, polynomial_value, array_value};
 ghost use Rattle.term_values.specs.TermValues.{list_base};
 ghost use Rattle.term_values.specs.ListParts.{under_sign, base_value};
 
 use crate::names::{Names, position};
-use crate::numbers::clip_number;
 use nf_terms::atoms::{make_quotient, make_read, make_remainder};
 use nf_terms::copies::{push_atom, push_term, push_write};
 use nf_terms::stop::NoMemory;
 use nf_terms::tree::{ArrTree, Atom, Base, MonoTree, PolyTree, SeqBase};
 use std::alloc::Global;
+use term_condition_text::numbers::clip_number;
 use term_text::tree::{
     WrittenArray, WrittenAtom, WrittenBase, WrittenHead, WrittenListBase, WrittenMonomial,
     WrittenPolynomial,

@@ -3,7 +3,7 @@
 ghost use Rattle.std.specs.Prelude.{◌≡◌, ◌-◌, ◌^◌, min, nat_le, pos, unsigned_abs};
 ghost use Rattle.fs_model.specs.Digits.{with_digit, value_of_digits};
 ghost use Rattle.nf_terms.specs.TermLimits.{weight_limit};
-ghost use Rattle.term_values.specs.DigitNumbers.{clipped_number};
+ghost use Rattle.term_condition_text.specs.DigitNumbers.{clipped_number};
 
 use nf_terms::limits::WEIGHT_LIMIT;
 
