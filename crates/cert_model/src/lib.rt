@@ -3,7 +3,7 @@
 //!
 //! Promises: what a certificate owes, by number; where all holds, the machines have the same behaviour; the facts of
 //! each certificate are in normal form; the paths of points by covers, keys of pairs of points, whether outputs have the
-//! same forms.
+//! same forms, and whether nodes make a lawful certificate.
 //!
 //! Rules: `specs/Obligations`, `specs/Lawful`, `src/laws`, `specs/Kept`, `specs/PointKeys`.
 //!
@@ -19,6 +19,7 @@ pub mod cert;
 pub mod covers;
 pub mod kept;
 pub mod keys;
+pub mod lawful_nodes;
 pub mod laws;
 pub mod outputs;
 pub mod reason;

@@ -19,8 +19,8 @@ pub const CHANGE_LIMIT: u32 = 256;
 /// The most times that the table is cleared.
 pub const CLEARING_LIMIT: u32 = 64;
 
-/// The most units of a table.
-pub const UNIT_LIMIT: u64 = 4_000_000;
+// The most units of a table.
+const UNIT_LIMIT: u64 = 4_000_000;
 
 /// The nodes of a table in order, what is kept of pairs of points, and what was done so far.
 #[derive(Drop)]

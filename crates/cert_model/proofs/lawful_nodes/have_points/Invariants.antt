@@ -2,7 +2,7 @@ use Rattle.std.proofs.Common.{◌≡◌, ◌&&◌, map, drop}
 use Rattle.std.specs.List.{list_all}
 use Rattle.fs_cut.specs.Paths.{is_point}
 use Rattle.cert_model.specs.View.{node_of}
-use Rattle.search_strengthening_tables.proofs.assembling.have_points.Given as goal
+use Rattle.cert_model.proofs.lawful_nodes.have_points.Given as goal
 
 abbrev pub invariant-loop-node : goal.invariant-loop-node
 invariant-loop-node l =

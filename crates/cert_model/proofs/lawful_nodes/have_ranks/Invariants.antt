@@ -2,7 +2,7 @@ use Rattle.std.proofs.Common.{◌≡◌, map, drop, nat_le}
 use Rattle.std.specs.List.{list_all}
 use Rattle.cert_model.specs.Lawful.{most_rank}
 use Rattle.cert_model.specs.View.{node_of}
-use Rattle.search_strengthening_tables.proofs.assembling.have_ranks.Given as goal
+use Rattle.cert_model.proofs.lawful_nodes.have_ranks.Given as goal
 
 abbrev pub invariant-loop-node : goal.invariant-loop-node
 invariant-loop-node l =

@@ -3,7 +3,7 @@ use Rattle.std.specs.List.{list_any}
 use Rattle.fs_cut.specs.Covers.{same_point}
 use Rattle.fs_cut.specs.View.{point_of}
 use Rattle.cert_model.specs.View.{node_of}
-use Rattle.search_strengthening_tables.proofs.assembling.stands_among.Given as goal
+use Rattle.cert_model.proofs.lawful_nodes.stands_among.Given as goal
 
 abbrev pub invariant-loop-other : goal.invariant-loop-other
 invariant-loop-other l =
