@@ -9,7 +9,7 @@ use Rattle.fsmd_replies.specs.declared.answer.Answer.{Answer}
 use Rattle.fsmd_answers.specs.declared.refused.Refused.{Refused as Refusal}
 use Rattle.fsmd_answers.specs.declared.refused.Refused.TheVariants.{Answered, NoMemory}
 use Rattle.fsmd_answers.specs.Refusing.{WhereAnswered}
-use Rattle.fsmd_answers.specs.Verdicts.{answer_to, IsJudged}
+use Rattle.fsmd_pair_answers.specs.Verdicts.{answer_to, IsJudged}
 use Rattle.fsmd_answers.specs.Links.{AtLink}
 
 -- what the answer of a refusal meets, that of the link meets as told

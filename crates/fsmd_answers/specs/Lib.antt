@@ -7,7 +7,6 @@ pub mod InputFiles
 pub mod Refusals
 pub mod Refusing
 pub mod ComparisonAnswers
-pub mod Verdicts
 pub mod RunAnswers
 pub mod Replays
 pub mod Shrinks
@@ -19,6 +18,7 @@ pub mod Follows
 pub use Rattle.fsmd_pair_answers.specs.Certificates
 pub use Rattle.fsmd_pair_answers.specs.SearchOutcomes
 pub use Rattle.fsmd_pair_answers.specs.PairAnswers
+pub use Rattle.fsmd_pair_answers.specs.Verdicts
 pub use Rattle.fsmd_replies.specs.SearchTables
 pub use Rattle.cert_writer.specs.WrittenCertificates
 pub use Rattle.fsmd_pair_answers.specs.Alike

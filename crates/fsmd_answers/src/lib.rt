@@ -3,7 +3,7 @@
 //! Promises: what each command answers to bytes and machines.
 //!
 //! Rules: `specs/MachineFiles`, `specs/Readings`, `specs/Unread`, `specs/Refusals`, `specs/JsonKeys`, `specs/Shrinks`,
-//! `specs/Links`, `specs/Follows`, `specs/Verdicts`.
+//! `specs/Links`, `specs/Follows`.
 //!
 //! Words:
 //! - content (of a file): what was read of it: its bytes, or it could not be read
@@ -14,7 +14,6 @@
 pub mod bindings;
 pub mod compare;
 pub mod generated;
-pub mod judge;
 pub mod links;
 pub mod programs;
 pub mod reading;
@@ -22,3 +21,5 @@ pub mod refused;
 pub mod runs;
 pub mod schedules;
 pub mod shrinks;
+
+pub use fsmd_pair_answers::judge;

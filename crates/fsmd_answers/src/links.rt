@@ -12,16 +12,16 @@ ghost use Rattle.cert_check.specs.View.{verdict_in};
 ghost use Rattle.fsmd_replies.specs.declared.answer.Answer.TheVariants.{Link};
 ghost use Rattle.fsmd_answers.specs.declared.refused.Refused.TheVariants.{Answered};
 ghost use Rattle.fsmd_replies.specs.Statuses.{status_of};
-ghost use Rattle.fsmd_answers.specs.Verdicts.{answer_to, IsJudged};
+ghost use Rattle.fsmd_pair_answers.specs.Verdicts.{answer_to, IsJudged};
 ghost use Rattle.fsmd_answers.specs.Links.{link_lines, AtLink, IsOfChain};
 ghost use Rattle.fsmd_answers.specs.Refusing.{WhereAnswered};
 
-use crate::judge::answer_to;
 use crate::refused::Refused;
 use cert_check::verdict::Verdict;
 use cert_model::cert::Cert;
 use fs_ast::machine::Machine;
 use fs_pair::positions::Pairing;
+use fsmd_pair_answers::judge::answer_to;
 use fsmd_replies::answer::{Answer, Lines};
 use fsmd_replies::reply::lines;
 use fsmd_words::asking::Ask;

@@ -2,6 +2,7 @@ pub mod Alike
 pub mod Behaviour
 pub mod Branches
 pub mod Named
+pub mod Names
 pub mod Once
 pub mod Ranks
 mod Shown

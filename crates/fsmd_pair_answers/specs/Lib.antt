@@ -1,5 +1,7 @@
 pub mod PairAnswers
 pub mod PairAnswerLaws
+pub mod Reasons
+pub mod Verdicts
 pub use Rattle.search_laws.specs.Certificates
 pub use Rattle.search_laws.specs.SearchOutcomes
 pub use Rattle.cert_bisimulation.specs.Alike

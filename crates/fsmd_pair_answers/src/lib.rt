@@ -1,9 +1,9 @@
 //! What two machines with the same inputs and outputs get: a certificate that they have the same behaviour, a counterexample, or
-//! what keeps them undecided.
+//! what keeps them undecided; and what a certificate of them gets.
 //!
-//! Promises: `compare`: what two machines get, with the lines that are put.
+//! Promises: `compare`: what two machines get, with the lines that are put; `judge`: what is answered of their certificate.
 //!
-//! Rules: `specs/PairAnswers`, `src/laws`.
+//! Rules: `specs/PairAnswers`, `specs/Verdicts`, `specs/Reasons`, `src/laws`.
 //!
 //! Words:
 //! - counterexample: the first candidate that shows a difference, with both ends
@@ -15,5 +15,7 @@ pub mod answer;
 mod beyond;
 mod candidates;
 pub mod compare;
+pub mod judge;
 pub mod laws;
 mod obstacles;
+mod reason;

@@ -1,6 +1,5 @@
 pub mod AskedFiles
 pub mod ObstacleTexts
-pub mod Reasons
 pub mod Replies
 pub mod Statuses
 pub use Rattle.search_tables.specs.SearchTables

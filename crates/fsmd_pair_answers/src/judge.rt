@@ -6,9 +6,10 @@ ghost use Rattle.fs_pair.specs.Positions.{positions};
 ghost use Rattle.cert_model.specs.Lawful.{IsLawful};
 ghost use Rattle.cert_model.specs.View.{node_of};
 ghost use Rattle.cert_check.specs.View.{verdict_in};
-ghost use Rattle.fsmd_answers.specs.Verdicts.{answer_to, IsJudged};
-ghost use Rattle.fsmd_replies.specs.Reasons.{reason_text};
+ghost use Rattle.fsmd_pair_answers.specs.Verdicts.{answer_to, IsJudged};
+ghost use Rattle.fsmd_pair_answers.specs.Reasons.{reason_text};
 
+use crate::reason::reason_text;
 use cert_check::verdict::Verdict;
 use cert_check::verify::verify;
 use cert_model::cert::Cert;
@@ -16,7 +17,6 @@ use cert_model::reason::Reason;
 use fs_ast::machine::Machine;
 use fs_pair::positions::Pairing;
 use fsmd_replies::answer::{Answer, Lines};
-use fsmd_replies::reason::reason_text;
 use std::alloc::{AllocError, Global};
 
 // The line of an obligation that fails, up to the reason.
@@ -64,8 +64,8 @@ fn undecided(alloc: Global, obligation: u32, event: &str) -> Result<Lines, Alloc
     Ok(Lines::of(text.into_bytes()))
 }
 
-// The answer that a verdict gets.
-pub(crate) fn answer_to(
+/// The answer that a verdict gets. The one refusal is out of memory.
+pub fn answer_to(
     alloc: Global,
     a: &Machine,
     b: &Machine,
