@@ -1,2 +1,4 @@
 pub mod FactLines
+pub mod LostLines
+pub mod PointTexts
 pub mod View

@@ -1,4 +1,3 @@
 pub mod Shown
 pub mod Facts
 pub mod Again
-pub mod Loops

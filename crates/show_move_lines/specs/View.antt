@@ -1,8 +1,6 @@
 -- The types of src/ as plain data.
-use Rattle.std.specs.Prelude.{ℕ, List, Option, Some, None}
-use Rattle.fs_pair.specs.Partners.{position_name}
+use Rattle.std.specs.Prelude.{Option, Some, None}
 use Rattle.fs_cut.specs.View.{point_of}
-use Rattle.fs_model.specs.declared.sides.Pos.{Pos}
 use Rattle.sym_paths.specs.View.{post_in}
 use Rattle.sym_facts.specs.View.{missing_in}
 use Rattle.search_tables.specs.SearchTables.{MachinePair, Target, Unknown, Known}
@@ -15,10 +13,6 @@ use Rattle.show_move_lines.specs.MoveReplays.{Turn, Idle, Makes, Weakens}
 
 abbrev pub side_machines : Sides → MachinePair
 side_machines s = record { left = s.left.now; right = s.right.now }
-
--- the names of the positions of two machines
-abbrev pub position_name_in : MachinePair → Pos → List ℕ
-position_name_in m = position_name m.left m.right
 
 abbrev pub target_in : Option Standing → Target
 target_in None = Unknown

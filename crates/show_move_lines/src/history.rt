@@ -5,9 +5,10 @@ ghost use Rattle.fs_cut.specs.Covers.{cover_of};
 ghost use Rattle.fs_pair.specs.Positions.{positions};
 ghost use Rattle.search_tables.specs.SearchTables.{machines, first_table};
 ghost use Rattle.search_tables.specs.View.{table_in};
+ghost use Rattle.show_fact_text.specs.View.{position_name_in};
 ghost use Rattle.show_move_lines.specs.MoveReplays.{turn_of_move, with_turn, AreOf};
 ghost use Rattle.show_move_lines.specs.MoveLines.{turn_lines, turns_lines, start_move_lines, history_text};
-ghost use Rattle.show_move_lines.specs.View.{side_machines, position_name_in};
+ghost use Rattle.show_move_lines.specs.View.{side_machines};
 
 use crate::lines::{write_node, write_turn};
 use crate::sides::Sides;

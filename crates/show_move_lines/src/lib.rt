@@ -15,6 +15,5 @@ pub mod laws;
 pub mod lines;
 pub mod points;
 pub mod sides;
-pub mod texts;
 pub mod turn;
 pub mod turns;

@@ -1,13 +1,12 @@
 //! The node at two points.
 
-ghost use Rattle.std.specs.Prelude.{◌≡◌, option_map};
-ghost use Rattle.fs_cut.specs.View.{point_of, path_of};
-ghost use Rattle.sym_paths.specs.Execution.{end_of};
+ghost use Rattle.std.specs.Prelude.{◌≡◌};
+ghost use Rattle.fs_cut.specs.View.{point_of};
 ghost use Rattle.search_tables.specs.SearchTables.{is_at, node_target};
 ghost use Rattle.search_tables.specs.View.{table_node_in, table_in};
 ghost use Rattle.show_move_lines.specs.View.{target_in};
 
-use fs_cut::cover::{Path, Point};
+use fs_cut::cover::Point;
 use search_tables::nodes::TableNode;
 
 /// A node with its number.
@@ -34,14 +33,4 @@ pub fn find(nodes: &[TableNode], left: Point, right: Point) -> Option<Standing<'
         }
     }
     None
-}
-
-/// Where a side comes to, which keeps its point where it stays.
-pub fn end_of(point: Point, path: Option<&Path>) -> Point
-    ensures { point_of result ≡ end_of (point_of point) (option_map (λ p. path_of p.now) path.entry) }
-{
-    match path {
-        Some(path) => path.to,
-        None => point,
-    }
 }

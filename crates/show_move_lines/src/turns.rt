@@ -10,7 +10,7 @@ ghost use Rattle.search_tables.specs.View.{table_node_in, table_in};
 ghost use Rattle.show_move_lines.specs.MoveReplays.{turn_at, turn_from, turn_by, turn_of_move, with_turn, AreOf, HasFactOf};
 ghost use Rattle.show_move_lines.specs.View.{side_machines, turn_in};
 
-use crate::points::{Standing, end_of, find};
+use crate::points::{Standing, find};
 use crate::sides::{Sides, left_path, right_path};
 use crate::turn::Turn;
 use fs_cut::cover::Point;
@@ -21,6 +21,7 @@ use propagate::laws::{joined_facts_are_of_the_positions, rebased_facts_are_of_th
 use propagate::rebases::rebase;
 use search_tables::moves::Move;
 use search_tables::nodes::TableNode;
+use show_fact_text::points::end_of;
 use std::alloc::Global;
 use sym_entailment::arrival::arrive;
 use sym_entailment::entailment::entails;

@@ -1,4 +1,3 @@
-pub mod CertificateLines
 pub mod Why
-pub mod Demands
 pub mod SearchPictures
+pub use Rattle.show_certificate_lines.specs.Demands

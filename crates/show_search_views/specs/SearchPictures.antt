@@ -10,11 +10,12 @@ use Rattle.search_tables.specs.declared.outcome.Outcome.{Outcome}
 use Rattle.search_tables.specs.declared.outcome.Outcome.TheVariants.{Closed, Stuck, Spin, Wide, Large, Exhausted}
 use Rattle.search_tables.specs.SearchTables.{MachinePair, SearchNode, Table, first_table, positions_of}
 use Rattle.search_tables.specs.Legal.{Makes}
-use Rattle.search.specs.SearchOutcomes.{IsSearchOutcome}
+use Rattle.fsmd_pair_answers.specs.SearchOutcomes.{IsSearchOutcome}
 use Rattle.show_fact_text.specs.FactLines.{fact_lines}
+use Rattle.show_fact_text.specs.PointTexts.{points_text}
+use Rattle.show_fact_text.specs.View.{position_name_in}
 use Rattle.show_move_lines.specs.MoveReplays.{Turn, Idle, Makes as MakesNode, Weakens, turn_of_move, with_turn, with_turns}
-use Rattle.show_move_lines.specs.MoveLines.{moved_at, points_text}
-use Rattle.show_move_lines.specs.View.{position_name_in}
+use Rattle.show_move_lines.specs.MoveLines.{moved_at}
 
 -- ---- nodes
 

@@ -6,7 +6,7 @@ use Rattle.search_tables.specs.declared.moves.Move.{Move}
 use Rattle.search_tables.specs.declared.outcome.Outcome.{Outcome}
 use Rattle.search_tables.specs.declared.outcome.Outcome.TheVariants.{Closed, Stuck, Spin, Wide, Large, Exhausted}
 use Rattle.search_tables.specs.SearchTables.{MachinePair, machines}
-use Rattle.search.specs.SearchOutcomes.{IsSearchOutcome}
+use Rattle.fsmd_pair_answers.specs.SearchOutcomes.{IsSearchOutcome}
 use Rattle.fsmd_pair_answers.specs.declared.answer.PairAnswer.{PairAnswer}
 use Rattle.fsmd_pair_answers.specs.declared.answer.PairAnswer.TheVariants.{Equivalent, Counterexample, Undecided}
 use Rattle.fsmd_pair_answers.specs.PairAnswers.{IsPairAnswer}
@@ -14,7 +14,7 @@ use Rattle.fsmd_replies.specs.declared.answer.Answer.{Answer}
 use Rattle.fsmd_replies.specs.declared.answer.Answer.TheVariants as answers
 use Rattle.fsmd_replies.specs.Replies.{equivalent_text}
 use Rattle.show_move_lines.specs.MoveLines.{history_text}
-use Rattle.show_search_views.specs.CertificateLines.{certificate_lines}
+use Rattle.show_certificate_lines.specs.CertificateLines.{certificate_lines}
 use Rattle.show_search_views.specs.declared.why.Explanation.{Explanation}
 
 -- the moves of a search that stops at an obstacle

@@ -1,18 +1,15 @@
-//! The search of two machines, shown: what led to its answer, its table as a graph, and the obligations of a certificate.
+//! The search of two machines, shown: what led to its answer, and its table as a graph.
 //!
 //! Promises: `explain`: the answer that two machines get, with what led to it; `search_picture`: the picture of the search
-//! of two machines; `obligation_lines`: the obligations of a certificate, by number.
+//! of two machines.
 //!
-//! Rules: `specs/Why`, `specs/CertificateLines`, `specs/SearchPictures`, `specs/Demands`.
+//! Rules: `specs/Why`, `specs/SearchPictures`.
 #![tactic(auto)]
 
-mod certificate_lines;
-mod demands;
 mod edges;
 mod marks;
-mod modes;
-mod move_demands;
-pub mod obligations;
 pub mod pictures;
 mod table_nodes;
 pub mod why;
+
+pub use show_certificate_lines::obligations;

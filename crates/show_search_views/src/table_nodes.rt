@@ -12,8 +12,8 @@ use search_tables::nodes::TableNode;
 use show_dot_text::graphs::write_node;
 use show_fact_text::lines::write_fact;
 use show_fact_text::names::SideNames;
+use show_fact_text::points::write_points;
 use show_move_lines::sides::Sides;
-use show_move_lines::texts::write_points;
 use std::alloc::Global;
 
 // The label of a node: its points, and its fact.

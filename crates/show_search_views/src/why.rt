@@ -4,18 +4,18 @@ ghost use Rattle.std.specs.Prelude.{◌≡◌, ◌≤◌, IfOk, None, is_some, o
 ghost use Rattle.fs_pair.specs.Interfaces.{interface_fault};
 ghost use Rattle.fs_pair.specs.Positions.{positions};
 ghost use Rattle.search_tables.specs.SearchTables.{machines};
-ghost use Rattle.search.specs.SearchOutcomes.{IsSearchOutcome};
+ghost use Rattle.fsmd_pair_answers.specs.SearchOutcomes.{IsSearchOutcome};
 ghost use Rattle.show_search_views.specs.Why.{moves_of, history_of, heading_of, found_lines, why_lines, IsExplanation};
 
-use crate::certificate_lines::certificate_lines;
 use fs_ast::machine::Machine;
 use fs_pair::positions::Pairing;
 pub use fsmd_pair_answers::answer::PairAnswer;
 use fsmd_pair_answers::compare::compare;
-use nf_terms::stop::NoMemory;
 use search::searching::search;
+use nf_terms::stop::NoMemory;
 use search_tables::moves::Move;
 use search_tables::outcome::Outcome;
+use show_certificate_lines::nodes::certificate_lines;
 use show_move_lines::history::history;
 use std::alloc::Global;
 
