@@ -2,7 +2,6 @@ pub mod Alike
 pub mod Behaviour
 pub mod Branches
 pub mod Named
-pub mod Names
 pub mod Once
 pub mod Ranks
 mod Shown

@@ -1,6 +1,5 @@
 pub mod PairAnswers
 pub mod PairAnswerLaws
-pub mod Reasons
 pub mod Verdicts
 pub use Rattle.search_laws.specs.Certificates
 pub use Rattle.search_laws.specs.SearchOutcomes

@@ -7,7 +7,7 @@ use Rattle.sym_facts.specs.Facts.{Fact}
 use Rattle.cert_model.specs.Obligations.{Verdict, Yes, No, IsWide, IsLarge, verdict_on}
 use Rattle.fsmd_replies.specs.declared.answer.Answer.{Answer}
 use Rattle.fsmd_replies.specs.declared.answer.Answer.TheVariants.{Text, Differs, Undecided}
-use Rattle.fsmd_pair_answers.specs.Reasons.{reason_text}
+use Rattle.fsmd_replies.specs.Reasons.{reason_text}
 
 -- the answer that a verdict gets
 abbrev pub answer_to : (a b : Fsmd) → Verdict → Answer

@@ -7,9 +7,8 @@ ghost use Rattle.cert_model.specs.Lawful.{IsLawful};
 ghost use Rattle.cert_model.specs.View.{node_of};
 ghost use Rattle.cert_check.specs.View.{verdict_in};
 ghost use Rattle.fsmd_pair_answers.specs.Verdicts.{answer_to, IsJudged};
-ghost use Rattle.fsmd_pair_answers.specs.Reasons.{reason_text};
+ghost use Rattle.fsmd_replies.specs.Reasons.{reason_text};
 
-use crate::reason::reason_text;
 use cert_check::verdict::Verdict;
 use cert_check::verify::verify;
 use cert_model::cert::Cert;
@@ -17,6 +16,7 @@ use cert_model::reason::Reason;
 use fs_ast::machine::Machine;
 use fs_pair::positions::Pairing;
 use fsmd_replies::answer::{Answer, Lines};
+use fsmd_replies::reason::reason_text;
 use std::alloc::{AllocError, Global};
 
 // The line of an obligation that fails, up to the reason.

@@ -3,7 +3,7 @@
 //!
 //! Promises: `compare`: what two machines get, with the lines that are put; `judge`: what is answered of their certificate.
 //!
-//! Rules: `specs/PairAnswers`, `specs/Verdicts`, `specs/Reasons`, `src/laws`.
+//! Rules: `specs/PairAnswers`, `specs/Verdicts`, `src/laws`.
 //!
 //! Words:
 //! - counterexample: the first candidate that shows a difference, with both ends
@@ -18,4 +18,3 @@ pub mod compare;
 pub mod judge;
 pub mod laws;
 mod obstacles;
-mod reason;

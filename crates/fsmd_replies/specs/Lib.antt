@@ -1,5 +1,6 @@
 pub mod AskedFiles
 pub mod ObstacleTexts
+pub mod Reasons
 pub mod Replies
 pub mod Statuses
 pub use Rattle.search_tables.specs.SearchTables

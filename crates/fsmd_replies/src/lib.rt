@@ -1,8 +1,8 @@
-//! The words of replies: what each answer puts, and the names of faults and obstacles.
+//! The words of replies: what each answer puts, and the names of faults, obstacles and reasons.
 //!
 //! Promises: the bytes of each answer, its status, and the words that name the files of a command.
 //!
-//! Rules: `specs/Replies`, `specs/Statuses`, `specs/AskedFiles`, `specs/ObstacleTexts`.
+//! Rules: `specs/Replies`, `specs/Statuses`, `specs/AskedFiles`, `specs/ObstacleTexts`, `specs/Reasons`.
 //!
 //! Words:
 //! - answer: what a command says to what was read, before it is text
@@ -11,6 +11,7 @@
 
 pub mod answer;
 pub mod obstacles;
+pub mod reason;
 mod refusals;
 pub mod reply;
 mod texts;

@@ -4,13 +4,13 @@ ghost use Rattle.std.specs.Prelude.{◌≡◌, ◌++◌, [], IfOk, Some, slice_g
 ghost use Rattle.term_text.specs.TermTexts.{symbol_text};
 ghost use Rattle.fs_pair.specs.Partners.{variables_on};
 ghost use Rattle.fs_pair.specs.Positions.{positions};
-ghost use Rattle.fsmd_pair_answers.specs.Reasons.{position_text, reason_text};
+ghost use Rattle.fsmd_replies.specs.Reasons.{position_text, reason_text};
 
+use crate::variables::variable_name;
 use cert_model::reason::Reason;
 use fs_ast::machine::Machine;
 use fs_model::parts::{VarId, VarInfo};
 use fs_pair::positions::{Pairing, Position};
-use fsmd_replies::variables::variable_name;
 use nf_terms::tree::{Pos, Side};
 use std::alloc::{AllocError, Global};
 
