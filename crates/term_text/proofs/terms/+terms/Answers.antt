@@ -115,7 +115,8 @@ index-returns-in_err-open_bracket-clause-goes t c = λ a k. refused c.from_resid
     (c.in_err-open_bracket.ensures.goes a k)
 
 pub index-returns-in_err-index-clause-goes : goal.index-returns-in_err-index-clause-goes
-index-returns-in_err-index-clause-goes t c = λ a k. refused c.from_residual-in_err-index.result c.in_err-index.field-0.0 _ _ c.from_residual-in_err-index.ensures.1
+index-returns-in_err-index-clause-goes t c =
+    λ a k. refused c.from_residual-in_err-index.result c.in_err-index.field-0.0 _ _ c.from_residual-in_err-index.ensures.1
     (c.in_ok-open_bracket.ensures.goes a k) (c.in_err-index.ensures.goes (index a k))
 
 pub index-returns-in_err-close_bracket-clause-goes : goal.index-returns-in_err-close_bracket-clause-goes
@@ -143,7 +144,8 @@ write-returns-in_err-index-clause-goes t c = λ a k. refused c.from_residual.res
     (c.in_err-index.ensures.goes (place a k))
 
 pub write-returns-in_err-value-clause-goes : goal.write-returns-in_err-value-clause-goes
-write-returns-in_err-value-clause-goes t c = λ a k. refused c.from_residual-in_err-value.result c.in_err-value.field-0.0 _ _ c.from_residual-in_err-value.ensures.1
+write-returns-in_err-value-clause-goes t c =
+    λ a k. refused c.from_residual-in_err-value.result c.in_err-value.field-0.0 _ _ c.from_residual-in_err-value.ensures.1
     (c.in_ok-index.ensures.goes (place a k)) (c.in_err-value.ensures.goes a (written_polynomial_in c.in_ok-index.index) k)
 
 pub write-returns-clause-goes : goal.write-returns-clause-goes
