@@ -6,7 +6,7 @@ use Rattle.nf_terms.specs.NormalTerms.{Atom, Monomial, Polynomial, One, Times, Z
 use Rattle.nf_terms.specs.Order.{cmp_monomial}
 use Rattle.nf_terms.specs.Normal.{part_with_atoms, constant_sum, monomial_rises}
 use Rattle.nf_terms.specs.RawSums.{monomial_product, raw_negation, raw_difference}
-use Rattle.nf_terms.proofs.Partings.{rises_through}
+use Rattle.nf_sums.proofs.Partings.{rises_through}
 use Rattle.nf_sums.specs.OrderedSums.{worth_of, IgnoresOrder}
 use Rattle.nf_sums.specs.RawSumForms.{normal_form}
 use Rattle.nf_sums.proofs.Collecting.{worth-form}

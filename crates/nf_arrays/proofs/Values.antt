@@ -17,7 +17,7 @@ use Rattle.nf_terms.specs.declared.tree.Base.TheVariants as starts
 use Rattle.nf_terms.specs.Computed.{Computed, Done}
 use Rattle.nf_terms.specs.Normal.{constant_sum}
 use Rattle.nf_terms.specs.Tidied.{last_writes, goes_after, with_write, rising_stretches, tidy_array}
-use Rattle.nf_terms.proofs.Partings.{value_of_number}
+use Rattle.nf_sums.proofs.Partings.{value_of_number}
 use Rattle.nf_sums.proofs.Constants.{equal_of_same, parts_equal}
 use Rattle.nf_sums.proofs.Values.{value_parts, small_is}
 use Rattle.nf_arrays.specs.NewAtoms.{polynomial_of_atom, new_atom, quotient_of, remainder_of}

@@ -13,8 +13,8 @@ use Rattle.nf_terms.specs.Measures.{weight_of}
 use Rattle.nf_terms.specs.Normal.{IsNormal, ordered, part_with_atoms}
 use Rattle.nf_terms.specs.Reduced.{Reduces, Ended, Kept}
 use Rattle.nf_terms.proofs.Simple.{light}
-use Rattle.nf_terms.proofs.Partings.{ordered_term}
-use Rattle.nf_terms.proofs.Reducing.{reduced_normal, part_normal}
+use Rattle.nf_sums.proofs.Partings.{ordered_term}
+use Rattle.nf_sums.proofs.Reducing.{reduced_normal, part_normal}
 use Rattle.nf_terms.specs.Normal.{constant_sum}
 use Rattle.nf_terms.specs.TermLimits.{weight_limit}
 use Rattle.nf_rel.specs.Gcd.{gcd}

@@ -16,8 +16,8 @@ use Rattle.nf_terms.specs.TermLimits.{weight_limit, size_limit, depth_limit}
 use Rattle.nf_terms.specs.Normal.{IsNormal, has_atoms, ordered, narrow, part_with_atoms, constant_sum}
 use Rattle.nf_rel.specs.declared.kind.Kind.{Kind}
 use Rattle.nf_rel.specs.declared.kind.Kind.TheVariants.{Ge, Le, Eq, Ne}
-use Rattle.nf_terms.proofs.Partings.{ordered_term}
-use Rattle.nf_terms.proofs.Reducing.{part_normal}
+use Rattle.nf_sums.proofs.Partings.{ordered_term}
+use Rattle.nf_sums.proofs.Reducing.{part_normal}
 use Rattle.nf_rel.specs.Literals.{NormalLiteral, True, False, Is, truth, common_divisor, divide_coefficients, begins_positive, signed_number, Form, AtLeastZero}
 use Rattle.nf_rel.specs.Literals.{IsZero, IsNotZero, form_holds, bounded_literal, bounded_by, literal_form}
 use Rattle.nf_rel.specs.NormalLiterals.{is_normal, lacks_constant, is_primitive, is_inner_number, IsNormalLiteral}

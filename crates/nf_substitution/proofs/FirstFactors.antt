@@ -4,7 +4,7 @@ use Rattle.std.proofs.Common.{subst, ◌∙◌}
 use Rattle.std.proofs.Math.Seq.{take-length}
 use Rattle.std.proofs.lemmas.Int.{ints}
 use Rattle.std.proofs.lemmas.Bool.{le-leb}
-use Rattle.nf_terms.proofs.Identities.{sum_with_zero}
+use Rattle.nf_sums.proofs.Identities.{sum_with_zero}
 use Rattle.nf_terms.proofs.Simple.{light}
 use Rattle.nf_terms.specs.NormalTerms.{Atom, Monomial, Polynomial, One, Times, Zero, Plus}
 use Rattle.nf_terms.specs.Measures.{size_of, depth_of, weight_of}

@@ -8,8 +8,8 @@ use Rattle.std.specs.List.{list_all}
 use Rattle.std.specs.Ordering.{int_eq}
 use Rattle.std.specs.Prelude.{is_some}
 use Rattle.nf_terms.proofs.Booleans.{and_first, and_second}
-use Rattle.nf_terms.proofs.Identities.{product_with_one, sum_with_zero}
-use Rattle.nf_terms.proofs.Partings.{ordered_term, term_ordered}
+use Rattle.nf_sums.proofs.Identities.{product_with_one, sum_with_zero}
+use Rattle.nf_sums.proofs.Partings.{ordered_term, term_ordered}
 use Rattle.nf_terms.proofs.Simple.{light}
 use Rattle.nf_terms.specs.NormalTerms.{Atom, Monomial, Polynomial, Symbol, Read, Quotient, Remainder, One, Times, Zero, Plus, polynomial_of_symbol}
 use Rattle.nf_terms.specs.NormalTerms.{polynomial_of_number}

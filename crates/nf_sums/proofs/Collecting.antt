@@ -17,7 +17,7 @@ use Rattle.nf_terms.specs.Measures.{size_of, weight_of, size_of_monomial}
 use Rattle.nf_terms.specs.Normal.{ordered, ordered_monomial, monomial_rises}
 use Rattle.nf_terms.proofs.Ring.{add-mul_z}
 use Rattle.nf_sums.specs.OrderedSums.{worth_of, IgnoresOrder, polynomial_fits, fits_monomial}
-use Rattle.nf_terms.proofs.Partings.{rises_through, ordered_term, term_ordered}
+use Rattle.nf_sums.proofs.Partings.{rises_through, ordered_term, term_ordered}
 use Rattle.nf_sums.proofs.Bags.{size_worth, size_ignores, fits_ignores, fits_again}
 use Rattle.nf_sums.specs.RawSumForms.{sorted_monomial, plus, by_order, with_term, normal_form}
 use Rattle.nf_sums.proofs.Sorting.{sorting_ignored, sorted_stays, sorted_ordered, atoms_ordered}

@@ -9,8 +9,8 @@ use Rattle.nf_terms.specs.TermKeys.{polynomial_ties, polynomial_same}
 use Rattle.nf_terms.specs.Normal.{ordered, part_with_atoms, constant_part, differ_by_constant}
 use Rattle.nf_terms.specs.RawSums.{raw_sum}
 use Rattle.nf_terms.specs.Normal.{constant_sum}
-use Rattle.nf_terms.proofs.Partings.{last_one, parted}
-use Rattle.nf_terms.proofs.Partings.{ordered_term}
+use Rattle.nf_sums.proofs.Partings.{last_one, parted}
+use Rattle.nf_sums.proofs.Partings.{ordered_term}
 
 -- polynomials that are the same are equal
 pub equal_of_same : (p q : Polynomial) → same_polynomial p q ≡ true → p ≡ q

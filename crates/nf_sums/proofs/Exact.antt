@@ -13,7 +13,7 @@ use Rattle.nf_terms.specs.Normal.{IsNormal}
 use Rattle.nf_terms.specs.RawSums.{raw_sum, raw_negation, raw_difference, raw_product, IsNormalFormOf}
 use Rattle.nf_sums.specs.OrderedSums.{polynomial_fits, IsOrderedSum, IsOrderedProduct}
 use Rattle.nf_terms.proofs.Simple.{number_normal}
-use Rattle.nf_terms.proofs.Partings.{value_of_number}
+use Rattle.nf_sums.proofs.Partings.{value_of_number}
 use Rattle.nf_sums.proofs.Terms.{size-sum, weight-sum, fits-sum}
 use Rattle.nf_sums.proofs.Worth.{worth-sum}
 use Rattle.nf_sums.proofs.Forms.{negation_normal, negation_weight, negation_size, negation_value, negation_form, sum_form, sum_value, product_form}

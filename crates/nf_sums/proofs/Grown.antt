@@ -9,7 +9,7 @@ use Rattle.nf_terms.specs.Measures.{size_of, weight_of}
 use Rattle.nf_terms.specs.TermLimits.{weight_limit, size_limit}
 use Rattle.nf_terms.specs.Normal.{IsNormal, ordered, ordered_monomial}
 use Rattle.nf_terms.specs.RawSums.{raw_sum, IsNormalFormOf}
-use Rattle.nf_terms.proofs.Parts.{rest_normal}
+use Rattle.nf_sums.proofs.Parts.{rest_normal}
 use Rattle.nf_sums.specs.RawSumForms.{with_term, with_terms}
 use Rattle.nf_sums.specs.Accumulators.{IsMeasured}
 use Rattle.nf_sums.specs.OrderedSums.{worth_of, polynomial_fits, fits_monomial}

@@ -4,7 +4,7 @@ use Rattle.std.proofs.Common.{drop-cons, add-one}
 use Rattle.std.proofs.lemmas.List.{drop_all, append-nil}
 use Rattle.std.specs.declared.cmp.Ordering.TheVariants.{Less}
 use Rattle.std.specs.Ordering.{is_le, ordering_reverse}
-use Rattle.nf_terms.proofs.Identities.{product_with_one}
+use Rattle.nf_sums.proofs.Identities.{product_with_one}
 use Rattle.nf_terms.proofs.Orderings.{is_le-false}
 use Rattle.nf_terms.specs.NormalTerms.{Atom, Monomial, One, Times, monomial_of}
 use Rattle.nf_terms.specs.View.{atom_in}

@@ -23,3 +23,9 @@ pub mod Given
 pub mod Rising
 pub mod Grown
 pub mod Placed
+pub mod Orders
+pub mod NormalParts
+pub mod Partings
+pub mod Reducing
+pub mod Parts
+pub mod Identities

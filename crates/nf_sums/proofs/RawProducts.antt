@@ -12,7 +12,7 @@ use Rattle.nf_sums.specs.OrderedSums.{polynomial_fits, fits_monomial}
 use Rattle.nf_sums.proofs.Bags.{size-joined, fits-joined}
 use Rattle.nf_sums.proofs.Terms.{size-sum, weight-sum, fits-sum}
 use Rattle.nf_sums.proofs.Sorting.{atoms_ordered, atoms_of_ordered, atoms_of_joined}
-use Rattle.nf_terms.proofs.Partings.{ordered_term}
+use Rattle.nf_sums.proofs.Partings.{ordered_term}
 use Rattle.nf_sums.proofs.Collecting.{atoms_in_order, monomials_ordered}
 
 size-multiple : (m : Monomial) (c : ℤ) (q : Polynomial) → size_of (raw_multiple m c q) ≤ (1 + size_of_monomial m) * size_of q

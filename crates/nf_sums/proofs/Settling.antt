@@ -12,7 +12,7 @@ use Rattle.nf_terms.specs.Normal.{IsNormal, IsNormalArray, ordered, ordered_atom
 use Rattle.nf_terms.specs.Normal.{is_constant, stays_read}
 use Rattle.nf_terms.specs.TermParts.{HasNormalParts}
 use Rattle.nf_terms.specs.RawSums.{total, SameTotals}
-use Rattle.nf_terms.proofs.Partings.{ordered_term}
+use Rattle.nf_sums.proofs.Partings.{ordered_term}
 use Rattle.nf_sums.specs.RawSumForms.{plus, by_order, with_term, normal_form}
 use Rattle.nf_sums.specs.Sameness.{settled_atom, settled_monomial, settled, settled_writes, settled_array, SameSum, SameAtom, SameArray, SameItems, SameList}
 use Rattle.nf_sums.proofs.Sorting.{sorted_stays, atoms_ordered}

@@ -15,7 +15,7 @@ use Rattle.nf_terms.specs.TermKeys.{atom_ties, atom_same, monomial_ties, monomia
 use Rattle.nf_terms.specs.Comparison.{atoms_total, monomials_total}
 use Rattle.nf_terms.specs.Normal.{IsNormal, ordered, ordered_atom, ordered_monomial, atom_rises, monomial_rises}
 use Rattle.nf_terms.specs.RawSums.{occurrences, as_often, same_bag, total, SameTotals}
-use Rattle.nf_terms.proofs.Partings.{ordered_term}
+use Rattle.nf_sums.proofs.Partings.{ordered_term}
 
 -- ---- sums that rise: in order, but for what is inside their atoms
 

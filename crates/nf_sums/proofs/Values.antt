@@ -15,7 +15,7 @@ use Rattle.nf_terms.specs.Computed.{Computed, Done, Wide, Large, after, IfDone, 
 use Rattle.nf_sums.specs.RawSumForms.{normal_form}
 use Rattle.nf_sums.specs.Operations.{operation, normal_sum, normal_difference, normal_product}
 use Rattle.nf_terms.specs.Normal.{constant_sum}
-use Rattle.nf_terms.proofs.Partings.{value-sum}
+use Rattle.nf_sums.proofs.Partings.{value-sum}
 use Rattle.nf_sums.proofs.Collecting.{worth-form}
 
 -- a normal form has the value of the raw sum

@@ -4,7 +4,7 @@ use Rattle.std.proofs.lemmas.Int.{ints}
 use Rattle.nf_terms.specs.NormalTerms.{Monomial, Polynomial, One, Times, Zero, Plus}
 use Rattle.nf_terms.specs.TermMeaning.{Valuation, value_of_atom, value_of_monomial, value_of}
 use Rattle.nf_terms.specs.RawSums.{raw_sum, raw_negation, raw_difference, monomial_product, raw_multiple, raw_product, same_bag, total}
-use Rattle.nf_terms.proofs.Partings.{value-sum}
+use Rattle.nf_sums.proofs.Partings.{value-sum}
 use Rattle.nf_sums.specs.OrderedSums.{worth_of}
 use Rattle.nf_terms.proofs.Ring.{add-mul_z, mul-add_z, neg-mul_z, mul_assoc_z, mul_mul_z, one-mul_z}
 use lib.IntN.{zero-*ℤ, *ℤ-zero}

@@ -6,7 +6,7 @@ ghost use Rattle.nf_terms.specs.View.{atom_in, monomial_in};
 ghost use Rattle.nf_terms.specs.Normal.{ordered_monomial};
 ghost use Rattle.nf_sums.specs.OrderedSums.{IsOrderedJoin};
 
-use nf_terms::copies::push_atom_copy;
+use crate::copies::push_atom_copy;
 use nf_terms::order::compare_atoms;
 use nf_terms::stop::NoMemory;
 use nf_terms::tree::{Atom, MonoTree};

@@ -9,8 +9,8 @@ ghost use Rattle.nf_terms.specs.Normal.{ordered};
 ghost use Rattle.nf_sums.specs.Signs.{by_sign, signed_polynomial};
 ghost use Rattle.nf_sums.specs.OrderedSums.{IsOrderedSum, term_unless_zero};
 
+use crate::copies::push_term_copy;
 use crate::negation::push_negated;
-use nf_terms::copies::push_term_copy;
 use nf_terms::order::compare_monos;
 use nf_terms::stop::NoMemory;
 use nf_terms::tree::MonoTree;

@@ -7,7 +7,7 @@ ghost use Rattle.nf_terms.specs.Measures.{weight_of};
 ghost use Rattle.nf_terms.specs.TermLimits.{weight_limit};
 ghost use Rattle.nf_terms.specs.RawSums.{raw_negation};
 
-use nf_terms::copies::push_term_copy;
+use crate::copies::push_term_copy;
 use nf_terms::stop::NoMemory;
 use nf_terms::tree::MonoTree;
 use std::alloc::Global;

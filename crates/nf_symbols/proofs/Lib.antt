@@ -4,3 +4,4 @@ pub mod Results
 pub mod Writing
 pub mod Substituted
 pub mod Mentioned
+pub mod Gathered

@@ -1,1 +1,2 @@
+pub mod GatheredSymbols
 pub mod SymbolTests

@@ -3,9 +3,11 @@
 ghost use Rattle.std.specs.Prelude.{◌≡◌, true, not, Bool, List};
 ghost use Rattle.std.specs.List.{list_all};
 ghost use Rattle.nf_terms.specs.NormalTerms.{Polynomial, ArrayTerm};
-ghost use Rattle.nf_terms.specs.Lists.{ListTerm};
+ghost use Rattle.nf_terms.specs.Lists.{ListTerm, mentions_list};
 ghost use Rattle.nf_terms.specs.TermMeaning.{Valuation, value_of, contents, items_in};
 ghost use Rattle.nf_terms.specs.Symbols.{symbols_of, symbols_of_array, symbols_of_list, symbols_of_form};
+ghost use Rattle.nf_terms.specs.Mentions.{mentions, mentions_array};
+ghost use Rattle.nf_terms.specs.ValuationAgreement.{AgreeOn};
 ghost use Rattle.nf_terms.specs.Forms.{mentions_form};
 ghost use Rattle.nf_terms.specs.Computed.{Done};
 ghost use Rattle.nf_terms.specs.declared.symbols.Sort.{Sort};
@@ -14,6 +16,14 @@ ghost use Rattle.nf_terms.specs.declared.form.Nf.{Nf};
 ghost use Rattle.nf_sums.specs.Operations.{normal_sum, normal_difference, normal_product};
 ghost use Rattle.nf_substitution.specs.Substitution.{polynomial_substituted, array_substituted, list_substituted};
 ghost use Rattle.nf_symbols.specs.SymbolTests.{AgreeAt, LeadsTo, is_other};
+
+/// What a term means depends on the symbols that it mentions, and on no others.
+#[tactic(auto, using(nf_terms::proofs::Agreement::agreements))]
+pub fn mentioned_symbols_decide()
+    ensures numbers { (v w : Valuation) (p : Polynomial) → AgreeOn (λ q. mentions q p) v w → value_of v p ≡ value_of w p }
+    ensures arrays { (v w : Valuation) (a : ArrayTerm) → AgreeOn (λ q. mentions_array q a) v w → contents v a ≡ contents w a }
+    ensures lists { (v w : Valuation) (l : ListTerm) → AgreeOn (λ q. mentions_list q l) v w → items_in v l ≡ items_in w l }
+{}
 
 /// What a term means depends on its symbols, each as it is used, and on no others.
 pub fn symbols_decide_the_meaning()

@@ -1,16 +1,9 @@
-pub mod Orders
-pub mod Partings
-pub mod Reducing
-pub mod NormalParts
 pub mod Agreement
 pub mod Degrees
 pub mod Differing
-pub mod Gathered
-pub mod Identities
 pub mod InOrder
 pub mod LastWrite
 pub mod Loops
-pub mod Parts
 pub mod Simple
 pub mod Items
 pub mod Steps

@@ -3,7 +3,6 @@ pub mod Comparison
 pub mod Computed
 pub mod FormCodes
 pub mod Forms
-pub mod GatheredSymbols
 pub mod Keys
 pub mod ListComparison
 pub mod Lists

@@ -5,7 +5,6 @@ ghost use Rattle.nf_terms.specs.NormalTerms.{writes_of, writes_over, base_of, ba
 ghost use Rattle.nf_terms.specs.View.{array_in, write_in};
 ghost use Rattle.nf_terms.specs.Measures.{size_of_array, depth_of_array};
 ghost use Rattle.nf_terms.specs.Mentions.{mentions_array};
-ghost use Rattle.nf_terms.specs.Symbols.{symbols_of_array};
 ghost use Rattle.nf_terms.specs.Normal.{IsNormalArray};
 
 use crate::measures::{depth_of_arr, size_of_arr};
@@ -13,7 +12,6 @@ use crate::mentions::arr_mentions;
 use crate::normal::is_normal_arr;
 use crate::order::compare_arrs;
 use crate::stop::NoMemory;
-use crate::symbols::{Sort, push_arr};
 use crate::tree::{ArrTree, Base, PolyTree, Pos};
 use std::alloc::Global;
 use std::cmp::Ordering;
@@ -128,15 +126,6 @@ impl Arr {
         ensures normal { IsNormalArray self.now }
     {
         depth_of_arr(&self.tree)
-    }
-
-    /// The symbols, each with its sort, in the order in which they stand. The one refusal is out of memory.
-    pub fn symbols(&self, alloc: Global) -> Result<Vec<(Pos, Sort)>, NoMemory>
-        ensures { IfOk result (λ v. v.items ≡ symbols_of_array self.now) }
-    {
-        let mut out = Vec::new(alloc);
-        push_arr(&mut out, &self.tree)?;
-        Ok(out)
     }
 
     /// Whether the symbol `p` is the array's base or stands in its writes.

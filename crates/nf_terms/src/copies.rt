@@ -5,7 +5,6 @@ ghost use Rattle.nf_terms.specs.View.{atom_in, monomial_in, polynomial_in, term_
 
 use crate::stop::NoMemory;
 use crate::tree::{Atom, MonoTree, PolyTree};
-use std::alloc::Global;
 
 /// Adds an atom. The one refusal is out of memory.
 pub fn push_atom(out: &mut Vec<Atom>, atom: Atom) -> Result<(), NoMemory>
@@ -13,13 +12,6 @@ pub fn push_atom(out: &mut Vec<Atom>, atom: Atom) -> Result<(), NoMemory>
 {
     out.push(atom)?;
     Ok(())
-}
-
-/// Adds a copy of an atom. The one refusal is out of memory.
-pub fn push_atom_copy(alloc: Global, out: &mut Vec<Atom>, atom: &Atom) -> Result<(), NoMemory>
-    ensures { OnOk result (map atom_in out.new.items ≡ map atom_in out.old.items ++ atom_in atom.now ∷ []) }
-{
-    push_atom(out, atom.try_clone(alloc)?)
 }
 
 /// Adds a monomial with its coefficient. The one refusal is out of memory.
@@ -32,19 +24,6 @@ pub fn push_term(
 {
     out.push((mono, *coefficient))?;
     Ok(())
-}
-
-/// Adds a copy of a monomial with its coefficient. The one refusal is out of memory.
-pub fn push_term_copy(
-    alloc: Global,
-    out: &mut Vec<(MonoTree, i128)>,
-    mono: &MonoTree,
-    coefficient: &i128,
-) -> Result<(), NoMemory>
-    ensures { OnOk result
-        (map term_in out.new.items ≡ map term_in out.old.items ++ (monomial_in mono.now, coefficient.now) ∷ []) }
-{
-    push_term(out, mono.try_clone(alloc)?, coefficient)
 }
 
 /// Adds a write. The one refusal is out of memory.

@@ -2,7 +2,6 @@
 
 ghost use Rattle.std.specs.Prelude.{◌≡◌, IfOk};
 ghost use Rattle.nf_terms.specs.Forms.{IsNormalForm, sort_of_form, size_of_form, depth_of_form, mentions_form, same_form};
-ghost use Rattle.nf_terms.specs.Symbols.{symbols_of_form};
 
 use crate::arr::Arr;
 use crate::poly::Poly;
@@ -75,17 +74,6 @@ impl Nf {
             Nf::Num(number) => Ok(Nf::Num(number.try_clone(alloc)?)),
             Nf::Arr(array) => Ok(Nf::Arr(array.try_clone(alloc)?)),
             Nf::Seq(list) => Ok(Nf::Seq(list.try_clone(alloc)?)),
-        }
-    }
-
-    /// The symbols, each with its sort, in the order in which they stand. The one refusal is out of memory.
-    pub fn symbols(&self, alloc: Global) -> Result<Vec<(Pos, Sort)>, NoMemory>
-        ensures { IfOk result (λ v. v.items ≡ symbols_of_form self.now) }
-    {
-        match self {
-            Nf::Num(number) => number.symbols(alloc),
-            Nf::Arr(array) => array.symbols(alloc),
-            Nf::Seq(list) => list.symbols(alloc),
         }
     }
 

@@ -28,7 +28,6 @@ pub mod clones;
 pub mod constants;
 pub mod copies;
 pub mod form;
-pub mod laws;
 pub mod limits;
 pub mod measures;
 pub mod mentions;

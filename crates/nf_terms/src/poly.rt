@@ -5,7 +5,6 @@ ghost use Rattle.nf_terms.specs.NormalTerms.{polynomial_of, polynomial_of_symbol
 ghost use Rattle.nf_terms.specs.View.{polynomial_in, term_in};
 ghost use Rattle.nf_terms.specs.Measures.{size_of, depth_of, weight_of};
 ghost use Rattle.nf_terms.specs.Mentions.{mentions as mentions_of};
-ghost use Rattle.nf_terms.specs.Symbols.{symbols_of};
 ghost use Rattle.nf_terms.specs.Normal.{IsNormal};
 
 use crate::measures::{depth_of_poly, size_of_poly, weight_of_poly};
@@ -13,7 +12,6 @@ use crate::mentions::poly_mentions;
 use crate::normal::is_normal_poly;
 use crate::order::compare_polys;
 use crate::stop::NoMemory;
-use crate::symbols::{Sort, push_poly};
 use crate::tree::{Atom, MonoTree, PolyTree, Pos};
 use std::alloc::Global;
 use std::cmp::Ordering;
@@ -139,15 +137,6 @@ impl Poly {
         ensures normal { IsNormal self.now }
     {
         weight_of_poly(&self.tree)
-    }
-
-    /// The symbols, each with its sort, in the order in which they stand. The one refusal is out of memory.
-    pub fn symbols(&self, alloc: Global) -> Result<Vec<(Pos, Sort)>, NoMemory>
-        ensures { IfOk result (λ v. v.items ≡ symbols_of self.now) }
-    {
-        let mut out = Vec::new(alloc);
-        push_poly(&mut out, &self.tree)?;
-        Ok(out)
     }
 
     /// Whether the symbol `p` stands in the polynomial.

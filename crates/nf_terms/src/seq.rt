@@ -1,15 +1,13 @@
 //! Normal lists.
 
-ghost use Rattle.std.specs.Prelude.{◌≡◌, ◌+◌, ◌-◌, ◌^◌, min, IfOk, OnOk, MatchOption, ◌++◌};
+ghost use Rattle.std.specs.Prelude.{◌≡◌, ◌+◌, ◌-◌, ◌^◌, min, IfOk, MatchOption};
 ghost use Rattle.nf_terms.specs.Lists.{bare_list, size_of_items, size_of_list, depth_of_items, depth_of_list, mentions_items};
 ghost use Rattle.nf_terms.specs.Lists.{mentions_list_base, mentions_list, cmp_list_base, cmp_items, AreNormalItems, IsNormalList};
-ghost use Rattle.nf_terms.specs.Symbols.{symbols_of_list_base, symbols_of_items, symbols_of_list};
 
 use crate::limits::{DEPTH_LIMIT, SIZE_LIMIT};
 use crate::order::compare_pos;
 use crate::poly::Poly;
 use crate::stop::NoMemory;
-use crate::symbols::{Sort, push_poly, push_symbol};
 use crate::tree::{Pos, SeqBase};
 use std::alloc::Global;
 use std::cmp::Ordering;
@@ -131,26 +129,6 @@ fn compare_items(l: &[Poly], r: &[Poly]) -> Ordering
     }
 }
 
-// Adds the symbol of a base, if it has one.
-fn push_base(out: &mut Vec<(Pos, Sort)>, base: &SeqBase) -> Result<(), NoMemory>
-    ensures { OnOk result (out.new.items ≡ out.old.items ++ symbols_of_list_base base.now) }
-{
-    match base {
-        SeqBase::Empty => Ok(()),
-        SeqBase::Sym(p) => push_symbol(out, p, Sort::List),
-    }
-}
-
-// Adds the symbols of items, in order.
-fn push_items(out: &mut Vec<(Pos, Sort)>, items: &[Poly]) -> Result<(), NoMemory>
-    ensures { OnOk result (out.new.items ≡ out.old.items ++ symbols_of_items items.now) }
-{
-    for item in items {
-        push_poly(out, item.tree())?;
-    }
-    Ok(())
-}
-
 impl Seq {
     /// The list of a base without items.
     pub fn bare(alloc: Global, base: SeqBase) -> Seq
@@ -230,16 +208,6 @@ impl Seq {
             base: self.base,
             items: copy_items(alloc, &self.items)?,
         })
-    }
-
-    /// The symbols, each with its sort, in the order in which they stand. The one refusal is out of memory.
-    pub fn symbols(&self, alloc: Global) -> Result<Vec<(Pos, Sort)>, NoMemory>
-        ensures { IfOk result (λ v. v.items ≡ symbols_of_list self.now) }
-    {
-        let mut out = Vec::new(alloc);
-        push_base(&mut out, &self.base)?;
-        push_items(&mut out, &self.items)?;
-        Ok(out)
     }
 }
 

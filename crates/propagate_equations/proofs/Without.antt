@@ -8,8 +8,8 @@ use Rattle.nf_terms.specs.Normal.{IsNormal, ordered}
 use Rattle.nf_terms.specs.Reduced.{Reduces, Ended, Dropped, Kept}
 use Rattle.nf_terms.specs.View.{monomial_in, term_in}
 use Rattle.nf_terms.specs.declared.tree.MonoTree.{MonoTree}
-use Rattle.nf_terms.proofs.Partings.{ordered_term}
-use Rattle.nf_terms.proofs.Reducing.{reduced_normal}
+use Rattle.nf_sums.proofs.Partings.{ordered_term}
+use Rattle.nf_sums.proofs.Reducing.{reduced_normal}
 
 all_kept : (ts : List (MonoTree × ℤ)) → ordered (polynomial_of (map term_in ts)) ≡ true
     → Reduces (polynomial_of (map term_in ts)) (polynomial_of (map term_in ts))

@@ -7,6 +7,7 @@ ghost use Rattle.propagate_equations.specs.Equations.{is_held, number_held, form
 
 use nf_rel::literals::NLit;
 use nf_substitution::vector::Vector;
+use nf_symbols::gathering::{symbols_of_nf, symbols_of_poly};
 use nf_terms::form::Nf;
 use nf_terms::poly::Poly;
 use nf_terms::stop::NoMemory;
@@ -37,7 +38,7 @@ fn are_held(meanings: &Vector, symbols: &[(Pos, Sort)]) -> bool
 pub fn number_held(alloc: Global, meanings: &Vector, number: &Poly) -> Result<bool, NoMemory>
     ensures { IfOk result (λ b. b ≡ number_held meanings.now number.now) }
 {
-    let symbols = number.symbols(alloc)?;
+    let symbols = symbols_of_poly(alloc, number)?;
     Ok(are_held(meanings, symbols.as_slice()))
 }
 
@@ -45,7 +46,7 @@ pub fn number_held(alloc: Global, meanings: &Vector, number: &Poly) -> Result<bo
 pub fn form_held(alloc: Global, meanings: &Vector, form: &Nf) -> Result<bool, NoMemory>
     ensures { IfOk result (λ b. b ≡ form_held meanings.now form.now) }
 {
-    let symbols = form.symbols(alloc)?;
+    let symbols = symbols_of_nf(alloc, form)?;
     Ok(are_held(meanings, symbols.as_slice()))
 }
 

@@ -11,7 +11,7 @@ ghost use Rattle.propagate_equations.specs.View.{split_in};
 use crate::held_symbols::is_held;
 use nf_substitution::bare_numbers::lone_symbol;
 use nf_substitution::vector::Vector;
-use nf_terms::copies::push_term_copy;
+use nf_sums::copies::push_term_copy;
 use nf_terms::poly::Poly;
 use nf_terms::stop::NoMemory;
 use nf_terms::symbols::Sort;

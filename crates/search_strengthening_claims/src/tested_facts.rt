@@ -12,6 +12,7 @@ use fs_model::parts::Sort;
 use fs_pair::positions::{Pairing, Position};
 use nf_rel::literals::NLit;
 use nf_rel::normal::is_normal;
+use nf_symbols::gathering::{symbols_of_nf, symbols_of_poly};
 use nf_terms::form::Nf;
 use nf_terms::stop::NoMemory;
 use nf_terms::symbols::Sort as TermSort;
@@ -67,7 +68,7 @@ fn is_equation_within(
 {
     match equation {
         Some(form) => {
-            let symbols = form.symbols(alloc)?;
+            let symbols = symbols_of_nf(alloc, form)?;
             Ok(are_positions(positions, symbols.as_slice()))
         }
         None => Ok(true),
@@ -101,7 +102,7 @@ fn is_literal_within(
     match literal {
         NLit::True | NLit::False => Ok(true),
         NLit::Is(b) => {
-            let symbols = b.dir.symbols(alloc)?;
+            let symbols = symbols_of_poly(alloc, &b.dir)?;
             Ok(are_positions(positions, symbols.as_slice()))
         }
     }

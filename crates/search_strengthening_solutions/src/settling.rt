@@ -5,6 +5,7 @@ use fs_model::parts::Role;
 use fs_pair::positions::Position;
 use nf_substitution::subst::Subst;
 use nf_substitution::vector::Vector;
+use nf_symbols::gathering::symbols_of_nf;
 use nf_terms::form::Nf;
 use nf_terms::stop::NoMemory;
 use nf_terms::tree::Side;
@@ -47,7 +48,7 @@ fn all_known(solution: &Solution, places: &[usize]) -> bool {
 // Whether an extra is there and mentions nothing.
 fn mentions_nothing(alloc: Global, extra: Option<&Nf>) -> Result<bool, NoMemory> {
     match extra {
-        Some(extra) => Ok(extra.symbols(alloc)?.is_empty()),
+        Some(extra) => Ok(symbols_of_nf(alloc, extra)?.is_empty()),
         None => Ok(false),
     }
 }

@@ -4,6 +4,7 @@ use crate::universe::{Term, Universe};
 use fs_pair::positions::Position;
 use nf_rel::copies::is_same;
 use nf_rel::literals::NLit;
+use nf_symbols::gathering::symbols_of_nf;
 use nf_terms::form::Nf;
 use nf_terms::stop::NoMemory;
 use nf_terms::symbols::Sort;
@@ -64,7 +65,7 @@ pub fn places_in(
     positions: &[Position],
     form: &Nf,
 ) -> Result<Option<Vec<usize>>, NoMemory> {
-    let symbols = form.symbols(alloc)?;
+    let symbols = symbols_of_nf(alloc, form)?;
     places_of_symbols(alloc, positions, symbols.as_slice())
 }
 

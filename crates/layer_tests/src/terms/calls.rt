@@ -5,6 +5,7 @@ use crate::terms::operations::is_written;
 use crate::terms::trees::{Tree, position};
 use nf_bank::bank::{AtomId, Bank};
 use nf_substitution::vector::Vector;
+use nf_symbols::gathering::symbols_of_nf;
 use nf_terms::form::Nf;
 use nf_terms::order::is_same_atom;
 use nf_terms::poly::Poly;
@@ -51,7 +52,7 @@ fn are_symbols(form: &Nf, symbols: &[(Pos, Sort)], text: &str) -> bool {
 
 // Whether a form has these symbols, and does not mention b.
 fn mentions(alloc: Global, form: &Nf, wanted: &str) -> Result<bool, NfStop> {
-    let symbols = form.symbols(alloc)?;
+    let symbols = symbols_of_nf(alloc, form)?;
     Ok(are_symbols(form, symbols.as_slice(), wanted) && !form.mentions(B))
 }
 

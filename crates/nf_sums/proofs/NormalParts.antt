@@ -1,7 +1,7 @@
 -- The parts of a normal term are normal.
 use Rattle.std.proofs.Common.{◌≡◌, ◌+◌, ◌≤◌, max, true, ◌&&◌, not, arith}
 use Rattle.std.proofs.lemmas.Bool.{and_from}
-use Rattle.fs_model.proofs.Booleans.{and_first, and_second}
+use Rattle.nf_terms.proofs.Booleans.{and_first, and_second}
 use Rattle.nf_terms.specs.NormalTerms.{Atom, Monomial, Polynomial, Writes, Symbol, Read, Quotient, Remainder, One, Times, Zero, Plus, Over, NoWrites, Write}
 use Rattle.nf_terms.specs.Measures.{size_of_atom, size_of_monomial, size_of, size_of_writes, depth_of_atom, depth_of_monomial, depth_of, depth_of_writes}
 use Rattle.nf_terms.specs.TermLimits.{size_limit, depth_limit}
@@ -9,7 +9,7 @@ use Rattle.nf_terms.specs.Normal.{IsNormal, IsNormalArray, ordered, ordered_atom
 use Rattle.nf_terms.specs.Normal.{is_written, write_rises, stays_read, is_light, narrow_atom, narrow_monomial, narrow_inside, narrow_array, narrow_writes}
 use Rattle.nf_terms.specs.TermParts.{HasNormalParts, AtomsHaveNormalParts, MonomialsHaveNormalParts, WritesAreNormal}
 use Rattle.nf_terms.specs.declared.tree.Base.{Base}
-use Rattle.nf_terms.proofs.Partings.{ordered_term}
+use Rattle.nf_sums.proofs.Partings.{ordered_term}
 
 divided_parts : (a b : Polynomial) → ordered a && ordered b && not (is_constant a && is_constant b) ≡ true
     → is_light a && narrow_inside a && is_light b && narrow_inside b ≡ true → 1 + size_of a + size_of b ≤ size_limit

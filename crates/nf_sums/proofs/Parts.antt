@@ -5,7 +5,7 @@ use Rattle.std.proofs.lemmas.Int.{fits_signed_from_abs}
 use Rattle.std.specs.Prelude.{pos, FitsSigned}
 use Rattle.std.specs.Int.{w128}
 use Rattle.std.specs.Ordering.{int_eq}
-use Rattle.fs_model.proofs.Booleans.{and_second}
+use Rattle.nf_terms.proofs.Booleans.{and_second}
 use Rattle.nf_terms.specs.NormalTerms.{Monomial, Polynomial, Plus}
 use Rattle.nf_terms.specs.Measures.{weight_of}
 use Rattle.nf_terms.specs.Normal.{IsNormal, ordered, ordered_monomial, monomial_rises, is_light, narrow_inside, narrow_monomial}

@@ -2,7 +2,7 @@ use Rattle.std.proofs.Common.{◌+◌, ◌++◌, drop, ap, sym, ◌∙◌, appen
 use Rattle.std.proofs.lemmas.List.{append-nil, at_drop_all}
 use Rattle.fs_model.proofs.Lists.{drop_next}
 use Rattle.nf_terms.specs.Symbols.{symbols_of, symbols_of_items}
-use Rattle.nf_terms.proofs.seq.push_items.Goals as goal
+use Rattle.nf_symbols.proofs.gathering.push_items.Goals as goal
 
 pub loop-item-preserved : goal.loop-item-preserved
 loop-item-preserved c =

@@ -1,9 +1,9 @@
 -- What is reduced stays normal.
 use Rattle.std.proofs.Common.{◌≡◌, ◌≤◌, true, refl, arith}
 use Rattle.std.proofs.lemmas.Bool.{le-leb, and_from}
-use Rattle.fs_model.proofs.Booleans.{and_first, and_second}
-use Rattle.fs_model.proofs.Orderings.{is_lt-true}
-use Rattle.fs_model.proofs.Integers.{int_eq_zero-false, not_zero}
+use Rattle.nf_terms.proofs.Booleans.{and_first, and_second}
+use Rattle.nf_terms.proofs.Orderings.{is_lt-true}
+use Rattle.nf_terms.proofs.Integers.{int_eq_zero-false, not_zero}
 use Rattle.nf_terms.specs.NormalTerms.{Monomial, Polynomial, One, Times, Zero, Plus}
 use Rattle.nf_terms.specs.Order.{cmp_monomial}
 use Rattle.nf_terms.specs.Measures.{size_of, depth_of, weight_of}
@@ -11,7 +11,7 @@ use Rattle.nf_terms.specs.TermLimits.{weight_limit}
 use Rattle.nf_terms.specs.Normal.{IsNormal, ordered, monomial_rises, is_light, narrow_inside, narrow_monomial, part_with_atoms}
 use Rattle.nf_terms.specs.Reduced.{Reduces, Ended, Dropped, Kept}
 use Rattle.nf_terms.proofs.Simple.{light}
-use Rattle.nf_terms.proofs.Partings.{ordered_term, term_ordered, rises_through}
+use Rattle.nf_sums.proofs.Partings.{ordered_term, term_ordered, rises_through}
 
 rises_reduced : (k : Monomial) {p q : Polynomial} → Reduces p q → ordered p ≡ true → monomial_rises k p ≡ true → monomial_rises k q ≡ true
 rises_reduced k Ended o r = refl

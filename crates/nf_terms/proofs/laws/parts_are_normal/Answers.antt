@@ -1,5 +1,0 @@
-use Rattle.nf_terms.proofs.NormalParts.{writes_normal}
-use Rattle.nf_terms.proofs.laws.parts_are_normal.Goals as goal
-
-pub returns-clause-arrays : goal.returns-clause-arrays
-returns-clause-arrays c = writes_normal
