@@ -18,3 +18,5 @@ pub mod compare;
 pub mod judge;
 pub mod laws;
 mod obstacles;
+
+pub use search_laws::{run, searching};

@@ -15,4 +15,4 @@ pub mod certificate_laws;
 pub mod json_laws;
 pub mod laws;
 
-pub use search::searching;
+pub use search::{run, searching};
