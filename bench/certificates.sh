@@ -86,6 +86,7 @@ texts = {
     "names": lambda: names(),
     "a node of names": lambda: '{"format":1,"nodes":[' + names() + "]}",
     "equations of names": lambda: node(names()),
+    "equations that are no texts": lambda: node(names().replace('""', "0 ")),
     "one term": lambda: node('{"L.x":"' + "(" * (size - 200) + '"}'),
     "one sum": lambda: node('{"L.x":"L.x' + " + L.x" * (size // 6 - 60) + '"}'),
 }
@@ -94,6 +95,6 @@ END
   timed "verify, a file of $1" verify "$folder/left.fsmd" "$folder/right.fsmd" "$folder/refused.json"
   rm "$folder/refused.json"
 }
-for name in brackets zeros texts lists objects "one name" names "a node of names" "equations of names" "one term" "one sum"; do
+for name in brackets zeros texts lists objects "one name" names "a node of names" "equations of names" "equations that are no texts" "one term" "one sum"; do
   refused "$name"
 done

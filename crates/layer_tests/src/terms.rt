@@ -1,9 +1,9 @@
 //! Terms, their operations, literals and substitution.
 //!
-//! The rows of each table are of one kind, which stands in its first line. A text in a row is a list of words, each behind what
+//! The rows of each table are of one kind, and its first line has its name. A text in a row is a list of words, each behind what
 //! it works on, as in `a b + 2 *`.
 
-use crate::terms::rows::each;
+use crate::terms::rows::{Kind, each};
 
 mod calls;
 mod forms;
@@ -11,6 +11,7 @@ mod literals;
 mod measures;
 mod normal;
 mod operations;
+mod operators;
 mod orders;
 mod rows;
 mod substitutions;
@@ -22,31 +23,31 @@ fn worked_examples(rt: HostRuntime) {
         &rt,
         rt.alloc(),
         &[
-            calls::SYMBOLS,
-            calls::COPIES,
-            calls::TREES,
-            calls::PUTS,
-            calls::CALLS,
-            literals::LITERALS,
-            literals::NEGATIONS,
-            literals::CLASHES,
-            literals::NO_CLASHES,
-            literals::LISTS,
-            literals::REFUTED_TOGETHER,
-            literals::OPEN,
-            literals::IMPLIED,
-            literals::NOT_IMPLIED,
-            measures::MEASURES,
-            normal::NORMAL,
-            normal::NOT_NORMAL,
-            operations::SUMS,
-            operations::DIVISIONS,
-            operations::ARRAYS,
-            operations::EVENTS,
-            operations::WIDE_NUMBERS,
-            orders::RISING,
-            substitutions::SUBSTITUTIONS,
-            substitutions::EVENTS,
+            (Kind::Symbols, calls::SYMBOLS),
+            (Kind::Copy, calls::COPIES),
+            (Kind::Tree, calls::TREES),
+            (Kind::Put, calls::PUTS),
+            (Kind::Call, calls::CALLS),
+            (Kind::Literal, literals::LITERALS),
+            (Kind::Negation, literals::NEGATIONS),
+            (Kind::Clash, literals::CLASHES),
+            (Kind::NoClash, literals::NO_CLASHES),
+            (Kind::Refuted, literals::LISTS),
+            (Kind::RefutedTogether, literals::REFUTED_TOGETHER),
+            (Kind::Open, literals::OPEN),
+            (Kind::Implied, literals::IMPLIED),
+            (Kind::NotImplied, literals::NOT_IMPLIED),
+            (Kind::Measures, measures::MEASURES),
+            (Kind::Normal, normal::NORMAL),
+            (Kind::NotNormal, normal::NOT_NORMAL),
+            (Kind::Operation, operations::SUMS),
+            (Kind::Operation, operations::DIVISIONS),
+            (Kind::Operation, operations::ARRAYS),
+            (Kind::Operation, operations::EVENTS),
+            (Kind::WideNumber, operations::WIDE_NUMBERS),
+            (Kind::Order, orders::RISING),
+            (Kind::Substitution, substitutions::SUBSTITUTIONS),
+            (Kind::Substitution, substitutions::EVENTS),
         ],
     )
 }

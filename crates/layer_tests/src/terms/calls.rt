@@ -131,7 +131,11 @@ fn has_form(alloc: Global, vector: &Vector, form: &Nf) -> Result<bool, NfStop> {
 
 // Whether a vector has no form for b.
 fn lacks_b(alloc: Global, vector: &Vector) -> Result<bool, NfStop> {
-    Ok(vector.form(Sort::Scalar, B).is_none() && vector.number(alloc, &B)?.mentions(B))
+    if vector.form(Sort::Scalar, B).is_some() {
+        return Ok(false);
+    }
+    let number = vector.number(alloc, &B)?;
+    Ok(number.mentions(B))
 }
 
 // Whether a vector has the form of a text, of each sort, for a position alone.

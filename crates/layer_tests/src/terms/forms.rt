@@ -3,6 +3,7 @@
 //! The words are those of trees, and more: `-` stands behind two sums and `neg` behind one; `#s` is the list s and `#0` the
 //! empty one, and `<<` stands behind a list and an item.
 
+use crate::terms::operators::{Operator, operator_of};
 use crate::terms::trees::{Tree, from_end, operand, position, put_last, tree_of};
 use nf_arrays::division::{div, rem};
 use nf_arrays::pushes::push;
@@ -68,20 +69,20 @@ fn list_at(stack: &[Nf], places: usize) -> Result<&Seq, NfStop> {
 }
 
 // An operation on two sums.
-fn operation(alloc: Global, word: &str, left: &Poly, right: &Poly) -> Result<Poly, NfStop> {
-    match word {
-        "+" => add(alloc, left, right),
-        "-" => sub(alloc, left, right),
-        "*" => mul(alloc, left, right),
-        "/" => div(alloc, left, right),
+fn operation(alloc: Global, operator: Operator, left: &Poly, right: &Poly) -> Result<Poly, NfStop> {
+    match operator {
+        Operator::Add => add(alloc, left, right),
+        Operator::Subtract => sub(alloc, left, right),
+        Operator::Multiply => mul(alloc, left, right),
+        Operator::Divide => div(alloc, left, right),
         _ => rem(alloc, left, right),
     }
 }
 
-fn combined(alloc: Global, stack: &[Nf], word: &str) -> Result<Poly, NfStop> {
+fn combined(alloc: Global, stack: &[Nf], operator: Operator) -> Result<Poly, NfStop> {
     let left = sum_at(stack, 2)?;
     let right = sum_at(stack, 1)?;
-    operation(alloc, word, left, right)
+    operation(alloc, operator, left, right)
 }
 
 fn read_at(alloc: Global, stack: &[Nf]) -> Result<Poly, NfStop> {
@@ -103,32 +104,36 @@ fn pushed(alloc: Global, stack: &[Nf]) -> Result<Seq, NfStop> {
     push(alloc, list, item)
 }
 
-// The sum that a word of an operation makes.
-fn sum_made(alloc: Global, stack: &[Nf], word: &str) -> Result<Poly, NfStop> {
-    match word {
-        "neg" => Ok(neg(alloc, sum_at(stack, 1)?)?),
-        "[]" => read_at(alloc, stack),
-        _ => combined(alloc, stack, word),
+// The negation of the sum at the end of a stack.
+fn negated(alloc: Global, stack: &[Nf]) -> Result<Poly, NfStop> {
+    let sum = sum_at(stack, 1)?;
+    Ok(neg(alloc, sum)?)
+}
+
+// The sum that an operator makes.
+fn sum_made(alloc: Global, stack: &[Nf], operator: Operator) -> Result<Poly, NfStop> {
+    match operator {
+        Operator::Negate => negated(alloc, stack),
+        Operator::Read => read_at(alloc, stack),
+        _ => combined(alloc, stack, operator),
     }
 }
 
-// What a word makes of the end of a stack.
-fn made(alloc: Global, stack: &[Nf], word: &str) -> Result<Nf, NfStop> {
-    match word {
-        "+" | "-" | "*" | "/" | "%" | "neg" | "[]" => Ok(Nf::Num(sum_made(alloc, stack, word)?)),
-        "{}" => Ok(Nf::Arr(written(alloc, stack)?)),
-        "<<" => Ok(Nf::Seq(pushed(alloc, stack)?)),
-        _ => simple(alloc, word),
+// What an operator makes of the end of a stack.
+fn made(alloc: Global, stack: &[Nf], operator: Operator) -> Result<Nf, NfStop> {
+    match operator {
+        Operator::Write => Ok(Nf::Arr(written(alloc, stack)?)),
+        Operator::Push => Ok(Nf::Seq(pushed(alloc, stack)?)),
+        _ => Ok(Nf::Num(sum_made(alloc, stack, operator)?)),
     }
 }
 
-// How many forms a word works on.
-fn operands(word: &str) -> usize {
-    match word {
-        "+" | "-" | "*" | "/" | "%" | "[]" | "<<" => 2,
-        "neg" => 1,
-        "{}" => 3,
-        _ => 0,
+// How many forms an operator works on.
+fn operands(operator: Operator) -> usize {
+    match operator {
+        Operator::Negate => 1,
+        Operator::Write => 3,
+        _ => 2,
     }
 }
 
@@ -138,11 +143,25 @@ fn replace_last<T: Drop>(stack: &mut Vec<T>, count: usize, item: T) -> Result<()
     put_last(stack, item)
 }
 
+// Puts what an operator makes in the place of what it works on.
+fn apply(alloc: Global, stack: &mut Vec<Nf>, operator: Operator) -> Result<(), NfStop> {
+    let form = made(alloc, stack.as_slice(), operator)?;
+    replace_last(stack, operands(operator), form)
+}
+
+// Puts what a name or a number is on the stack.
+fn put_simple(alloc: Global, stack: &mut Vec<Nf>, word: &str) -> Result<(), NfStop> {
+    let form = simple(alloc, word)?;
+    put_last(stack, form)
+}
+
 // Puts what each word of a text makes on the stack.
 fn make_each(alloc: Global, stack: &mut Vec<Nf>, text: &str) -> Result<(), NfStop> {
     for word in text.split_whitespace() {
-        let form = made(alloc, stack.as_slice(), word)?;
-        replace_last(stack, operands(word), form)?;
+        match operator_of(word) {
+            Some(operator) => apply(alloc, stack, operator)?,
+            None => put_simple(alloc, stack, word)?,
+        }
     }
     Ok(())
 }

@@ -5,6 +5,7 @@
 //! behind two monomials, `/` and `%` behind a dividend and a divisor, `[]` behind an array and an index, and `{}` behind an
 //! array, an index and a value. `a^3` is the product of three a, and `m~3` is m read at m read at m read at 0.
 
+use crate::terms::operators::{Operator, operator_of};
 use nf_terms::atoms::{make_quotient, make_read, make_remainder};
 use nf_terms::stop::NfStop;
 use nf_terms::tree::{ArrTree, Atom, Base, MonoTree, PolyTree, Pos, Side};
@@ -124,6 +125,9 @@ fn sum(alloc: Global, word: &str) -> Result<PolyTree, NfStop> {
     if let Some(symbol) = position(word) {
         return atom_alone(alloc, Atom::Sym(symbol));
     }
+    if word == "none" {
+        return monomial(alloc, Vec::new(alloc), 0);
+    }
     if let Some((name, times)) = word.split_once('^') {
         return power(alloc, name, times);
     }
@@ -163,13 +167,12 @@ fn has_array(stack: &[Tree], places: usize) -> bool {
     matches!(from_end(stack, places), Some(Tree::Array(_)))
 }
 
-// Whether a stack ends with what a word works on.
-fn has_operands(stack: &[Tree], word: &str) -> bool {
-    match word {
-        "+" | "*" | "/" | "%" => has_sum(stack, 1) && has_sum(stack, 2),
-        "[]" => has_sum(stack, 1) && has_array(stack, 2),
-        "{}" => has_sum(stack, 1) && has_sum(stack, 2) && has_array(stack, 3),
-        _ => true,
+// Whether a stack ends with what an operator works on.
+fn has_operands(stack: &[Tree], operator: Operator) -> bool {
+    match operator {
+        Operator::Read => has_sum(stack, 1) && has_array(stack, 2),
+        Operator::Write => has_sum(stack, 1) && has_sum(stack, 2) && has_array(stack, 3),
+        _ => has_sum(stack, 1) && has_sum(stack, 2),
     }
 }
 
@@ -217,15 +220,17 @@ fn multiplied(alloc: Global, stack: &mut Vec<Tree>) -> Result<PolyTree, NfStop> 
     monomial(alloc, left.atoms, coefficient.saturating_mul(factor))
 }
 
-// A quotient, or a remainder.
-fn division(alloc: Global, stack: &mut Vec<Tree>, word: &str) -> Result<Atom, NfStop> {
+// A quotient.
+fn quotient(alloc: Global, stack: &mut Vec<Tree>) -> Result<PolyTree, NfStop> {
     let right = take_sum(alloc, stack);
     let left = take_sum(alloc, stack);
-    if word == "/" {
-        Ok(make_quotient(alloc, left, right)?)
-    } else {
-        Ok(make_remainder(alloc, left, right)?)
-    }
+    atom_alone(alloc, make_quotient(alloc, left, right)?)
+}
+
+fn remainder(alloc: Global, stack: &mut Vec<Tree>) -> Result<PolyTree, NfStop> {
+    let right = take_sum(alloc, stack);
+    let left = take_sum(alloc, stack);
+    atom_alone(alloc, make_remainder(alloc, left, right)?)
 }
 
 fn read_at(alloc: Global, stack: &mut Vec<Tree>) -> Result<PolyTree, NfStop> {
@@ -242,33 +247,41 @@ fn written(alloc: Global, stack: &mut Vec<Tree>) -> Result<Tree, NfStop> {
     Ok(Tree::Array(array))
 }
 
-// The sum that a word of an operation makes.
-fn operation(alloc: Global, stack: &mut Vec<Tree>, word: &str) -> Result<PolyTree, NfStop> {
-    match word {
-        "+" => joined(alloc, stack),
-        "*" => multiplied(alloc, stack),
-        "/" | "%" => atom_alone(alloc, division(alloc, stack, word)?),
-        "[]" => read_at(alloc, stack),
-        _ => monomial(alloc, Vec::new(alloc), 0),
+// The sum that an operator makes. Negation and what works on lists make no tree.
+fn sum_made(alloc: Global, stack: &mut Vec<Tree>, operator: Operator) -> Result<PolyTree, NfStop> {
+    match operator {
+        Operator::Add => joined(alloc, stack),
+        Operator::Multiply => multiplied(alloc, stack),
+        Operator::Divide => quotient(alloc, stack),
+        Operator::Remainder => remainder(alloc, stack),
+        Operator::Read => read_at(alloc, stack),
+        _ => Err(NfStop::NoMemory),
+    }
+}
+
+// What an operator makes.
+fn made(alloc: Global, stack: &mut Vec<Tree>, operator: Operator) -> Result<Tree, NfStop> {
+    if !has_operands(stack.as_slice(), operator) {
+        return Err(NfStop::NoMemory);
+    }
+    match operator {
+        Operator::Write => written(alloc, stack),
+        _ => Ok(Tree::Sum(sum_made(alloc, stack, operator)?)),
     }
 }
 
 // What a word makes.
-fn made(alloc: Global, stack: &mut Vec<Tree>, word: &str) -> Result<Tree, NfStop> {
-    match word {
-        "+" | "*" | "/" | "%" | "[]" | "none" => Ok(Tree::Sum(operation(alloc, stack, word)?)),
-        "{}" => written(alloc, stack),
-        _ => operand(alloc, word),
+fn word_made(alloc: Global, stack: &mut Vec<Tree>, word: &str) -> Result<Tree, NfStop> {
+    match operator_of(word) {
+        Some(operator) => made(alloc, stack, operator),
+        None => operand(alloc, word),
     }
 }
 
 // Puts what each word of a text makes on the stack.
 fn make_each(alloc: Global, stack: &mut Vec<Tree>, text: &str) -> Result<(), NfStop> {
     for word in text.split_whitespace() {
-        if !has_operands(stack.as_slice(), word) {
-            return Err(NfStop::NoMemory);
-        }
-        let tree = made(alloc, stack, word)?;
+        let tree = word_made(alloc, stack, word)?;
         put_last(stack, tree)?;
     }
     Ok(())
