@@ -1,10 +1,11 @@
 //! Reading a certificate.
 
-ghost use Rattle.std.specs.Prelude.{◌≡◌, ◌≤◌, [], true, false, length, map, IfOk, IfErr};
+ghost use Rattle.std.specs.Prelude.{◌≡◌, ◌≤◌, ℕ, List, [], true, false, length, map, IfOk, IfErr};
 ghost use Rattle.serde_json.specs.View.{view};
 ghost use Rattle.fs_pair.specs.Positions.{positions};
 ghost use Rattle.cert_model.specs.Lawful.{IsLawful, most_nodes};
 ghost use Rattle.cert_model.specs.View.{node_of};
+ghost use Rattle.cert_json.specs.Refusals.{IsShortFileOf, IsRefusedAsShape};
 ghost use Rattle.cert_json.specs.Shape.{is_file, has_too_many};
 ghost use Rattle.cert_text.specs.JsonParts.{file_nodes};
 ghost use Rattle.cert_text.specs.CertificateReading.{nodes_read};
@@ -81,6 +82,35 @@ fn error_of(stop: Stop) -> CertError
     }
 }
 
+// The certificate of the value of a file, or why the file is refused: what is told holds of any bytes that have the value.
+#[tactic(auto, using(crate::proofs::ShortFiles::spelled))]
+fn cert_of(
+    alloc: Global,
+    file: Result<Value, FileError>,
+    a: &Machine,
+    b: &Machine,
+    p: &Pairing,
+) -> Result<Cert, CertError>
+    requires pairing { p.now ≡ positions a.now b.now }
+    requires shape { IfOk file (λ v. is_file (view v) ≡ true) }
+    requires few { IfOk file (λ v. has_too_many (view v) ≡ false) }
+    ensures spelled { IfOk result (λ c. (bytes : List ℕ) → IfOk file (λ v. IsShortFileOf bytes (view v))
+        → SpellsNodes a.now b.now bytes (map node_of c.nodes.items)) }
+    ensures lawful { IfOk result (λ c. IsLawful a.now b.now (map node_of c.nodes.items)) }
+    ensures refused { IfErr result (λ e. (bytes : List ℕ) → IfOk file (λ v. IsShortFileOf bytes (view v))
+        → IfErr file (IsRefusedAsShape bytes) → IsRefusedAsCertificate a.now b.now bytes e) }
+{
+    let mut value = match file {
+        Ok(value) => value,
+        Err(refused) => return Err(error_of_file(refused)),
+    };
+    p.holds();
+    match read_value(alloc, &mut value, a, b, p) {
+        Ok(cert) => Ok(cert),
+        Err(stop) => Err(error_of(stop)),
+    }
+}
+
 /// The certificate of two machines that bytes spell. It is lawful for them.
 ///
 /// The first rule that is broken is refused. First the whole file is looked at: `NotJson` where the bytes are not JSON as
@@ -92,7 +122,6 @@ fn error_of(stop: Stop) -> CertError
 /// condition the first of these counts: `BadTerm`, `NumberTooBig`, `UnknownName`, `SortOf`, `NotNormal`. In a file of
 /// format 1 a port is no position, and its equation is the empty list. Of equal keys the last counts. `NoMemory` may come
 /// at any time.
-#[tactic(auto, using(crate::proofs::ShortFiles::spelled))]
 pub fn read_cert(
     alloc: Global,
     bytes: &[u8],
@@ -105,13 +134,24 @@ pub fn read_cert(
     ensures lawful { IfOk result (λ c. IsLawful a.now b.now (map node_of c.nodes.items)) }
     ensures refused { IfErr result (λ e. IsRefusedAsCertificate a.now b.now bytes.now e) }
 {
-    let mut value = match read_file(alloc, bytes) {
-        Ok(value) => value,
-        Err(refused) => return Err(error_of_file(refused)),
-    };
-    p.holds();
-    match read_value(alloc, &mut value, a, b, p) {
-        Ok(cert) => Ok(cert),
-        Err(stop) => Err(error_of(stop)),
-    }
+    let file = read_file(alloc, bytes);
+    cert_of(alloc, file, a, b, p)
+}
+
+/// The same of bytes that are let go before the nodes are read, so that bytes and nodes are never all there at once.
+pub fn read_owned_cert(
+    alloc: Global,
+    bytes: Vec<u8>,
+    a: &Machine,
+    b: &Machine,
+    p: &Pairing,
+) -> Result<Cert, CertError>
+    requires { p.now ≡ positions a.now b.now }
+    ensures spelled { IfOk result (λ c. SpellsNodes a.now b.now bytes.items (map node_of c.nodes.items)) }
+    ensures lawful { IfOk result (λ c. IsLawful a.now b.now (map node_of c.nodes.items)) }
+    ensures refused { IfErr result (λ e. IsRefusedAsCertificate a.now b.now bytes.items e) }
+{
+    let file = read_file(alloc, bytes.as_slice());
+    drop(bytes);
+    cert_of(alloc, file, a, b, p)
 }

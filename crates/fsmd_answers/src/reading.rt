@@ -22,7 +22,7 @@ ghost use Rattle.fsmd_answers.specs.Refusing.{WhereAnswered, IsLoaded};
 use crate::refused::Refused;
 use cert_model::cert::Cert;
 use cert_text::faults::CertError;
-use cert_text::reader::read_cert;
+use cert_text::reader::read_owned_cert;
 use fs_ast::build::BuildError;
 use fs_ast::machine::Machine;
 use fs_grammar::fault::ReadError;
@@ -119,21 +119,22 @@ fn refused_certificate(file: Operand, error: CertError) -> Refused
     }
 }
 
-/// The certificate of two machines that the bytes of a file spell, or the answer that refuses them.
+/// The certificate of two machines that the bytes of a file spell, or the answer that refuses them. The bytes are let go before
+/// the nodes are read.
 pub fn read_certificate(
     alloc: Global,
     file: Operand,
-    bytes: &[u8],
+    bytes: Vec<u8>,
     a: &Machine,
     b: &Machine,
     p: &Pairing,
 ) -> Result<Cert, Refused>
-    requires few { length bytes.now ≤ most_certificate_bytes }
+    requires few { length bytes.items ≤ most_certificate_bytes }
     requires paired { p.now ≡ positions a.now b.now }
-    ensures spells { IfOk result (λ c. SpellsCertificate a.now b.now (map node_of c.nodes.items) bytes.now) }
-    ensures refused { IfErr result (WhereAnswered (RefusesCertificate a.now b.now file (Readable bytes.now))) }
+    ensures spells { IfOk result (λ c. SpellsCertificate a.now b.now (map node_of c.nodes.items) bytes.items) }
+    ensures refused { IfErr result (WhereAnswered (RefusesCertificate a.now b.now file (Readable bytes.items))) }
 {
-    match read_cert(alloc, bytes, a, b, p) {
+    match read_owned_cert(alloc, bytes, a, b, p) {
         Ok(cert) => Ok(cert),
         Err(error) => Err(refused_certificate(file, error)),
     }

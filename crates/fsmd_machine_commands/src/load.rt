@@ -157,7 +157,7 @@ pub fn load_certificate<F: Files>(
     ensures at_most { LoadsAtMost (Some (asked_of_ask ask.now)) file.0 1 (F.told files.old) (F.told files.new) }
 {
     let bytes = load_bytes(alloc, file, CERT_LIMIT, ask, files)?;
-    read_certificate(alloc, file, bytes.as_slice(), a, b, p)
+    read_certificate(alloc, file, bytes, a, b, p)
 }
 
 /// The canonical text of the parts to which the program that a file spells is compiled, or the answer that refuses the file.
