@@ -12,17 +12,17 @@ ghost use Rattle.cert_terms.specs.Within.{FormWithin};
 use crate::forms::term_of;
 use crate::names::{Places, sort_of_terms};
 use fs_pair::positions::Position;
-use nf_terms::form::Nf;
 use nf_terms::stop::NoMemory;
 use nf_terms::symbols::Sort as TermSort;
 use std::alloc::Global;
+use sym_facts::shared_form::SharedForm;
 use term_values::faults::TermError;
 
-/// A text and the form that it stands for.
+/// A text and the form that it stands for, which each fact with it shares.
 #[derive(Drop)]
 pub struct ReadText {
     pub text: String,
-    pub form: Nf,
+    pub form: SharedForm,
 }
 
 /// No text at any place. The one refusal is out of memory.
@@ -59,18 +59,17 @@ fn sort_at(positions: &[Position], place: u32) -> TermSort
 
 // The form of a text at a place, where that text was read last there. The one refusal is out of memory.
 fn find_repeated(
-    alloc: Global,
     places: &Places<'_>,
     place: u32,
     text: &str,
     last: &[Option<ReadText>],
-) -> Result<Option<Nf>, NoMemory>
+) -> Result<Option<SharedForm>, NoMemory>
     requires { AreLast places.now last.now }
     ensures { IfOk result (λ o. IfSome o (IsReadAs places.now place text.now)) }
 {
     match last_at(last, place) {
         Some(read) => if read.text.as_str() == text {
-            Ok(Some(read.form.try_clone(alloc)?))
+            Ok(Some(read.form.try_clone()?))
         } else {
             Ok(None)
         },
@@ -84,7 +83,7 @@ fn keep(
     places: &Places<'_>,
     place: u32,
     text: &str,
-    form: &Nf,
+    form: &SharedForm,
     last: &mut Vec<Option<ReadText>>,
 ) -> Result<(), NoMemory>
     requires place { place < length places.now.positions.now }
@@ -95,7 +94,7 @@ fn keep(
     let text = String::from_str(alloc, text)?;
     last[place as usize] = Some(ReadText {
         text,
-        form: form.try_clone(alloc)?,
+        form: form.try_clone()?,
     });
     Ok(())
 }
@@ -108,7 +107,7 @@ fn read_new(
     place: u32,
     text: &str,
     last: &mut Vec<Option<ReadText>>,
-) -> Result<Nf, TermError>
+) -> Result<SharedForm, TermError>
     requires place { place < length places.now.positions.now }
     requires last { AreLast places.now last.old.items }
     ensures told { TellsText (λ f. f) result
@@ -118,7 +117,7 @@ fn read_new(
     ensures last { OnOk result (AreLast places.now last.new.items) }
 {
     let sort = sort_at(places.positions, place);
-    let form = term_of(alloc, places, sort, text.as_bytes())?;
+    let form = SharedForm::of(alloc, term_of(alloc, places, sort, text.as_bytes())?)?;
     keep(alloc, places, place, text, &form, last)?;
     Ok(form)
 }
@@ -130,7 +129,7 @@ pub fn read_at(
     place: u32,
     text: &str,
     last: &mut Vec<Option<ReadText>>,
-) -> Result<Nf, TermError>
+) -> Result<SharedForm, TermError>
     requires place { place < length places.now.positions.now }
     requires last { AreLast places.now last.old.items }
     ensures told { TellsText (λ f. f) result
@@ -139,7 +138,7 @@ pub fn read_at(
     ensures within { IfOk result (FormWithin (find_of places.now)) }
     ensures last { OnOk result (AreLast places.now last.new.items) }
 {
-    match find_repeated(alloc, places, place, text, last.as_slice())? {
+    match find_repeated(places, place, text, last.as_slice())? {
         Some(form) => Ok(form),
         None => read_new(alloc, places, place, text, last),
     }

@@ -32,16 +32,21 @@ use nf_terms::stop::NoMemory;
 use nf_terms::tree::SeqBase;
 use serde_json::{Map, Value};
 use std::alloc::Global;
+use sym_facts::shared_form::SharedForm;
 
-// The equation of a position without key.
-fn equation_without_key(alloc: Global, format: u64, sort: Sort) -> Option<Nf>
-    ensures { result ≡ unwritten_of format sort }
+// The equation of a position without key. The one refusal is out of memory.
+fn equation_without_key(
+    alloc: Global,
+    format: u64,
+    sort: Sort,
+) -> Result<Option<SharedForm>, NoMemory>
+    ensures { IfOk result (λ equation. equation ≡ unwritten_of format sort) }
 {
     if is_in_format(format, sort) {
-        None
-    } else {
-        Some(Nf::Seq(Seq::bare(alloc, SeqBase::Empty)))
+        return Ok(None);
     }
+    let empty = Nf::Seq(Seq::bare(alloc, SeqBase::Empty));
+    Ok(Some(SharedForm::of(alloc, empty)?))
 }
 
 /// The equations of positions without keys: none, and of a port in format 1 the empty list. The one refusal is out of memory.
@@ -49,12 +54,12 @@ pub fn all_unwritten(
     alloc: Global,
     format: u64,
     positions: &[Position],
-) -> Result<Vec<Option<Nf>>, NoMemory>
+) -> Result<Vec<Option<SharedForm>>, NoMemory>
     ensures same { IfOk result (λ out. out.items ≡ map (unwritten_at format) positions.now) }
 {
     let mut out = Vec::new(alloc);
     for position in positions {
-        out.push(equation_without_key(alloc, format, position.sort))?;
+        out.push(equation_without_key(alloc, format, position.sort)?)?;
     }
     Ok(out)
 }
@@ -79,7 +84,7 @@ fn read_equation(
     key: &[u8],
     text: &str,
     last: &mut Vec<Option<ReadText>>,
-) -> Result<(u32, Nf), Stop>
+) -> Result<(u32, SharedForm), Stop>
     requires { AreLast places.now last.old.items }
     ensures told { Tells (λ x. x) result (equation_read (terms_in places.now) node (key.now, text.now)) }
     ensures in_range { IfOk result (λ x. x.0 < length places.now.positions.now) }
@@ -101,7 +106,7 @@ fn put_equation(
     key: &[u8],
     text: &str,
     last: &mut Vec<Option<ReadText>>,
-    forms: &mut Vec<Option<Nf>>,
+    forms: &mut Vec<Option<SharedForm>>,
 ) -> Result<(), Stop>
     requires last { AreLast places.now last.old.items }
     requires forms { AreEquationsOf places.now.positions.now forms.old.items }
@@ -122,7 +127,7 @@ pub fn put_equations(
     node: u32,
     members: &Map<String, Value>,
     last: &mut Vec<Option<ReadText>>,
-    forms: &mut Vec<Option<Nf>>,
+    forms: &mut Vec<Option<SharedForm>>,
 ) -> Result<(), Stop>
     requires last { AreLast places.now last.old.items }
     requires forms { AreEquationsOf places.now.positions.now forms.old.items }

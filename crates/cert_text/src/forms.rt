@@ -17,8 +17,8 @@ use cert_terms::forms::condition_of;
 use cert_terms::names::Places;
 use cert_terms::repeats::{ReadText, read_at};
 use nf_rel::literals::NLit;
-use nf_terms::form::Nf;
 use std::alloc::Global;
+use sym_facts::shared_form::SharedForm;
 use term_values::faults::TermError;
 use term_values::names::Names;
 
@@ -45,7 +45,7 @@ pub fn read_form(
     place: u32,
     text: &str,
     last: &mut Vec<Option<ReadText>>,
-) -> Result<Nf, Stop>
+) -> Result<SharedForm, Stop>
     requires place { place < length places.now.positions.now }
     requires last { AreLast places.now last.old.items }
     ensures told { Tells (λ f. f) result

@@ -30,10 +30,10 @@ use cert_bisimulation::mode::Mode;
 use cert_model::cert::Node;
 use cert_terms::repeats::{ReadText, none_read};
 use nf_rel::literals::NLit;
-use nf_terms::form::Nf;
 use serde_json::Value;
 use std::alloc::Global;
 use sym_facts::fact::{Fact, FactError};
+use sym_facts::shared_form::SharedForm;
 
 // The mode of a text.
 fn mode_named(text: &str) -> Mode
@@ -58,7 +58,7 @@ fn read_equations(
     node: u32,
     value: &Value,
     last: &mut Vec<Option<ReadText>>,
-) -> Result<Vec<Option<Nf>>, Stop>
+) -> Result<Vec<Option<SharedForm>>, Stop>
     requires { AreLast c.now.places last.old.items }
     ensures told { Tells (λ fs. fs.items) result
         (equations_read (terms_in c.now.places) node (map (unwritten_equation c.now.places.format) c.now.places.positions.now)
@@ -79,7 +79,7 @@ fn solved_fact(
     alloc: Global,
     c: &Context<'_>,
     node: u32,
-    forms: Vec<Option<Nf>>,
+    forms: Vec<Option<SharedForm>>,
     conds: Vec<NLit>,
 ) -> Result<Fact, Stop>
     requires pairing { c.now.pairing.now ≡ c.now.places.positions.now }
@@ -90,7 +90,7 @@ fn solved_fact(
     ensures told { Tells (λ f. f) result (fact_read (terms_in c.now.places) node forms.items (map literal_in conds.items)) }
     ensures of { IfOk result (λ f. IsFactOf c.now.places.positions.now f) }
 {
-    match Fact::new(alloc, c.pairing, forms, conds) {
+    match Fact::of_shared(alloc, c.pairing, forms, conds) {
         Ok(fact) => Ok(fact),
         Err(FactError::NotSolved { place }) => {
             Err(Stop::Refused(CertError::NotSolved { node, place }))

@@ -15,6 +15,11 @@ no_equations [] fs e = refl
 no_equations (p ∷ ps) [] e = refl
 no_equations (p ∷ ps) (f ∷ fs) e = absurd (omega (arith, e))
 
+-- nothing is left to be moved
+pub all_moved : (done whole rest : List (Option Nf)) (n : ℕ) → done ++ rest ≡ whole → n ≡ length rest → n ≡ 0 → done ≡ whole
+all_moved done whole [] n e m z = sym (append-nil done) ∙ e
+all_moved done whole (f ∷ fs) n e m z = absurd (omega (arith, m, z))
+
 -- nothing is left to be placed
 pub placed_all : (done whole : List FactPosition) (ps : List Position) (fs : List (Option Nf)) (n : ℕ) → done ++ with_equations ps fs ≡ whole → n ≡ length fs
     → n ≡ 0 → done ≡ whole

@@ -12,7 +12,7 @@ ghost use Rattle.sym_facts.specs.FactParts.{with_equations as positions_with, fa
 ghost use Rattle.sym_facts.specs.FactParts.{are_distinct_positions, most_sorted_positions, IsKept};
 ghost use Rattle.sym_facts.specs.View.{TellsSolved, position_in};
 
-use crate::parts::{first_unsolved, with_equations};
+use crate::parts::{first_unsolved, shared_equations, with_equations};
 use fs_model::parts::Sort;
 use fs_pair::positions::Pairing;
 use nf_rel::literals::NLit;
@@ -97,11 +97,31 @@ impl Fact {
     ///
     /// `NotSolved` comes exactly where a position that has a normal form is mentioned in one or in a literal, and tells the first
     /// such place. `NoMemory`: out of memory.
-    #[tactic(auto, using(crate::proofs::Kept::parts))]
     pub fn new(
         alloc: Global,
         p: &Pairing,
         defs: Vec<Option<Nf>>,
+        conds: Vec<NLit>,
+    ) -> Result<Fact, FactError>
+        requires count { length defs.items ≡ length p.now }
+        requires sorts { IsTrue (list_all (λ q. has_its_sort q.sort q.equation) (positions_with p.now defs.items)) }
+        requires few { length conds.items ≤ most_literals }
+        requires kept { IsTrue (list_all may_be_kept (map literal_in conds.items)) }
+        requires equations { IsTrue (list_all (equation_within (is_position p.now)) defs.items) }
+        requires literals { IsTrue (list_all (literal_within (is_position p.now)) (map literal_in conds.items)) }
+        ensures solved { TellsSolved (fact_of p.now defs.items (map literal_in conds.items)) result }
+        ensures pairing { IfOk result (λ f. IsFactOf p.now f) }
+    {
+        let shared = shared_equations(alloc, defs)?;
+        Fact::of_shared(alloc, p, shared, conds)
+    }
+
+    /// The same of forms that may have other owners: no term is copied.
+    #[tactic(auto, using(crate::proofs::Kept::parts))]
+    pub fn of_shared(
+        alloc: Global,
+        p: &Pairing,
+        defs: Vec<Option<SharedForm>>,
         conds: Vec<NLit>,
     ) -> Result<Fact, FactError>
         requires count { length defs.items ≡ length p.now }

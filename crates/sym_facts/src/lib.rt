@@ -19,3 +19,5 @@ mod mentioned;
 mod parts;
 mod position_set;
 pub mod start;
+
+pub use nf_substitution::shared_form;

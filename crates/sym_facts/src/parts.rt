@@ -29,27 +29,38 @@ pub fn shared_equation(alloc: Global, equation: Option<Nf>) -> Result<Option<Sha
     }
 }
 
-// A position with its equation, or free.
-fn with_equation(
+/// Equations whose forms have one owner each. The one refusal is out of memory.
+pub fn shared_equations(
     alloc: Global,
-    p: &Position,
-    equation: Option<Nf>,
-) -> Result<FactPosition, NoMemory>
-    ensures { IfOk result (λ q. position_in q ≡ record { pos = p.now.pos; sort = p.now.sort; equation = equation }) }
+    equations: Vec<Option<Nf>>,
+) -> Result<Vec<Option<SharedForm>>, NoMemory>
+    ensures { IfOk result (λ shared. shared.items ≡ equations.items) }
 {
-    Ok(FactPosition {
-        pos: p.pos,
-        sort: p.sort,
-        equation: shared_equation(alloc, equation)?,
-    })
+    let mut out = Vec::new(alloc);
+    let mut rest = equations.into_iter();
+    while let Some(equation) = rest.next() {
+        out.push(shared_equation(alloc, equation)?)?;
+    }
+    Ok(out)
 }
 
-/// Each position with its equation, or free.
+// A position with its equation, or free.
+fn with_equation(p: &Position, equation: Option<SharedForm>) -> FactPosition
+    ensures { position_in result ≡ record { pos = p.now.pos; sort = p.now.sort; equation = equation } }
+{
+    FactPosition {
+        pos: p.pos,
+        sort: p.sort,
+        equation,
+    }
+}
+
+/// Each position with its equation, or free. The one refusal is out of memory.
 #[tactic(auto, using(crate::proofs::Walks::placed_all))]
 pub fn with_equations(
     alloc: Global,
     positions: &[Position],
-    equations: Vec<Option<Nf>>,
+    equations: Vec<Option<SharedForm>>,
 ) -> Result<Vec<FactPosition>, NoMemory>
     ensures { IfOk result (λ out. map position_in out.items ≡ positions_with positions.now equations.items) }
 {
@@ -57,7 +68,7 @@ pub fn with_equations(
     let mut rest = equations.into_iter();
     for p in positions {
         match rest.next() {
-            Some(equation) => out.push(with_equation(alloc, p, equation)?)?,
+            Some(equation) => out.push(with_equation(p, equation))?,
             None => return Ok(out),
         }
     }

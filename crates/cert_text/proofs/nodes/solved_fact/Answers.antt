@@ -3,5 +3,5 @@ use Rattle.nf_rel.specs.View.{literal_in}
 use Rattle.cert_text.proofs.Facts.{within_in}
 use Rattle.cert_text.proofs.nodes.solved_fact.Goals as goal
 
-pub new-requires-clause-literals : goal.new-requires-clause-literals
-new-requires-clause-literals c = rw c.requires.pairing (within_in c.args.c.now.places (map literal_in c.args.conds.items) c.requires.within)
+pub of_shared-requires-clause-literals : goal.of_shared-requires-clause-literals
+of_shared-requires-clause-literals c = rw c.requires.pairing (within_in c.args.c.now.places (map literal_in c.args.conds.items) c.requires.within)

@@ -7,7 +7,7 @@ use Rattle.sym_facts.specs.Pairings.{IsFactOf}
 use Rattle.sym_facts.specs.FactParts.{with_equations, fact_of, IsKept}
 use Rattle.sym_facts.specs.View.{position_in}
 use Rattle.sym_facts.proofs.Kept.{few_parts, parts_kept, parts_of_pairing}
-use Rattle.sym_facts.proofs.fact.Fact.new.Goals as goal
+use Rattle.sym_facts.proofs.fact.Fact.of_shared.Goals as goal
 
 pub first_unsolved-requires : goal.first_unsolved-requires
 first_unsolved-requires c =
