@@ -130,3 +130,18 @@ module _ (v : List (Pos × Nf)) (bank : List Atom) where
       (sym (ap (λ xs. writes_substituted v (writes_of xs) so_far) (map_drop_next (write_over bank) writes i w h e)
       ∙ behind index value (λ j y. write_array so_far j y) next))
       (stops event (after index (λ j. after value (λ y. write_array so_far j y))) next a)
+
+-- an operation on what another gives, before what follows
+pub after_after : {S T U : Type 0} (a : Computed S) (f : S → Computed T) (next : T → Computed U)
+    → after (after a f) next ≡ after a (λ s. after (f s) next)
+after_after (Done s) f next = refl
+after_after (Wide l r) f next = refl
+after_after (Large u d) f next = refl
+
+pub item_done : {S T U : Type 0} (a : Computed S) (f : S → Computed T) (next : T → Computed U) (m : T) → after a f ≡ Done m
+    → next m ≡ after a (λ s. after (f s) next)
+item_done a f next m e = ap (λ c. after c next) (sym e) ∙ after_after a f next
+
+pub item_stops : {S T U : Type 0} (event : NfStop) (a : Computed S) (f : S → Computed T) (next : T → Computed U)
+    → Answers {T = T} (Err event) (after a f) → Answers {T = U} (Err event) (after a (λ s. after (f s) next))
+item_stops {U = U} event a f next e = subst (Answers {T = U} (Err event)) (after_after a f next) (stops event (after a f) next e)

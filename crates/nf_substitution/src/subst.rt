@@ -5,7 +5,8 @@ ghost use Rattle.std.specs.List.{list_all};
 ghost use Rattle.nf_terms.specs.Symbols.{symbols_of};
 ghost use Rattle.nf_terms.specs.TermMeaning.{Valuation, value_of, contents, items_in};
 ghost use Rattle.nf_terms.specs.View.{polynomial_in, array_in};
-ghost use Rattle.nf_terms.specs.Computed.{Answers, Done};
+ghost use Rattle.nf_terms.specs.Computed.{Answers, Done, after};
+ghost use Rattle.nf_arrays.specs.Pushes.{list_with_item};
 ghost use Rattle.nf_bank.specs.AtomNumbers.{bound_of_sum, bound_of_array, sum_over, array_over, SpellsSum, SpellsArray};
 ghost use Rattle.nf_vectors.specs.Vectors.{list_of_base, vector_meaning};
 ghost use Rattle.nf_substitution.specs.Substitution.{polynomial_substituted, array_substituted, items_substituted};
@@ -187,6 +188,18 @@ fn keep_arr(alloc: Global, s: &mut Subst, tree: &ArrTree) -> Result<Arr, NfStop>
     s.array_value(alloc, &array)
 }
 
+// A list with one item more, which has the vector's forms in place of its symbols.
+fn keep_item(alloc: Global, s: &mut Subst, so_far: &Seq, item: &Poly) -> Result<Seq, NfStop>
+    ensures answers { Answers result
+        (after (polynomial_substituted s.old.vector item.now) (λ q. list_with_item so_far.now q)) }
+    ensures vector { s.new.vector ≡ s.old.vector }
+    ensures kept { OnOk result (s.new.atoms ≡ with_terms item.now s.old.atoms) }
+    ensures front { IsFront s.old.atoms s.new.atoms }
+{
+    let value = keep_poly(alloc, s, item)?;
+    push(alloc, so_far, &value)
+}
+
 // Items with the vector's forms in place of their symbols, behind a list.
 #[tactic(auto, using(nf_bank::proofs::Fronts::fronts))]
 fn keep_items(alloc: Global, s: &mut Subst, first: Seq, items: &[Poly]) -> Result<Seq, NfStop>
@@ -197,8 +210,7 @@ fn keep_items(alloc: Global, s: &mut Subst, first: Seq, items: &[Poly]) -> Resul
 {
     let mut so_far = first;
     for item in items {
-        let value = keep_poly(alloc, s, item)?;
-        so_far = push(alloc, &so_far, &value)?;
+        so_far = keep_item(alloc, s, &so_far, item)?;
     }
     Ok(so_far)
 }
