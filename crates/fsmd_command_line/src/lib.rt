@@ -2,9 +2,9 @@
 //!
 //! Promises: the command line as its definition says.
 //!
-//! Rules: `specs/CommandLine`.
+//! Rules: `specs/CommandLine`, `specs/SubcommandShapes`.
 #![tactic(auto)]
 
-mod arguments;
+pub mod building;
 pub mod command_line;
-mod commands;
+pub mod subcommands;

@@ -2,7 +2,7 @@ use Rattle.std.proofs.Common.{◌∙◌, ap, true}
 use Rattle.clap.specs.Words.{Shape}
 use Rattle.clap.specs.declared.builder.command.Command.TheViews.{out-Command}
 use Rattle.clap.specs.Simple.{app_of_fields, on_top}
-use Rattle.fsmd_command_line.proofs.command_line.program.Goals as goal
+use Rattle.fsmd_command_line.proofs.building.program.Goals as goal
 
 pub returns : goal.returns
 returns c =
