@@ -12,6 +12,6 @@
 
 pub mod asking;
 pub mod laws;
-mod matched;
+pub mod matched;
 mod reading;
 pub mod words;

@@ -17,6 +17,19 @@ pub fn word(alloc: Global, found: &ArgMatches, id: &str) -> Result<String, Alloc
     }
 }
 
+/// Two words that were matched, each or no text where there is none.
+pub fn two_words(
+    alloc: Global,
+    found: &ArgMatches,
+    first: &str,
+    second: &str,
+) -> Result<(String, String), AllocError>
+    ensures { IfOk result (λ words. (string_bytes words.0 ≡ match_word first.now (rows_of (found_of found.now)))
+        × (string_bytes words.1 ≡ match_word second.now (rows_of (found_of found.now)))) }
+{
+    Ok((word(alloc, found, first)?, word(alloc, found, second)?))
+}
+
 /// The word that was matched, if there is one.
 pub fn optional_word(
     alloc: Global,

@@ -8,17 +8,19 @@ ghost use Rattle.fsmd_words.specs.AskedWords.{schedule_of_rows, shrink_of, verif
 ghost use Rattle.fsmd_words.specs.declared.asking.AskError.TheVariants.{Usage};
 
 use crate::asking::{Ask, AskError};
-use crate::matched::{loops, optional_word, steps, word, words};
+use crate::matched::{loops, optional_word, steps, two_words, word, words};
 use clap::ArgMatches;
 use std::alloc::{AllocError, Global};
 
 fn check(alloc: Global, found: &ArgMatches) -> Result<Ask, AllocError>
     ensures { IfOk result (λ ask. asked_of_ask ask ≡ check_of (rows_of (found_of found.now))) }
 {
+    let cert = optional_word(alloc, found, "cert")?;
+    let (left, right) = two_words(alloc, found, "left", "right")?;
     Ok(Ask::Check {
-        left: word(alloc, found, "left")?,
-        right: word(alloc, found, "right")?,
-        cert: optional_word(alloc, found, "cert")?,
+        left,
+        right,
+        cert,
         steps: steps(found),
     })
 }
@@ -26,19 +28,18 @@ fn check(alloc: Global, found: &ArgMatches) -> Result<Ask, AllocError>
 fn verify(alloc: Global, found: &ArgMatches) -> Result<Ask, AllocError>
     ensures { IfOk result (λ ask. asked_of_ask ask ≡ verify_of (rows_of (found_of found.now))) }
 {
-    Ok(Ask::Verify {
-        left: word(alloc, found, "left")?,
-        right: word(alloc, found, "right")?,
-        cert: word(alloc, found, "certificate")?,
-    })
+    let cert = word(alloc, found, "certificate")?;
+    let (left, right) = two_words(alloc, found, "left", "right")?;
+    Ok(Ask::Verify { left, right, cert })
 }
 
 fn run(alloc: Global, found: &ArgMatches) -> Result<Ask, AllocError>
     ensures { IfOk result (λ ask. asked_of_ask ask ≡ run_of (rows_of (found_of found.now))) }
 {
+    let (machine, inputs) = two_words(alloc, found, "machine", "inputs")?;
     Ok(Ask::Run {
-        machine: word(alloc, found, "machine")?,
-        inputs: word(alloc, found, "inputs")?,
+        machine,
+        inputs,
         steps: steps(found),
     })
 }
@@ -46,10 +47,12 @@ fn run(alloc: Global, found: &ArgMatches) -> Result<Ask, AllocError>
 fn replay(alloc: Global, found: &ArgMatches) -> Result<Ask, AllocError>
     ensures { IfOk result (λ ask. asked_of_ask ask ≡ replay_of (rows_of (found_of found.now))) }
 {
+    let inputs = word(alloc, found, "inputs")?;
+    let (left, right) = two_words(alloc, found, "left", "right")?;
     Ok(Ask::Replay {
-        left: word(alloc, found, "left")?,
-        right: word(alloc, found, "right")?,
-        inputs: word(alloc, found, "inputs")?,
+        left,
+        right,
+        inputs,
         steps: steps(found),
     })
 }
@@ -81,28 +84,26 @@ fn compile(alloc: Global, found: &ArgMatches) -> Result<Ask, AllocError>
 fn schedule(alloc: Global, found: &ArgMatches) -> Result<Ask, AllocError>
     ensures { IfOk result (λ ask. asked_of_ask ask ≡ schedule_of_rows (rows_of (found_of found.now))) }
 {
-    Ok(Ask::Schedule {
-        machine: word(alloc, found, "machine")?,
-        units: word(alloc, found, "units")?,
-    })
+    let (machine, units) = two_words(alloc, found, "machine", "units")?;
+    Ok(Ask::Schedule { machine, units })
 }
 
 fn bind(alloc: Global, found: &ArgMatches) -> Result<Ask, AllocError>
     ensures { IfOk result (λ ask. asked_of_ask ask ≡ bind_of (rows_of (found_of found.now))) }
 {
-    Ok(Ask::Bind {
-        machine: word(alloc, found, "machine")?,
-        binding: word(alloc, found, "binding")?,
-    })
+    let (machine, binding) = two_words(alloc, found, "machine", "binding")?;
+    Ok(Ask::Bind { machine, binding })
 }
 
 fn shrink(alloc: Global, found: &ArgMatches) -> Result<Ask, AllocError>
     ensures { IfOk result (λ ask. asked_of_ask ask ≡ shrink_of (rows_of (found_of found.now))) }
 {
+    let inputs = word(alloc, found, "inputs")?;
+    let (left, right) = two_words(alloc, found, "left", "right")?;
     Ok(Ask::Shrink {
-        left: word(alloc, found, "left")?,
-        right: word(alloc, found, "right")?,
-        inputs: word(alloc, found, "inputs")?,
+        left,
+        right,
+        inputs,
         steps: steps(found),
     })
 }
