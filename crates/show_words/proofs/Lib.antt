@@ -1,2 +1,1 @@
-mod Added
 pub mod Named

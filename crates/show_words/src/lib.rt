@@ -10,8 +10,6 @@
 
 pub mod asking;
 mod command_line;
-mod commands;
 pub mod laws;
-mod matched;
 mod reading;
 pub mod words;

@@ -6,9 +6,9 @@ ghost use Rattle.fsmd_words.specs.declared.asking.AskError.TheVariants.{Usage};
 ghost use Rattle.show_words.specs.ViewWords.{certificate_of, machine_view_of, pair_view_of, shown_view, shown_by};
 
 use crate::asking::{Show, View};
-use crate::matched::word;
 use clap::ArgMatches;
 use fsmd_words::asking::{Ask, AskError};
+use fsmd_words::matched::{two_words, word};
 use std::alloc::{AllocError, Global};
 
 fn machine(alloc: Global, found: &ArgMatches) -> Result<Show, AllocError>
@@ -27,9 +27,10 @@ fn machine(alloc: Global, found: &ArgMatches) -> Result<Show, AllocError>
 fn pair(alloc: Global, view: View, found: &ArgMatches) -> Result<Show, AllocError>
     ensures { IfOk result (λ show. shown_view show ≡ pair_view_of view (rows_of (found_of found.now))) }
 {
+    let (left, right) = two_words(alloc, found, "left", "right")?;
     let ask = Ask::Check {
-        left: word(alloc, found, "left")?,
-        right: word(alloc, found, "right")?,
+        left,
+        right,
         cert: None,
         steps: 10_000,
     };
@@ -39,11 +40,9 @@ fn pair(alloc: Global, view: View, found: &ArgMatches) -> Result<Show, AllocErro
 fn certificate(alloc: Global, found: &ArgMatches) -> Result<Show, AllocError>
     ensures { IfOk result (λ show. shown_view show ≡ certificate_of (rows_of (found_of found.now))) }
 {
-    let ask = Ask::Verify {
-        left: word(alloc, found, "left")?,
-        right: word(alloc, found, "right")?,
-        cert: word(alloc, found, "certificate")?,
-    };
+    let cert = word(alloc, found, "certificate")?;
+    let (left, right) = two_words(alloc, found, "left", "right")?;
+    let ask = Ask::Verify { left, right, cert };
     Ok(Show {
         view: View::Certificate,
         ask,

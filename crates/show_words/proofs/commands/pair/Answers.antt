@@ -1,7 +1,0 @@
-use Rattle.std.proofs.Common.{ap}
-use Rattle.std.proofs.lemmas.Result.{IfOk-weaker}
-use Rattle.clap.specs.Words.{App}
-use Rattle.show_words.proofs.commands.pair.Goals as goal
-
-pub returns-clause-shape : goal.returns-clause-shape
-returns-clause-shape c = IfOk-weaker c.two_files.result _ _ (λ command h. ap (λ (a : App). a.top) h) c.two_files.ensures.app
