@@ -1,9 +1,9 @@
 //! What each command asks to see, by its matches.
 
-ghost use Rattle.std.specs.Prelude.{◌≡◌, IfOk, IfErr, Some, None};
+ghost use Rattle.std.specs.Prelude.{◌≡◌, IfOk, IfErr, Option, Some, None};
 ghost use Rattle.clap.specs.Words.{found_of, rows_of};
 ghost use Rattle.fsmd_words.specs.declared.asking.AskError.TheVariants.{Usage};
-ghost use Rattle.show_words.specs.ViewWords.{certificate_of, machine_view_of, pair_view_of, shown_view, shown_by};
+ghost use Rattle.show_words.specs.ViewWords.{ShownView, certificate_of, machine_view_of, pair_view_of, shown_view, shown_by};
 
 use crate::asking::{Show, View};
 use clap::ArgMatches;
@@ -49,17 +49,26 @@ fn certificate(alloc: Global, found: &ArgMatches) -> Result<Show, AllocError>
     })
 }
 
+// What is asked to be shown, with the refusal of memory as an error of words, so that the caller returns early with
+// nothing in its hands.
+fn show_or_refusal(show: Result<Show, AllocError>) -> Result<Show, AskError>
+    ensures ok { (what : ShownView) → IfOk show (λ s. shown_view s ≡ what) → IfOk result (λ s. Some what ≡ Some (shown_view s)) }
+    ensures usage { (what : Option ShownView) → IfErr result (λ error. error ≡ Usage → what ≡ None) }
+{
+    Ok(show?)
+}
+
 /// What the command of this name asks to see, by its matches. `Usage` comes only for a name that is no command's.
 pub fn read(alloc: Global, name: &str, found: &ArgMatches) -> Result<Show, AskError>
     ensures ok { IfOk result (λ show. shown_by name.now (rows_of (found_of found.now)) ≡ Some (shown_view show)) }
     ensures usage { IfErr result (λ error. error ≡ Usage → shown_by name.now (rows_of (found_of found.now)) ≡ None) }
 {
     match name {
-        "machine" => Ok(machine(alloc, found)?),
-        "pair" => Ok(pair(alloc, View::Pair, found)?),
-        "why" => Ok(pair(alloc, View::Why, found)?),
-        "certificate" => Ok(certificate(alloc, found)?),
-        "inputs" => Ok(pair(alloc, View::Inputs, found)?),
+        "machine" => show_or_refusal(machine(alloc, found)),
+        "pair" => show_or_refusal(pair(alloc, View::Pair, found)),
+        "why" => show_or_refusal(pair(alloc, View::Why, found)),
+        "certificate" => show_or_refusal(certificate(alloc, found)),
+        "inputs" => show_or_refusal(pair(alloc, View::Inputs, found)),
         _ => Err(AskError::Usage),
     }
 }
