@@ -84,6 +84,10 @@ pub while_taken : (ts : List Token) (o : Open) (b : Named) → kind_at ts ≡ So
     → program_reading ts (at_statement o b) ≡ (tokens_after ts >>= λ r. program_reading r (inside (for_while o b (line_at ts)) (at_guard guard_alone)))
 while_taken ts o b e = taken ts WhileWord (at_statement o b) (inside (for_while o b (line_at ts)) (at_guard guard_alone)) e refl refl
 
+pub else_taken : (ts : List Token) (o : Open) (b : Named) (n : ℕ) (g : Guard (List ℕ)) (y : Named) → kind_at ts ≡ Some Else
+    → program_reading ts (after_yes o b n g y) ≡ (tokens_after ts >>= λ r. program_reading r (at_no o b n g y))
+else_taken ts o b n g y e = taken ts Else (after_yes o b n g y) (at_no o b n g y) e refl refl
+
 -- ---- what may be left out
 
 scalar_steps : (n : ℕ) (t : TokenKind) (o : Open) (b : Named) (m : ℕ) (x : List ℕ) → IsNoIndex (Some t)
@@ -201,6 +205,3 @@ no_role n _ ds e h = refl
 pub opens_outermost : (ts : List Token) (ds : List Declaration) → role_at ts ≡ None
     → program_reading ts (at_declaration ds) ≡ (tokens_behind_brace 0 ts >>= λ r. program_reading r (at_block (outermost ds)))
 opens_outermost ts ds e = opens ts (at_declaration ds) (outermost ds) (λ m. refl) (λ m t i h. no_role m t ds (rw i at e) h) refl
-
--- each way to open a block
-pub ruleset openings = (opens_yes, opens_no, opens_body, opens_outermost)

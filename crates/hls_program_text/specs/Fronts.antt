@@ -9,7 +9,9 @@ use Rattle.fs_grammar.specs.declared.token.TokenKind.TheVariants.{If, While, Dec
 use Rattle.fs_grammar.specs.declared.token.Token.{Token}
 use Rattle.fs_grammar.specs.Tokens.{kind_at, tokens_after, refusal, fault_at, ◌>>=◌}
 use Rattle.fs_grammar.specs.Grammar.{Destination, scalar, element}
+use Rattle.hls_program_laws.specs.Programs.{Program}
 use Rattle.hls_program_laws.specs.WellFormedPrograms.{most_depth}
+use Rattle.hls_program_grammar.specs.ProgramGrammar.{Open, depth_of, at_block, program_reading}
 
 abbrev pub role_in : Option TokenKind → Option Role
 role_in (Some (Declare r)) = Some r
@@ -49,3 +51,7 @@ tokens_behind_brace_by depth ts _ = Err (refusal ts)
 -- the tokens behind the brace that opens a block within so many others
 abbrev pub tokens_behind_brace : ℕ → List Token → Result (List Token) TextFault
 tokens_behind_brace depth ts = tokens_behind_brace_by depth ts (kind_at ts)
+
+-- what a block reads as from its brace on
+abbrev pub block_reading : Open → List Token → Result Program TextFault
+block_reading o ts = tokens_behind_brace (depth_of o) ts >>= λ r. program_reading r (at_block o)

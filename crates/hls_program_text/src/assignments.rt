@@ -1,6 +1,6 @@
 //! The assignments of a program.
 
-ghost use Rattle.std.specs.Prelude.{◌≡◌, ◌<◌, List, ℕ, option_map, length, IfOk};
+ghost use Rattle.std.specs.Prelude.{◌≡◌, ◌<◌, List, ℕ, [], option_map, length, IfOk};
 ghost use Rattle.fs_model.specs.Terms.{Term};
 ghost use Rattle.fs_model.specs.View.{named_term, named_assignment};
 ghost use Rattle.fs_grammar.specs.Tokens.{ParsesOn, kind_at, line_at};
@@ -8,7 +8,7 @@ ghost use Rattle.fs_grammar.specs.Grammar.{Destination, element, destination_ass
 ghost use Rattle.fs_expression_text.specs.Inside.{at_sum, sum_alone, whole_sum};
 ghost use Rattle.hls_program_laws.specs.Programs.{End, Do, join_blocks};
 ghost use Rattle.hls_program_grammar.specs.ProgramGrammar.{Open, Named, for_index, for_value, program_reading, at_statement};
-ghost use Rattle.hls_program_grammar.specs.ProgramGrammar.{after_name, at_equals, inside, after};
+ghost use Rattle.hls_program_grammar.specs.ProgramGrammar.{after_prog, at_declaration, after_name, at_equals, inside, after};
 ghost use Rattle.hls_program_text.specs.Fronts.{IsNoKeyword, destination};
 
 use crate::expressions::sum;
@@ -69,7 +69,7 @@ fn index(alloc: Global, tokens: &[Token]) -> Result<(Expr<Name>, &[Token]), Read
 }
 
 // The index of a destination, if it has one, after its name, up to the value.
-#[tactic(auto, using(crate::proofs::Readings::scalar_ends, crate::proofs::Readings::bracket_taken))]
+#[tactic(auto, using(crate::proofs::Readings::scalar_ends))]
 fn optional_index(
     alloc: Global,
     tokens: &[Token],
@@ -94,7 +94,6 @@ fn optional_index(
 }
 
 // What stands before the value of an assignment: a name, and its index, if it has one.
-#[tactic(auto, using(crate::proofs::Readings::name_read))]
 fn before_value(
     alloc: Global,
     tokens: &[Token],
@@ -111,8 +110,9 @@ fn before_value(
     Ok((name, index, rest))
 }
 
-// The semicolon that ends an assignment.
-fn semicolon(tokens: &[Token]) -> Result<&[Token], ReadError>
+/// The semicolon behind the word `prog`, or the one that ends an assignment.
+pub fn semicolon(tokens: &[Token]) -> Result<&[Token], ReadError>
+    ensures head { ParsesOn result (program_reading tokens.now after_prog) (λ r. program_reading r.now (at_declaration [])) }
     ensures goes { (o : Open) (b : Named) (n : ℕ) (d : Destination) (e : Term (List ℕ))
         → ParsesOn result (program_reading tokens.now (after (for_value o b n d) (whole_sum e)))
         (λ r. program_reading r.now (at_statement o (join_blocks b (Do n (destination_assignment d e) End)))) }

@@ -1,21 +1,19 @@
 //! The statements and blocks of a program, by descent.
 
-ghost use Rattle.std.specs.Prelude.{◌≡◌, ◌<◌, ◌≤◌, ◌+◌, List, ℕ, suc, false, Some, None, length, IfOk};
+ghost use Rattle.std.specs.Prelude.{◌≡◌, ◌<◌, ◌≤◌, ◌+◌, List, ℕ, false, Some, length, IfOk};
 ghost use Rattle.std.specs.Result.{OnOk};
 ghost use Rattle.fs_model.specs.Terms as terms;
-ghost use Rattle.fs_model.specs.Source.{Declaration};
 ghost use Rattle.fs_model.specs.View.{named_guard, named_assignment};
 ghost use Rattle.fs_grammar.specs.declared.fault.ReadError.TheVariants.{Text};
 ghost use Rattle.fs_grammar.specs.declared.token.TokenKind.TheVariants as kinds;
 ghost use Rattle.fs_grammar.specs.Tokens.{Gives, ParsesOn, kind_at, line_at};
-ghost use Rattle.fs_expression_text.specs.Inside.{at_guard, guard_alone, whole_guard};
+ghost use Rattle.fs_expression_text.specs.Inside.{whole_guard};
 ghost use Rattle.hls_program_laws.specs.Programs.{Do, If, While, End, join_blocks};
 ghost use Rattle.hls_program_laws.specs.WellFormedPrograms.{most_depth};
 ghost use Rattle.hls_program_parts.specs.View.{block_of_statement, block_of};
 ghost use Rattle.hls_program_grammar.specs.ProgramGrammar.{Open, Named, depth_of, for_if, for_while, program_reading};
-ghost use Rattle.hls_program_grammar.specs.ProgramGrammar.{at_declaration, at_block, at_statement, inside, after, after_yes};
-ghost use Rattle.hls_program_grammar.specs.ProgramGrammar.{at_no, at_end, close_block};
-ghost use Rattle.hls_program_text.specs.Fronts.{role_at, ends_block, IsNoKeyword, nested_fault, tokens_behind_brace};
+ghost use Rattle.hls_program_grammar.specs.ProgramGrammar.{at_block, at_statement, after, after_yes, close_block};
+ghost use Rattle.hls_program_text.specs.Fronts.{ends_block, IsNoKeyword, nested_fault, tokens_behind_brace, block_reading};
 
 use crate::assignments::assignment;
 use crate::expressions::guard;
@@ -101,31 +99,8 @@ fn repeated(line: u32, guard: Guard, body: Vec<Stmt>) -> Stmt
     Stmt::While { line, guard, body }
 }
 
-// The word `if`.
-#[tactic(auto, using(crate::proofs::Readings::if_taken))]
-fn if_word(tokens: &[Token]) -> Result<&[Token], ReadError>
-    requires { kind_at tokens.now ≡ Some kinds.If }
-    ensures goes { (o : Open) (b : Named)
-        → ParsesOn result (program_reading tokens.now (at_statement o b))
-        (λ r. program_reading r.now (inside (for_if o b (line_at tokens.now)) (at_guard guard_alone))) }
-    ensures shorter { IfOk result (λ r. length r.now < length tokens.now) }
-{
-    accept(tokens)
-}
-
-// The word `while`.
-#[tactic(auto, using(crate::proofs::Readings::while_taken))]
-fn while_word(tokens: &[Token]) -> Result<&[Token], ReadError>
-    requires { kind_at tokens.now ≡ Some kinds.While }
-    ensures goes { (o : Open) (b : Named)
-        → ParsesOn result (program_reading tokens.now (at_statement o b))
-        (λ r. program_reading r.now (inside (for_while o b (line_at tokens.now)) (at_guard guard_alone))) }
-    ensures shorter { IfOk result (λ r. length r.now < length tokens.now) }
-{
-    accept(tokens)
-}
-
 // The guard of a choice, and the word `if` before it.
+#[tactic(auto, using(crate::proofs::Readings::if_taken))]
 fn if_guard(alloc: Global, tokens: &[Token]) -> Result<(Guard, &[Token]), ReadError>
     requires { kind_at tokens.now ≡ Some kinds.If }
     ensures goes { (o : Open) (b : Named)
@@ -133,11 +108,12 @@ fn if_guard(alloc: Global, tokens: &[Token]) -> Result<(Guard, &[Token]), ReadEr
         (λ x. program_reading x.1.now (after (for_if o b (line_at tokens.now)) (whole_guard (named_guard x.0)))) }
     ensures shorter { IfOk result (λ x. length x.1.now < length tokens.now) }
 {
-    let rest = if_word(tokens)?;
+    let rest = accept(tokens)?;
     guard(alloc, rest)
 }
 
 // The guard of a loop, and the word `while` before it.
+#[tactic(auto, using(crate::proofs::Readings::while_taken))]
 fn while_guard(alloc: Global, tokens: &[Token]) -> Result<(Guard, &[Token]), ReadError>
     requires { kind_at tokens.now ≡ Some kinds.While }
     ensures goes { (o : Open) (b : Named)
@@ -145,40 +121,20 @@ fn while_guard(alloc: Global, tokens: &[Token]) -> Result<(Guard, &[Token]), Rea
         (λ x. program_reading x.1.now (after (for_while o b (line_at tokens.now)) (whole_guard (named_guard x.0)))) }
     ensures shorter { IfOk result (λ x. length x.1.now < length tokens.now) }
 {
-    let rest = while_word(tokens)?;
+    let rest = accept(tokens)?;
     guard(alloc, rest)
-}
-
-// The word `else`.
-fn else_word(tokens: &[Token]) -> Result<&[Token], ReadError>
-    requires { kind_at tokens.now ≡ Some kinds.Else }
-    ensures goes { (o : Open) (b : Named) (n : ℕ) (g : terms.Guard (List ℕ)) (y : Named)
-        → ParsesOn result (program_reading tokens.now (after_yes o b n g y)) (λ r. program_reading r.now (at_no o b n g y)) }
-    ensures shorter { IfOk result (λ r. length r.now < length tokens.now) }
-{
-    accept(tokens)
 }
 
 /// A block within so many others, and the tokens after it. An `Err` is the first fault, or out of memory.
 #[cycle(blocks)]
-#[tactic(auto, using(crate::proofs::Readings::openings))]
 pub fn block(
     alloc: Global,
     depth: u32,
     tokens: &[Token],
 ) -> Result<(Vec<Stmt>, &[Token]), ReadError>
-    ensures yes { (o : Open) (b : Named) (n : ℕ) (g : terms.Guard (List ℕ)) → suc (depth_of o) ≡ depth
-        → ParsesOn result (program_reading tokens.now (after (for_if o b n) (whole_guard g)))
-        (λ x. program_reading x.1.now (after_yes o b n g (block_of x.0.items))) }
-    ensures no { (o : Open) (b : Named) (n : ℕ) (g : terms.Guard (List ℕ)) (y : Named) → suc (depth_of o) ≡ depth
-        → ParsesOn result (program_reading tokens.now (at_no o b n g y))
-        (λ x. program_reading x.1.now (at_statement o (join_blocks b (If n g y (block_of x.0.items) End)))) }
-    ensures body { (o : Open) (b : Named) (n : ℕ) (g : terms.Guard (List ℕ)) → suc (depth_of o) ≡ depth
-        → ParsesOn result (program_reading tokens.now (after (for_while o b n) (whole_guard g)))
-        (λ x. program_reading x.1.now (at_statement o (join_blocks b (While n g (block_of x.0.items) End)))) }
-    ensures outermost { (ds : List Declaration) → depth ≡ 0 → role_at tokens.now ≡ None
-        → ParsesOn result (program_reading tokens.now (at_declaration ds))
-        (λ x. program_reading x.1.now (at_end (record { declarations = ds; body = block_of x.0.items }))) }
+    ensures goes { (o : Open) → depth_of o ≡ depth
+        → ParsesOn result (block_reading o tokens.now)
+        (λ x. program_reading x.1.now (close_block o (block_of x.0.items))) }
     ensures shorter { IfOk result (λ x. length x.1.now < length tokens.now) }
 {
     let rest = open_brace(depth, tokens)?;
@@ -289,7 +245,7 @@ fn otherwise(
 {
     match front(tokens) {
         Some(TokenKind::Else) => {
-            let rest = else_word(tokens)?;
+            let rest = accept(tokens)?;
             block(alloc, depth + 1, rest)
         }
         _ => Ok((Vec::new(alloc), tokens)),

@@ -4,7 +4,7 @@ ghost use Rattle.std.specs.Prelude.{◌≡◌, ◌<◌, ◌≤◌, List, ℕ, So
 ghost use Rattle.fs_model.specs.declared.parts.Role as roles;
 ghost use Rattle.fs_model.specs.Source.{Declaration};
 ghost use Rattle.fs_model.specs.View.{declaration_of};
-ghost use Rattle.fs_grammar.specs.Tokens.{ParsesOn, line_at};
+ghost use Rattle.fs_grammar.specs.Tokens.{ParsesOn};
 ghost use Rattle.fs_grammar.specs.Grammar.{with_names};
 ghost use Rattle.fs_phrase_text.specs.Declaring as declaring;
 ghost use Rattle.hls_program_grammar.specs.ProgramGrammar.{program_reading, at_declaration, in_declaration, with_declaration};
@@ -48,18 +48,6 @@ fn role(tokens: &[Token]) -> Option<Role>
     }
 }
 
-// The role of a declaration, which the first token says.
-#[tactic(auto, using(crate::proofs::Readings::role_taken))]
-fn role_word(role: Role, tokens: &[Token]) -> Result<&[Token], ReadError>
-    requires { role_at tokens.now ≡ Some role }
-    ensures goes { (ds : List Declaration)
-        → ParsesOn result (program_reading tokens.now (at_declaration ds))
-        (λ r. program_reading r.now (in_declaration ds (declaring.at_sort (line_at tokens.now) role))) }
-    ensures shorter { IfOk result (λ r. length r.now < length tokens.now) }
-{
-    accept(tokens)
-}
-
 fn declaration(alloc: Global, role: Role, tokens: &[Token]) -> Result<(Decl, &[Token]), ReadError>
     requires { role_at tokens.now ≡ Some role }
     ensures goes { (ds : List Declaration)
@@ -68,7 +56,7 @@ fn declaration(alloc: Global, role: Role, tokens: &[Token]) -> Result<(Decl, &[T
     ensures shorter { IfOk result (λ x. length x.1.now < length tokens.now) }
 {
     let line = line_of(tokens);
-    let rest = role_word(role, tokens)?;
+    let rest = accept(tokens)?;
     let (sort, rest) = sort(rest)?;
     let (names, rest) = names(alloc, rest)?;
     let read = Decl {

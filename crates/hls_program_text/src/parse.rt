@@ -8,6 +8,7 @@ ghost use Rattle.hls_program_parts.specs.View.{block_of, program_of};
 ghost use Rattle.hls_program_grammar.specs.ProgramGrammar.{program_reading, at_prog, after_prog, at_declaration, at_end};
 ghost use Rattle.hls_program_text.specs.Fronts.{role_at};
 
+use crate::assignments::semicolon;
 use crate::blocks::block;
 use crate::declarations::declarations;
 use fs_grammar::fault::ReadError;
@@ -21,16 +22,6 @@ fn first_word(tokens: &[Token]) -> Result<&[Token], ReadError>
 {
     match front(tokens) {
         Some(TokenKind::Prog) => accept(tokens),
-        _ => Err(refuse(tokens)),
-    }
-}
-
-// The semicolon behind it.
-fn head_end(tokens: &[Token]) -> Result<&[Token], ReadError>
-    ensures { ParsesOn result (program_reading tokens.now after_prog) (λ r. program_reading r.now (at_declaration [])) }
-{
-    match front(tokens) {
-        Some(TokenKind::Semicolon) => accept(tokens),
         _ => Err(refuse(tokens)),
     }
 }
@@ -50,7 +41,17 @@ fn head(tokens: &[Token]) -> Result<&[Token], ReadError>
     ensures { ParsesOn result (program_reading tokens.now at_prog) (λ r. program_reading r.now (at_declaration [])) }
 {
     let rest = first_word(tokens)?;
-    head_end(rest)
+    semicolon(rest)
+}
+
+// The outermost block.
+fn outermost_block(alloc: Global, tokens: &[Token]) -> Result<(Vec<Stmt>, &[Token]), ReadError>
+    requires { role_at tokens.now ≡ None }
+    ensures { (ds : List Declaration)
+        → ParsesOn result (program_reading tokens.now (at_declaration ds))
+        (λ x. program_reading x.1.now (at_end (record { declarations = ds; body = block_of x.0.items }))) }
+{
+    block(alloc, 0, tokens)
 }
 
 // The outermost block, which ends the program.
@@ -60,7 +61,7 @@ fn body(alloc: Global, tokens: &[Token]) -> Result<Vec<Stmt>, ReadError>
         → Gives (λ b. record { declarations = ds; body = block_of b.items }) result
         (program_reading tokens.now (at_declaration ds)) }
 {
-    let (body, rest) = block(alloc, 0, tokens)?;
+    let (body, rest) = outermost_block(alloc, tokens)?;
     end(rest)?;
     Ok(body)
 }
