@@ -148,7 +148,6 @@ pub fn declarations(
 }
 
 /// The name of the reset state, after the word `reset`. An `Err` is the first fault, or out of memory.
-#[tactic(auto, using(crate::proofs::Steps::name_reset))]
 pub fn reset(alloc: Global, tokens: &[Token]) -> Result<(Name, &[Token]), ReadError>
     ensures { (f : formats.Format) (ds : List Declaration) (n : ℕ)
         → ParsesOn result (reading tokens.now (at_reset f ds n))

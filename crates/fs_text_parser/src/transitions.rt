@@ -122,7 +122,6 @@ fn indexed(
 }
 
 // What stands before the value of an assignment.
-#[tactic(auto, using(crate::proofs::Steps::name_assignment))]
 fn assigned_place(alloc: Global, tokens: &[Token]) -> Result<(Destination, &[Token]), ReadError>
     requires { IsNoEmit (kind_at tokens.now) }
     ensures goes { (o : OpenTransition) → ParsesOn result (reading tokens.now (at_assignment o))
@@ -148,7 +147,6 @@ fn emit(format: Format, tokens: &[Token]) -> Result<&[Token], ReadError>
 }
 
 // The port of an emit.
-#[tactic(auto, using(crate::proofs::Steps::name_port))]
 fn port(alloc: Global, tokens: &[Token]) -> Result<(Destination, &[Token]), ReadError>
     ensures goes { (o : OpenTransition) → ParsesOn result (reading tokens.now (at_port o))
         (λ x. reading x.1.now (at_sum (value o (destination_of x.0)))) }
@@ -277,7 +275,6 @@ fn effects(
 }
 
 // The target and the assignments of a line, after `goto`.
-#[tactic(auto, using(crate::proofs::Steps::name_target))]
 fn target(
     alloc: Global,
     format: Format,

@@ -44,30 +44,21 @@ fn format(tokens: &[Token]) -> Result<(Format, &[Token]), ReadError>
     Ok((format, rest))
 }
 
-// The semicolon after the format.
-fn head_end(tokens: &[Token]) -> Result<&[Token], ReadError>
-    ensures { (f : formats.Format) → ParsesOn result (reading tokens.now (at_semicolon f))
-        (λ r. reading r.now (at_declaration f [])) }
-{
-    match front(tokens) {
-        Some(TokenKind::Semicolon) => accept(tokens),
-        _ => Err(refuse(tokens)),
-    }
-}
-
 /// The head of a text, `fsmd 1;` or `fsmd 2;`: its format, and the tokens after it.
 pub fn header(tokens: &[Token]) -> Result<(Format, &[Token]), ReadError>
     ensures { ParsesOn result (reading tokens.now at_start) (λ x. reading x.1.now (at_declaration x.0 [])) }
 {
     let rest = first_word(tokens)?;
     let (format, rest) = format(rest)?;
-    let rest = head_end(rest)?;
+    let rest = semicolon(rest)?;
     Ok((format, rest))
 }
 
-/// The semicolon after the name of the reset state.
+/// The semicolon after the format, or after the name of the reset state.
 pub fn semicolon(tokens: &[Token]) -> Result<&[Token], ReadError>
-    ensures { (f : formats.Format) (s : Source)
+    ensures head { (f : formats.Format) → ParsesOn result (reading tokens.now (at_semicolon f))
+        (λ r. reading r.now (at_declaration f [])) }
+    ensures reset { (f : formats.Format) (s : Source)
         → ParsesOn result (reading tokens.now (after_reset f s)) (λ r. reading r.now (at_state f s)) }
 {
     match front(tokens) {

@@ -1,0 +1,20 @@
+use Rattle.std.proofs.Common.{ap, ◌∙◌}
+use Rattle.fs_grammar.specs.PartEnds.{name_in}
+use Rattle.fs_grammar.specs.Tokens.{◌>>=◌}
+use Rattle.fs_grammar.specs.Grammar.{reading, after_assignment_name}
+use Rattle.fs_text_parser.proofs.Steps.{name_assignment}
+use Rattle.fs_text_parser.proofs.PassedOn.{stopped, goes_after}
+use Rattle.fs_text_parser.proofs.transitions.assigned_place.Goals as goal
+
+pub returns-in_err-name-clause-goes : goal.returns-in_err-name-clause-goes
+returns-in_err-name-clause-goes c =
+    let ts = c.args.tokens.now in
+    λ o. stopped c.from_residual.result c.in_err-name.field-0.0 (name_in ts)
+    (λ x. reading x.1 (after_assignment_name o x.0)) _
+    c.from_residual.ensures.1 (name_assignment ts o c.requires) c.in_err-name.ensures
+
+pub returns-clause-goes : goal.returns-clause-goes
+returns-clause-goes c =
+    let ts = c.args.tokens.now in
+    λ o. goes_after c.indexed.result _ (name_assignment ts o c.requires
+    ∙ ap (λ q. q >>= λ x. reading x.1 (after_assignment_name o x.0)) c.in_ok-name.ensures) (c.indexed.ensures.goes o)
