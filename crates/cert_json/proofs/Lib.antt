@@ -9,4 +9,3 @@ pub mod KeptParts
 pub mod OrderedValues
 mod Files
 mod Digits
-mod Members

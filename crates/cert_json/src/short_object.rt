@@ -48,13 +48,6 @@ fn put_member(
 ) -> Result<(), AllocError>
     ensures { OnOk result (members_view found.new.entries ≡ put name.now (view member) (members_view found.old.entries)) }
 {
-    match found.get_mut(name) {
-        Some(place) => {
-            *place = member;
-            return Ok(());
-        }
-        None => {}
-    }
     let key = String::from_str(alloc, name)?;
     drop(found.insert(key, member)?);
     Ok(())
@@ -99,9 +92,9 @@ fn put_first(
     if is_past(found, name) {
         return Ok(());
     }
-    put_member(alloc, found, name, member)?;
+    let put = put_member(alloc, found, name, member);
     cut(found);
-    Ok(())
+    put
 }
 
 // A value that is a text, or one that is none.
@@ -148,8 +141,7 @@ fn note_value(
         object.is_partial = true;
         return Ok(());
     }
-    put_member(alloc, &mut object.others, name, sign(alloc, is_text))?;
-    Ok(())
+    put_member(alloc, &mut object.others, name, sign(alloc, is_text))
 }
 
 /// Puts a member in, over the value of its name where there is one. Where `whole` is said, no name is left out of what is noted
@@ -168,12 +160,10 @@ pub fn add_member(
     ensures whole { OnOk result (whole ≡ true → object.old.is_partial ≡ false → object.new.is_partial ≡ false) }
 {
     if !level.keeps_first() {
-        put_member(alloc, &mut object.members, name, member)?;
-        return Ok(());
+        return put_member(alloc, &mut object.members, name, member);
     }
     note_value(alloc, object, name, member.is_string(), whole)?;
-    put_first(alloc, &mut object.members, name, member)?;
-    Ok(())
+    put_first(alloc, &mut object.members, name, member)
 }
 
 // The value of equations, or null where they are not all texts; none where what was left out would tell.

@@ -1,4 +1,5 @@
 use Rattle.std.proofs.Common.{sym, ◌∙◌, subst}
+use Rattle.std.proofs.lemmas.Result.{on_ok_weaker}
 use Rattle.serde_json.specs.Data.{put}
 use Rattle.serde_json.specs.View.{view, members_view}
 use Rattle.cert_json.specs.Objects.{TellsOthers}
@@ -16,8 +17,9 @@ returns-then-len-ge16-clause-others c ms d is h =
     left_out c.args.name.now d ms (members_view object.others.entries) object.is_partial h (sym c.if-is_new-2.ensures)
 
 pub returns-clause-others : goal.returns-clause-others
-returns-clause-others c ms d is h =
+returns-clause-others c =
     let object = c.args.object.now in
     let k = c.args.name.now in
-    subst (λ ns. TellsOthers (put k d ms) ns object.is_partial) (sym c.in_ok-put_member.ensures)
-    (put_in k d ms (members_view object.others.entries) object.is_partial h (view c.sign.result) (c.sign.ensures ∙ sym is))
+    on_ok_weaker c.put_member.result (λ noted ms d is h. subst (λ ns. TellsOthers (put k d ms) ns object.is_partial) (sym noted)
+    (put_in k d ms (members_view object.others.entries) object.is_partial h (view c.sign.result) (c.sign.ensures ∙ sym is)))
+    c.put_member.ensures
