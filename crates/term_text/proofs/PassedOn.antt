@@ -1,6 +1,6 @@
 -- Refusals that are passed on.
-use Rattle.std.proofs.Common.{◌≡◌, Option, Result, Ok, Err, sym, subst}
-use Rattle.std.specs.Result.{IsErrAnd}
+use Rattle.std.proofs.Common.{◌≡◌, ◌<◌, ◌≤◌, ℕ, List, Bor, length, Option, Result, Ok, Err, sym, subst, arith}
+use Rattle.std.specs.Result.{IsErrAnd, IfOk}
 use Rattle.term_text.specs.declared.fault.ReadError.{ReadError}
 use Rattle.term_text.specs.declared.fault.ReadError.TheVariants.{BadTerm, NoMemory}
 use Rattle.term_text.specs.TermTexts.{TermSyntax}
@@ -32,3 +32,29 @@ no_memory {X} {Y} (Err d) e now go is h g = subst (λ f. Goes {X = X} (Err f) no
 -- what goes on behind a part of the text
 pub goes_after : {X : Type 0} (r : Result X ReadError) {now text : Option TermSyntax} (go : X → Option TermSyntax) → now ≡ text → Goes r text go → Goes r now go
 goes_after r go s g = subst (λ t. Goes r t go) (sym s) g
+
+-- ---- what is left is shorter
+
+-- nothing is left of what is refused
+pub none_left : {X : Type 0} (r : Result X ReadError) (e : ReadError) (P : X → Type 0) → IsErrAnd r (λ d. d ≡ e) → IfOk r P
+none_left (Ok x) e P h = absurd h
+none_left (Err d) e P h = tt
+
+pub less_left : {X : Type 0} {a b : ℕ} (r : Result (X × Bor (List ℕ)) ReadError) → a < b
+    → IfOk r (λ x. length x.1.now < a) → IfOk r (λ x. length x.1.now < b)
+less_left (Ok x) less h = omega (arith, less, h)
+less_left (Err e) less h = tt
+
+pub at_most_left : {X : Type 0} {a b : ℕ} (r : Result (X × Bor (List ℕ)) ReadError) → a < b
+    → IfOk r (λ x. length x.1.now ≤ a) → IfOk r (λ x. length x.1.now < b)
+at_most_left (Ok x) less h = omega (arith, less, h)
+at_most_left (Err e) less h = tt
+
+pub less_again : {a b c : ℕ} → a < b → b < c → a < c
+less_again less h = omega (arith, less, h)
+
+pub less_than_all : {a b c : ℕ} → a < b → b ≤ c → a < c
+less_than_all less h = omega (arith, less, h)
+
+pub at_most_less : {a b c : ℕ} → a ≤ b → b < c → a < c
+at_most_less at_most h = omega (arith, at_most, h)

@@ -1,6 +1,6 @@
 //! Making the parts of written terms.
 
-ghost use Rattle.std.specs.Prelude.{◌≡◌, ◌<◌, map, length};
+ghost use Rattle.std.specs.Prelude.{◌≡◌, ◌<◌, map, length, true, false};
 ghost use Rattle.term_text.specs.Machine.{TermMadeAs};
 ghost use Rattle.term_text.specs.TermTexts.{Monomial, ArrayTerm, One, Times, Read, Quotient, Remainder, Written};
 ghost use Rattle.term_text.specs.View.{written_atom_in, head_in, written_monomial_in, written_polynomial_in, written_array_in};
@@ -32,30 +32,24 @@ pub fn make_read<'a>(
     Ok(WrittenAtom::Read(array, index))
 }
 
-/// A quotient. The one refusal is out of memory.
-pub fn make_quotient<'a>(
+/// A quotient, or a remainder. The one refusal is out of memory.
+pub fn make_division<'a>(
     alloc: Global,
+    is_remainder: bool,
     left: WrittenPolynomial<'a>,
     right: WrittenPolynomial<'a>,
 ) -> Result<WrittenAtom<'a>, ReadError>
-    ensures { TermMadeAs result
+    ensures quotient { is_remainder ≡ false → TermMadeAs result
         (λ a. written_atom_in a ≡ Quotient (written_polynomial_in left.entry) (written_polynomial_in right.entry)) }
-{
-    let (left, right) = both_boxed(alloc, left, right)?;
-    Ok(WrittenAtom::Quotient(left, right))
-}
-
-/// A remainder. The one refusal is out of memory.
-pub fn make_remainder<'a>(
-    alloc: Global,
-    left: WrittenPolynomial<'a>,
-    right: WrittenPolynomial<'a>,
-) -> Result<WrittenAtom<'a>, ReadError>
-    ensures { TermMadeAs result
+    ensures remainder { is_remainder ≡ true → TermMadeAs result
         (λ a. written_atom_in a ≡ Remainder (written_polynomial_in left.entry) (written_polynomial_in right.entry)) }
 {
     let (left, right) = both_boxed(alloc, left, right)?;
-    Ok(WrittenAtom::Remainder(left, right))
+    if is_remainder {
+        Ok(WrittenAtom::Remainder(left, right))
+    } else {
+        Ok(WrittenAtom::Quotient(left, right))
+    }
 }
 
 /// Adds an atom to a monomial. The one refusal is out of memory.

@@ -1,6 +1,6 @@
 //! Terms, by descent.
 
-ghost use Rattle.std.specs.Prelude.{◌<◌, ◌≤◌, map, length, IfOk};
+ghost use Rattle.std.specs.Prelude.{◌≡◌, ◌<◌, ◌≤◌, true, false, map, length, IfOk};
 ghost use Rattle.term_text.specs.Machine.{ForPolynomial, ForArray, ForMonomial, ForAtom, in_atom, term_reading, Goes, EndsWrites};
 ghost use Rattle.term_text.specs.Machine.{at_polynomial, at_monomial, at_atom, at_symbol, at_sign, item};
 ghost use Rattle.term_text.specs.Machine.{after_array, after_list, after_monomial, after_sum, after_polynomial, atom_done};
@@ -11,9 +11,7 @@ ghost use Rattle.term_text.specs.View.{written_atom_in, head_in, written_monomia
 ghost use Rattle.term_text.specs.View.{base_in, times_all, first_sum, more_sum};
 
 use crate::fault::ReadError;
-use crate::parts::{
-    first_of, make_quotient, make_read, make_remainder, one, push_atom, push_monomial, push_write,
-};
+use crate::parts::{first_of, make_division, make_read, one, push_atom, push_monomial, push_write};
 use crate::scan::{expect, expect_three, number, word};
 use crate::signs::{
     begins_with_digit, begins_with_zero_or_minus, close_brace, close_bracket, close_paren, colon,
@@ -37,8 +35,8 @@ fn atom<'a>(alloc: Global, bytes: &'a [u8]) -> Result<(WrittenAtom<'a>, &'a [u8]
         [first, rest @ ..] => match *first {
             b'L' => symbol(alloc, Side::Left, rest),
             b'R' => symbol(alloc, Side::Right, rest),
-            b'd' => quotient(alloc, expect_three(rest, b'i', b'v', b'(')?),
-            b'r' => remainder(alloc, expect_three(rest, b'e', b'm', b'(')?),
+            b'd' => division(alloc, false, expect_three(rest, b'i', b'v', b'(')?),
+            b'r' => division(alloc, true, expect_three(rest, b'e', b'm', b'(')?),
             b'z' => {
                 let rest = expect_three(rest, b'e', b'r', b'o')?;
                 read(alloc, WrittenBase::Zero, rest)
@@ -167,28 +165,25 @@ pub fn braced<'a>(
     Ok((made, close_brace(rest)?))
 }
 
+// A quotient, or a remainder, after its parenthesis.
 #[cycle(terms)]
 #[inline(never)]
-fn quotient<'a>(alloc: Global, bytes: &'a [u8]) -> Result<(WrittenAtom<'a>, &'a [u8]), ReadError>
-    ensures goes { (k : ForAtom) → Goes result (term_reading bytes.now (at_polynomial (dividend k)))
+fn division<'a>(
+    alloc: Global,
+    is_remainder: bool,
+    bytes: &'a [u8],
+) -> Result<(WrittenAtom<'a>, &'a [u8]), ReadError>
+    ensures quotient { is_remainder ≡ false → (k : ForAtom)
+        → Goes result (term_reading bytes.now (at_polynomial (dividend k)))
+        (λ x. term_reading x.1.now (atom_done (written_atom_in x.0) k)) }
+    ensures remainder { is_remainder ≡ true → (k : ForAtom)
+        → Goes result (term_reading bytes.now (at_polynomial (modulend k)))
         (λ x. term_reading x.1.now (atom_done (written_atom_in x.0) k)) }
     ensures shorter { IfOk result (λ x. length x.1.now < length bytes.now) }
 {
     let (left, rest) = polynomial(alloc, bytes)?;
     let (right, rest) = right_side(alloc, rest)?;
-    Ok((make_quotient(alloc, left, right)?, rest))
-}
-
-#[cycle(terms)]
-#[inline(never)]
-fn remainder<'a>(alloc: Global, bytes: &'a [u8]) -> Result<(WrittenAtom<'a>, &'a [u8]), ReadError>
-    ensures goes { (k : ForAtom) → Goes result (term_reading bytes.now (at_polynomial (modulend k)))
-        (λ x. term_reading x.1.now (atom_done (written_atom_in x.0) k)) }
-    ensures shorter { IfOk result (λ x. length x.1.now < length bytes.now) }
-{
-    let (left, rest) = polynomial(alloc, bytes)?;
-    let (right, rest) = right_side(alloc, rest)?;
-    Ok((make_remainder(alloc, left, right)?, rest))
+    Ok((make_division(alloc, is_remainder, left, right)?, rest))
 }
 
 // The right side of a division, from the comma on.

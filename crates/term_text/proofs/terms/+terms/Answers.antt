@@ -9,7 +9,7 @@ use Rattle.term_text.specs.View.{times_all, written_all, sum_of, base_in, writte
 use Rattle.term_text.specs.View.{written_polynomial_in, written_monomial_in}
 use Rattle.term_text.proofs.Steps.{monomial_starts, found, missing, rest_after_shorter, atoms_go_on, sum_goes_on, array_goes_on, monomial_ended, sum_ended}
 use Rattle.term_text.proofs.Steps.{sum_whole, writes_ended, first_monomial, next_monomial}
-use Rattle.term_text.proofs.PassedOn.{refused, no_memory, goes_after}
+use Rattle.term_text.proofs.PassedOn.{refused, no_memory, goes_after, none_left, less_left, at_most_left, less_again, less_than_all, at_most_less}
 use Rattle.term_text.proofs.terms.+terms.Goals as goal
 
 pub head-returns-in_ok-first-clause-goes : goal.head-returns-in_ok-first-clause-goes
@@ -185,41 +185,41 @@ pub braced-returns-clause-item : goal.braced-returns-clause-item
 braced-returns-clause-item t c = λ l. c.in_ok-made.ensures.goes (item l)
     ∙ c.in_ok-close_brace.ensures.item (written_polynomial_in c.in_ok-made.made) l
 
-pub quotient-returns-in_err-left-clause-goes : goal.quotient-returns-in_err-left-clause-goes
-quotient-returns-in_err-left-clause-goes t c = λ k. refused c.from_residual.result c.in_err-left.field-0.0 _ _ c.from_residual.ensures.1 refl
+pub division-returns-in_err-left-clause-quotient : goal.division-returns-in_err-left-clause-quotient
+division-returns-in_err-left-clause-quotient t c is = λ k. refused c.from_residual.result c.in_err-left.field-0.0 _ _ c.from_residual.ensures.1 refl
     (c.in_err-left.ensures.goes (dividend k))
 
-pub quotient-returns-in_err-right-clause-goes : goal.quotient-returns-in_err-right-clause-goes
-quotient-returns-in_err-right-clause-goes t c = λ k. refused c.from_residual-in_err-right.result c.in_err-right.field-0.0 _ _
+pub division-returns-in_err-right-clause-quotient : goal.division-returns-in_err-right-clause-quotient
+division-returns-in_err-right-clause-quotient t c is = λ k. refused c.from_residual-in_err-right.result c.in_err-right.field-0.0 _ _
     c.from_residual-in_err-right.ensures.1 (c.in_ok-left.ensures.goes (dividend k))
     (c.in_err-right.ensures.quotient (written_polynomial_in c.in_ok-left.left) k)
 
-pub quotient-returns-in_err-make_quotient-clause-goes : goal.quotient-returns-in_err-make_quotient-clause-goes
-quotient-returns-in_err-make_quotient-clause-goes t c = λ k. no_memory c.from_residual-in_err-make_quotient.result c.in_err-make_quotient.field-0.0 _ _ _
-    c.from_residual-in_err-make_quotient.ensures.1 c.in_err-make_quotient.ensures
+pub division-returns-in_err-make_division-clause-quotient : goal.division-returns-in_err-make_division-clause-quotient
+division-returns-in_err-make_division-clause-quotient t c is = λ k. no_memory c.from_residual-in_err-make_division.result
+    c.in_err-make_division.field-0.0 _ _ _ c.from_residual-in_err-make_division.ensures.1 (c.in_err-make_division.ensures.quotient is)
 
-pub quotient-returns-clause-goes : goal.quotient-returns-clause-goes
-quotient-returns-clause-goes t c = λ k. c.in_ok-left.ensures.goes (dividend k)
+pub division-returns-clause-quotient : goal.division-returns-clause-quotient
+division-returns-clause-quotient t c is = λ k. c.in_ok-left.ensures.goes (dividend k)
     ∙ c.in_ok-right.ensures.quotient (written_polynomial_in c.in_ok-left.left) k
-    ∙ ap (λ x. term_reading c.in_ok-right.rest.now (atom_done x k)) (sym c.in_ok-make_quotient.ensures)
+    ∙ ap (λ x. term_reading c.in_ok-right.rest.now (atom_done x k)) (sym (c.in_ok-make_division.ensures.quotient is))
 
-pub remainder-returns-in_err-left-clause-goes : goal.remainder-returns-in_err-left-clause-goes
-remainder-returns-in_err-left-clause-goes t c = λ k. refused c.from_residual.result c.in_err-left.field-0.0 _ _ c.from_residual.ensures.1 refl
+pub division-returns-in_err-left-clause-remainder : goal.division-returns-in_err-left-clause-remainder
+division-returns-in_err-left-clause-remainder t c is = λ k. refused c.from_residual.result c.in_err-left.field-0.0 _ _ c.from_residual.ensures.1 refl
     (c.in_err-left.ensures.goes (modulend k))
 
-pub remainder-returns-in_err-right-clause-goes : goal.remainder-returns-in_err-right-clause-goes
-remainder-returns-in_err-right-clause-goes t c = λ k. refused c.from_residual-in_err-right.result c.in_err-right.field-0.0 _ _
+pub division-returns-in_err-right-clause-remainder : goal.division-returns-in_err-right-clause-remainder
+division-returns-in_err-right-clause-remainder t c is = λ k. refused c.from_residual-in_err-right.result c.in_err-right.field-0.0 _ _
     c.from_residual-in_err-right.ensures.1 (c.in_ok-left.ensures.goes (modulend k))
     (c.in_err-right.ensures.remainder (written_polynomial_in c.in_ok-left.left) k)
 
-pub remainder-returns-in_err-make_remainder-clause-goes : goal.remainder-returns-in_err-make_remainder-clause-goes
-remainder-returns-in_err-make_remainder-clause-goes t c = λ k. no_memory c.from_residual-in_err-make_remainder.result c.in_err-make_remainder.field-0.0 _ _ _
-    c.from_residual-in_err-make_remainder.ensures.1 c.in_err-make_remainder.ensures
+pub division-returns-in_err-make_division-clause-remainder : goal.division-returns-in_err-make_division-clause-remainder
+division-returns-in_err-make_division-clause-remainder t c is = λ k. no_memory c.from_residual-in_err-make_division.result
+    c.in_err-make_division.field-0.0 _ _ _ c.from_residual-in_err-make_division.ensures.1 (c.in_err-make_division.ensures.remainder is)
 
-pub remainder-returns-clause-goes : goal.remainder-returns-clause-goes
-remainder-returns-clause-goes t c = λ k. c.in_ok-left.ensures.goes (modulend k)
+pub division-returns-clause-remainder : goal.division-returns-clause-remainder
+division-returns-clause-remainder t c is = λ k. c.in_ok-left.ensures.goes (modulend k)
     ∙ c.in_ok-right.ensures.remainder (written_polynomial_in c.in_ok-left.left) k
-    ∙ ap (λ x. term_reading c.in_ok-right.rest.now (atom_done x k)) (sym c.in_ok-make_remainder.ensures)
+    ∙ ap (λ x. term_reading c.in_ok-right.rest.now (atom_done x k)) (sym (c.in_ok-make_division.ensures.remainder is))
 
 pub right_side-returns-in_err-comma-clause-quotient : goal.right_side-returns-in_err-comma-clause-quotient
 right_side-returns-in_err-comma-clause-quotient t c = λ l k. refused c.from_residual.result c.in_err-comma.field-0.0 _ _ c.from_residual.ensures.1 refl
@@ -301,3 +301,140 @@ sum-returns-in_err-first-clause-goes t c = λ k. refused c.from_residual.result 
 pub sum-returns-clause-goes : goal.sum-returns-clause-goes
 sum-returns-clause-goes t c = λ k. goes_after c.monomials.result _ (c.in_ok-first.ensures.goes (first_monomial_for c.args.minus k)
     ∙ ap (term_reading c.in_ok-first.rest.now) (first_monomial c.args.minus (written_monomial_in c.in_ok-first.first) k)) (c.monomials.ensures.goes k)
+
+-- ---- what is left gets shorter, where a call refuses and where all goes on
+
+pub symbol-returns-in_err-expect-clause-shorter : goal.symbol-returns-in_err-expect-clause-shorter
+symbol-returns-in_err-expect-clause-shorter t c = none_left c.from_residual.result c.in_err-expect.field-0.0 _ c.from_residual.ensures.1
+
+pub symbol-returns-in_err-name-clause-shorter : goal.symbol-returns-in_err-name-clause-shorter
+symbol-returns-in_err-name-clause-shorter t c = none_left c.from_residual-in_err-name.result c.in_err-name.field-0.0 _ c.from_residual-in_err-name.ensures.1
+
+pub read-returns-in_err-array-clause-shorter : goal.read-returns-in_err-array-clause-shorter
+read-returns-in_err-array-clause-shorter t c = none_left c.from_residual.result c.in_err-array.field-0.0 _ c.from_residual.ensures.1
+
+pub read-returns-in_err-index-clause-shorter : goal.read-returns-in_err-index-clause-shorter
+read-returns-in_err-index-clause-shorter t c = none_left c.from_residual-in_err-index.result c.in_err-index.field-0.0 _ c.from_residual-in_err-index.ensures.1
+
+pub read-returns-in_err-make_read-clause-shorter : goal.read-returns-in_err-make_read-clause-shorter
+read-returns-in_err-make_read-clause-shorter t c = none_left c.from_residual-in_err-make_read.result c.in_err-make_read.field-0.0 _ c.from_residual-in_err-make_read.ensures.1
+
+pub index-returns-in_err-open_bracket-clause-shorter : goal.index-returns-in_err-open_bracket-clause-shorter
+index-returns-in_err-open_bracket-clause-shorter t c = none_left c.from_residual.result c.in_err-open_bracket.field-0.0 _ c.from_residual.ensures.1
+
+pub index-returns-in_err-index-clause-shorter : goal.index-returns-in_err-index-clause-shorter
+index-returns-in_err-index-clause-shorter t c = none_left c.from_residual-in_err-index.result c.in_err-index.field-0.0 _ c.from_residual-in_err-index.ensures.1
+
+pub index-returns-in_err-close_bracket-clause-shorter : goal.index-returns-in_err-close_bracket-clause-shorter
+index-returns-in_err-close_bracket-clause-shorter t c = none_left c.from_residual-in_err-close_bracket.result c.in_err-close_bracket.field-0.0 _ c.from_residual-in_err-close_bracket.ensures.1
+
+pub writes-returns-in_err-index-in-Some-clause-shorter : goal.writes-returns-in_err-index-in-Some-clause-shorter
+writes-returns-in_err-index-in-Some-clause-shorter t c = none_left c.from_residual.result c.in_err-index-in-Some.field-0.0 _ c.from_residual.ensures.1
+
+pub writes-returns-in_err-index-in-Some-clause-ends : goal.writes-returns-in_err-index-in-Some-clause-ends
+writes-returns-in_err-index-in-Some-clause-ends t c = none_left c.from_residual.result c.in_err-index-in-Some.field-0.0 _ c.from_residual.ensures.1
+
+pub writes-returns-in_err-push_write-in-Some-clause-shorter : goal.writes-returns-in_err-push_write-in-Some-clause-shorter
+writes-returns-in_err-push_write-in-Some-clause-shorter t c = none_left c.from_residual-in_err-push_write-in-Some.result c.in_err-push_write-in-Some.field-0.0 _ c.from_residual-in_err-push_write-in-Some.ensures.1
+
+pub writes-returns-in_err-push_write-in-Some-clause-ends : goal.writes-returns-in_err-push_write-in-Some-clause-ends
+writes-returns-in_err-push_write-in-Some-clause-ends t c = none_left c.from_residual-in_err-push_write-in-Some.result c.in_err-push_write-in-Some.field-0.0 _ c.from_residual-in_err-push_write-in-Some.ensures.1
+
+pub write-returns-in_err-index-clause-shorter : goal.write-returns-in_err-index-clause-shorter
+write-returns-in_err-index-clause-shorter t c = none_left c.from_residual.result c.in_err-index.field-0.0 _ c.from_residual.ensures.1
+
+pub write-returns-in_err-value-clause-shorter : goal.write-returns-in_err-value-clause-shorter
+write-returns-in_err-value-clause-shorter t c = none_left c.from_residual-in_err-value.result c.in_err-value.field-0.0 _ c.from_residual-in_err-value.ensures.1
+
+pub value-returns-in_err-colon-clause-shorter : goal.value-returns-in_err-colon-clause-shorter
+value-returns-in_err-colon-clause-shorter t c = none_left c.from_residual.result c.in_err-colon.field-0.0 _ c.from_residual.ensures.1
+
+pub braced-returns-in_err-made-clause-shorter : goal.braced-returns-in_err-made-clause-shorter
+braced-returns-in_err-made-clause-shorter t c = none_left c.from_residual.result c.in_err-made.field-0.0 _ c.from_residual.ensures.1
+
+pub braced-returns-in_err-close_brace-clause-shorter : goal.braced-returns-in_err-close_brace-clause-shorter
+braced-returns-in_err-close_brace-clause-shorter t c = none_left c.from_residual-in_err-close_brace.result c.in_err-close_brace.field-0.0 _ c.from_residual-in_err-close_brace.ensures.1
+
+pub division-returns-in_err-left-clause-shorter : goal.division-returns-in_err-left-clause-shorter
+division-returns-in_err-left-clause-shorter t c = none_left c.from_residual.result c.in_err-left.field-0.0 _ c.from_residual.ensures.1
+
+pub division-returns-in_err-right-clause-shorter : goal.division-returns-in_err-right-clause-shorter
+division-returns-in_err-right-clause-shorter t c = none_left c.from_residual-in_err-right.result c.in_err-right.field-0.0 _ c.from_residual-in_err-right.ensures.1
+
+pub division-returns-in_err-make_division-clause-shorter : goal.division-returns-in_err-make_division-clause-shorter
+division-returns-in_err-make_division-clause-shorter t c = none_left c.from_residual-in_err-make_division.result c.in_err-make_division.field-0.0 _ c.from_residual-in_err-make_division.ensures.1
+
+pub right_side-returns-in_err-comma-clause-shorter : goal.right_side-returns-in_err-comma-clause-shorter
+right_side-returns-in_err-comma-clause-shorter t c = none_left c.from_residual.result c.in_err-comma.field-0.0 _ c.from_residual.ensures.1
+
+pub right_side-returns-in_err-right-clause-shorter : goal.right_side-returns-in_err-right-clause-shorter
+right_side-returns-in_err-right-clause-shorter t c = none_left c.from_residual-in_err-right.result c.in_err-right.field-0.0 _ c.from_residual-in_err-right.ensures.1
+
+pub right_side-returns-in_err-close_paren-clause-shorter : goal.right_side-returns-in_err-close_paren-clause-shorter
+right_side-returns-in_err-close_paren-clause-shorter t c = none_left c.from_residual-in_err-close_paren.result c.in_err-close_paren.field-0.0 _ c.from_residual-in_err-close_paren.ensures.1
+
+pub atoms-returns-in_err-next-in-Some-clause-shorter : goal.atoms-returns-in_err-next-in-Some-clause-shorter
+atoms-returns-in_err-next-in-Some-clause-shorter t c = none_left c.from_residual.result c.in_err-next-in-Some.field-0.0 _ c.from_residual.ensures.1
+
+pub atoms-returns-in_err-push_atom-in-Some-clause-shorter : goal.atoms-returns-in_err-push_atom-in-Some-clause-shorter
+atoms-returns-in_err-push_atom-in-Some-clause-shorter t c = none_left c.from_residual-in_err-push_atom-in-Some.result c.in_err-push_atom-in-Some.field-0.0 _ c.from_residual-in_err-push_atom-in-Some.ensures.1
+
+pub monomial-returns-in_err-head-clause-shorter : goal.monomial-returns-in_err-head-clause-shorter
+monomial-returns-in_err-head-clause-shorter t c = none_left c.from_residual.result c.in_err-head.field-0.0 _ c.from_residual.ensures.1
+
+pub monomial-returns-in_err-atoms-clause-shorter : goal.monomial-returns-in_err-atoms-clause-shorter
+monomial-returns-in_err-atoms-clause-shorter t c = none_left c.from_residual-in_err-atoms.result c.in_err-atoms.field-0.0 _ c.from_residual-in_err-atoms.ensures.1
+
+pub further-returns-in_err-minus-clause-shorter : goal.further-returns-in_err-minus-clause-shorter
+further-returns-in_err-minus-clause-shorter t c = none_left c.from_residual.result c.in_err-minus.field-0.0 _ c.from_residual.ensures.1
+
+pub further-returns-in_err-next-clause-shorter : goal.further-returns-in_err-next-clause-shorter
+further-returns-in_err-next-clause-shorter t c = none_left c.from_residual-in_err-next.result c.in_err-next.field-0.0 _ c.from_residual-in_err-next.ensures.1
+
+pub monomials-returns-in_err-minus-in-Some-clause-shorter : goal.monomials-returns-in_err-minus-in-Some-clause-shorter
+monomials-returns-in_err-minus-in-Some-clause-shorter t c = none_left c.from_residual-in_err-minus-in-Some.result c.in_err-minus-in-Some.field-0.0 _ c.from_residual-in_err-minus-in-Some.ensures.1
+
+pub sum-returns-in_err-first-clause-shorter : goal.sum-returns-in_err-first-clause-shorter
+sum-returns-in_err-first-clause-shorter t c = none_left c.from_residual.result c.in_err-first.field-0.0 _ c.from_residual.ensures.1
+
+pub read-returns-clause-shorter : goal.read-returns-clause-shorter
+read-returns-clause-shorter t c = less_than_all c.in_ok-index.ensures.shorter c.in_ok-array.ensures.shorter
+
+pub index-returns-clause-shorter : goal.index-returns-clause-shorter
+index-returns-clause-shorter t c = less_again c.in_ok-close_bracket.ensures.shorter (less_again c.in_ok-index.ensures.shorter c.in_ok-open_bracket.ensures.shorter)
+
+pub write-returns-clause-shorter : goal.write-returns-clause-shorter
+write-returns-clause-shorter t c = less_again c.in_ok-value.ensures.shorter c.in_ok-index.ensures.shorter
+
+pub value-returns-clause-shorter : goal.value-returns-clause-shorter
+value-returns-clause-shorter t c = less_left c.braced.result c.in_ok-colon.ensures.shorter c.braced.ensures.shorter
+
+pub braced-returns-clause-shorter : goal.braced-returns-clause-shorter
+braced-returns-clause-shorter t c = less_again c.in_ok-close_brace.ensures.shorter c.in_ok-made.ensures.shorter
+
+pub division-returns-clause-shorter : goal.division-returns-clause-shorter
+division-returns-clause-shorter t c = less_again c.in_ok-right.ensures.shorter c.in_ok-left.ensures.shorter
+
+pub right_side-returns-clause-shorter : goal.right_side-returns-clause-shorter
+right_side-returns-clause-shorter t c = less_again c.in_ok-close_paren.ensures.shorter (less_again c.in_ok-right.ensures.shorter c.in_ok-comma.ensures.shorter)
+
+pub atoms-returns-in-None-clause-shorter : goal.atoms-returns-in-None-clause-shorter
+atoms-returns-in-None-clause-shorter t c = c.loop-after.invariant.1
+
+pub writes-returns-in-None-clause-shorter : goal.writes-returns-in-None-clause-shorter
+writes-returns-in-None-clause-shorter t c = c.loop-after.invariant.1
+
+pub monomials-returns-in-None-clause-shorter : goal.monomials-returns-in-None-clause-shorter
+monomials-returns-in-None-clause-shorter t c = c.loop-after.invariant.1
+
+pub monomial-returns-clause-shorter : goal.monomial-returns-clause-shorter
+monomial-returns-clause-shorter t c = at_most_less c.in_ok-atoms.ensures.shorter c.in_ok-head.ensures.shorter
+
+pub further-returns-clause-shorter : goal.further-returns-clause-shorter
+further-returns-clause-shorter t c = less_again c.in_ok-next.ensures.shorter c.in_ok-minus.ensures.shorter
+
+pub sum-returns-clause-shorter : goal.sum-returns-clause-shorter
+sum-returns-clause-shorter t c = at_most_left c.monomials.result c.in_ok-first.ensures.shorter c.monomials.ensures.shorter
+
+pub head-returns-in_ok-first-clause-shorter : goal.head-returns-in_ok-first-clause-shorter
+head-returns-in_ok-first-clause-shorter t c = c.in_ok-first.ensures.shorter

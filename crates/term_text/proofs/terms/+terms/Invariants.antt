@@ -52,11 +52,8 @@ decreases-sum l = 8 * length l.bytes.now + 5
 abbrev pub decreases-polynomial : goal.decreases-polynomial
 decreases-polynomial l = 8 * length l.bytes.now + 6
 
-abbrev pub decreases-quotient : goal.decreases-quotient
-decreases-quotient l = 8 * length l.bytes.now + 7
-
-abbrev pub decreases-remainder : goal.decreases-remainder
-decreases-remainder l = 8 * length l.bytes.now + 7
+abbrev pub decreases-division : goal.decreases-division
+decreases-division l = 8 * length l.bytes.now + 7
 
 abbrev pub invariant-atoms-loop-after : goal.invariant-atoms-loop-after
 invariant-atoms-loop-after l =
