@@ -9,3 +9,4 @@ pub mod KeptParts
 pub mod OrderedValues
 mod Files
 mod Digits
+mod Members

@@ -38,9 +38,9 @@ pub fn empty_object(alloc: Global) -> ShortObject
     }
 }
 
-// Puts a member in, over the value of its name where there is one.
+// Puts a member in, over the value of its name where there is one, with a key of its own.
 #[inline(always)]
-fn put_member(
+fn insert_member(
     alloc: Global,
     found: &mut Map<String, Value>,
     name: &str,
@@ -51,6 +51,38 @@ fn put_member(
     let key = String::from_str(alloc, name)?;
     drop(found.insert(key, member)?);
     Ok(())
+}
+
+// Whether a name comes behind all that are there, as most do in a file whose names ascend.
+#[inline(always)]
+fn is_last(found: &Map<String, Value>, name: &str) -> bool {
+    match found.last_key_value() {
+        Some((last, _)) => name.cmp(last.as_str()) == Ordering::Greater,
+        None => true,
+    }
+}
+
+// Puts a member in, over the value of its name where there is one: a name that may be there is looked for, so that no key is
+// made for it again.
+#[inline(always)]
+fn put_member(
+    alloc: Global,
+    found: &mut Map<String, Value>,
+    name: &str,
+    member: Value,
+) -> Result<(), AllocError>
+    ensures { OnOk result (members_view found.new.entries ≡ put name.now (view member) (members_view found.old.entries)) }
+{
+    if is_last(found, name) {
+        return insert_member(alloc, found, name, member);
+    }
+    match found.get_mut(name) {
+        Some(place) => {
+            *place = member;
+            Ok(())
+        }
+        None => insert_member(alloc, found, name, member),
+    }
 }
 
 // Whether a name comes behind as many as are kept.
