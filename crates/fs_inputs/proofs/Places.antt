@@ -7,11 +7,11 @@ use Rattle.std.proofs.lemmas.Slice.Eq.{bytes_eq-Decides}
 use Rattle.std.proofs.lemmas.List.{length-map}
 use Rattle.serde_json.specs.Data.{Data}
 use Rattle.fs_model.specs.declared.parts.Sort.{Sort}
-use Rattle.fs_runs.specs.declared.values.Value.{Value}
-use Rattle.fs_runs.specs.declared.inputs.Input.{Input}
-use Rattle.fs_runs.specs.declared.inputs.Inputs.{Inputs as Held}
-use Rattle.fs_runs.specs.Values.{value_number, entry_in}
-use Rattle.fs_runs.specs.InputValues.{Signature, signature, value_named, input_values, signatures_of, sort_named, inputs_of}
+use Rattle.fs_stores.specs.declared.values.Value.{Value}
+use Rattle.fs_stores.specs.declared.inputs.Input.{Input}
+use Rattle.fs_stores.specs.declared.inputs.Inputs.{Inputs as Held}
+use Rattle.fs_stores.specs.Values.{value_number, entry_in}
+use Rattle.fs_stores.specs.InputValues.{Signature, signature, value_named, input_values, signatures_of, sort_named, inputs_of}
 use Rattle.fs_inputs.specs.InputMembers.{input_number_or_zero, element_at}
 use Rattle.fs_inputs.specs.Steps.{input_place, IsGivenAt, GivesMember}
 

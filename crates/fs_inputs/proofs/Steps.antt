@@ -5,10 +5,10 @@ use Rattle.std.specs.Str.{bytes_eq}
 use Rattle.std.specs.Ordering.{int_eq}
 use Rattle.fs_model.proofs.Booleans.{and_three}
 use Rattle.serde_json.specs.Data.{Data, Members, no_members, member}
-use Rattle.fs_runs.specs.declared.values.Entries.{Entries}
-use Rattle.fs_runs.specs.Values.{entry_number}
+use Rattle.fs_stores.specs.declared.values.Entries.{Entries}
+use Rattle.fs_stores.specs.Values.{entry_number}
 use Rattle.fs_model.specs.Runs.{Inputs}
-use Rattle.fs_runs.specs.InputValues.{Signature, sort_named, all_zero}
+use Rattle.fs_stores.specs.InputValues.{Signature, sort_named, all_zero}
 use Rattle.fs_inputs.specs.declared.numbers.Reading.TheVariants.{Number}
 use Rattle.fs_inputs.specs.Numbers.{number_in, number_reading}
 use Rattle.fs_inputs.specs.InputMembers.{whole_number_of, input_number_or_zero, element_at, last_member_value, spells, are_numbers, all_fit, fits_if_any}

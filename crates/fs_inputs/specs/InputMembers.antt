@@ -8,7 +8,7 @@ use Rattle.serde_json.specs.Find.{as_integer, as_number, as_str, as_object}
 use Rattle.fs_model.specs.declared.parts.Sort.{Sort}
 use Rattle.fs_model.specs.declared.parts.Sort.TheVariants.{Scalar, Array, Port}
 use Rattle.fs_model.specs.Runs.{Inputs}
-use Rattle.fs_runs.specs.InputValues.{Signature, sort_named}
+use Rattle.fs_stores.specs.InputValues.{Signature, sort_named}
 use Rattle.fs_inputs.specs.declared.faults.Fault.{Fault}
 use Rattle.fs_inputs.specs.declared.faults.Fault.TheVariants.{Shape, Unknown, TooBig}
 use Rattle.fs_inputs.specs.Numbers.{number_in, fits}

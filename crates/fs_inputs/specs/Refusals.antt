@@ -4,7 +4,7 @@ use Rattle.serde_json.specs.Data.{Data, Members}
 use Rattle.base_json_files.specs.Json.{IsJson, IsNotJson}
 use Rattle.serde_json.specs.Find.{as_object}
 use Rattle.fs_model.specs.Runs.{Inputs}
-use Rattle.fs_runs.specs.InputValues.{Signature}
+use Rattle.fs_stores.specs.InputValues.{Signature}
 use Rattle.fs_inputs.specs.declared.faults.Fault.{Fault}
 use Rattle.fs_inputs.specs.declared.faults.Fault.TheVariants as faults
 use Rattle.fs_inputs.specs.declared.faults.InputError.{InputError}

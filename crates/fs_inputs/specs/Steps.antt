@@ -3,10 +3,10 @@ use Rattle.std.specs.Prelude.{◌≡◌, ℕ, suc, Bool, true, false, cond, ℤ,
 use Rattle.std.specs.Str.{bytes_eq}
 use Rattle.serde_json.specs.Data.{Data, Members}
 use Rattle.fs_model.specs.Runs.{Inputs}
-use Rattle.fs_runs.specs.declared.values.Value.{Value}
-use Rattle.fs_runs.specs.declared.values.Entries.{Entries}
-use Rattle.fs_runs.specs.Values.{value_number as number_held, entry_in, entry_number}
-use Rattle.fs_runs.specs.InputValues.{Signature}
+use Rattle.fs_stores.specs.declared.values.Value.{Value}
+use Rattle.fs_stores.specs.declared.values.Entries.{Entries}
+use Rattle.fs_stores.specs.Values.{value_number as number_held, entry_in, entry_number}
+use Rattle.fs_stores.specs.InputValues.{Signature}
 use Rattle.fs_inputs.specs.declared.numbers.Reading.{Reading}
 use Rattle.fs_inputs.specs.declared.numbers.Reading.TheVariants.{NoNumber, TooBig, Number}
 use Rattle.fs_inputs.specs.InputMembers.{input_number_or_zero, element_at, last_member_value, spells}

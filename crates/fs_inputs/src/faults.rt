@@ -3,7 +3,7 @@
 ghost use Rattle.std.specs.Prelude.{◌≡◌};
 ghost use Rattle.fs_inputs.specs.declared.faults.InputError.TheVariants as errors;
 
-use fs_runs::memory::NoMemory;
+use fs_stores::memory::NoMemory;
 use std::alloc::AllocError;
 use thiserror::Error;
 

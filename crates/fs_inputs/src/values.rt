@@ -3,7 +3,7 @@
 ghost use Rattle.std.specs.Prelude.{◌≡◌, ◌&&◌, true, None, ℤ, IfOk, OnOk, string_bytes, is_some};
 ghost use Rattle.serde_json.specs.View.{view, members_view, number_view};
 ghost use Rattle.serde_json.specs.Find.{as_integer, as_object};
-ghost use Rattle.fs_runs.specs.Values.{entry_number, sort_of};
+ghost use Rattle.fs_stores.specs.Values.{entry_number, sort_of};
 ghost use Rattle.fs_model.specs.declared.parts.Sort.TheVariants.{Array};
 ghost use Rattle.fs_inputs.specs.Numbers.{number_in, number_reading};
 ghost use Rattle.fs_inputs.specs.InputMembers.{whole_number_of, are_numbers, fits_if_any, all_fit, input_value_fault};
@@ -13,8 +13,8 @@ ghost use Rattle.fs_inputs.specs.Steps.{HoldsValue, PutsEntry, reads_number};
 use crate::faults::Fault;
 use crate::numbers::{Reading, read_number};
 use fs_model::parts::Sort;
-use fs_runs::memory::NoMemory;
-use fs_runs::values::{Entries, Value as Held};
+use fs_stores::memory::NoMemory;
+use fs_stores::values::{Entries, Value as Held};
 use serde_json::{Map, Number, Value};
 use std::alloc::Global;
 

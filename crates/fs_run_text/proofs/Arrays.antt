@@ -6,7 +6,7 @@ use Rattle.std.specs.Ordering.{int_eq}
 use Rattle.std.specs.Cmp.Lexicographic.{pointwise}
 use Rattle.std.proofs.lemmas.Slice.Eq.{slice_eq-Decides}
 use Rattle.std.proofs.lemmas.Bool.Decides.{Decides-int_eq, Decides-and, Decides-like}
-use Rattle.fs_runs.specs.EntryLists.{Entry, listed_number, IsListing}
+use Rattle.fs_stores.specs.EntryLists.{Entry, listed_number, IsListing}
 use Rattle.fs_run_text.proofs.Listed.{listing_once, same_entry}
 
 abbrev pub same_pair : Entry → Entry → Bool

@@ -14,8 +14,8 @@ use Rattle.fs_model.specs.declared.parts.Role.TheVariants.{Input, Output, Local}
 use Rattle.fs_model.specs.declared.parts.VarInfo.{VarInfo}
 use Rattle.fs_model.specs.Machines.{Fsmd}
 use Rattle.fs_model.specs.Runs.{Content, is_output}
-use Rattle.fs_runs.specs.declared.values.Value.{Value}
-use Rattle.fs_runs.specs.Values.{content_of}
+use Rattle.fs_stores.specs.declared.values.Value.{Value}
+use Rattle.fs_stores.specs.Values.{content_of}
 use Rattle.fs_runs.specs.Outcomes.{Outputs, output_names, outputs_by_name, told_by, HoldsEach}
 use Rattle.fs_pair.specs.Interfaces.{is_interface, same_role, same_sort, variable_named, is_like, lacks_match, first_unmatched, interface_fault}
 use Rattle.fs_run_text.specs.ItemTexts.{SameOutputs, AgreeOnNames}

@@ -12,8 +12,8 @@ use Rattle.std.proofs.lemmas.Map.Keys.{sorted_head, sorted_tail}
 use Rattle.std.proofs.lemmas.Map.Entries.{lookup_head, lookup_tail, none_below_head}
 use Rattle.std.proofs.lemmas.Map.Lookups.{exact_signed}
 use Rattle.std.proofs.lemmas.Bool.Decides.{Decides-int_eq}
-use Rattle.fs_runs.specs.EntryLists.{Entry, listed_number, IsListing}
-use Rattle.fs_runs.proofs.Listings.{none_away, away_behind}
+use Rattle.fs_stores.specs.EntryLists.{Entry, listed_number, IsListing}
+use Rattle.fs_stores.proofs.Listings.{none_away, away_behind}
 
 abbrev pub Rising : List Entry → Type 0
 Rising es = IsStrictlySortedBy int_cmp (keys_of es)

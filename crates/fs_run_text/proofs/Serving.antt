@@ -12,7 +12,7 @@ use Rattle.fs_model.specs.declared.parts.VarInfo.{VarInfo}
 use Rattle.fs_model.specs.Runs.{is_input}
 use Rattle.fs_pair.specs.Interfaces.{is_interface, same_role, same_sort, variable_named, is_like, lacks_match, first_unmatched}
 use Rattle.fs_pair.proofs.Tests.{same_sort_is}
-use Rattle.fs_runs.specs.InputValues.{input_signatures, sort_named}
+use Rattle.fs_stores.specs.InputValues.{input_signatures, sort_named}
 use Rattle.fs_run_text.specs.PrintingLaws.{InputsServeBoth}
 
 -- each variable has its match

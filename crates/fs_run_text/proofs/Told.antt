@@ -7,9 +7,9 @@ use Rattle.std.specs.Prelude.{Result, Ok, Err, IfOk, Some, map, slice_get}
 use Rattle.fs_model.proofs.Lists.{drop_next}
 use Rattle.fs_model.specs.declared.parts.VarInfo.{VarInfo}
 use Rattle.fs_model.specs.Runs.{Content, is_input}
-use Rattle.fs_runs.specs.declared.inputs.Inputs.{Inputs as InputValues}
-use Rattle.fs_runs.specs.Values.{content_of}
-use Rattle.fs_runs.specs.InputValues.{input_values, signatures_of, input_signatures}
+use Rattle.fs_stores.specs.declared.inputs.Inputs.{Inputs as InputValues}
+use Rattle.fs_stores.specs.Values.{content_of}
+use Rattle.fs_stores.specs.InputValues.{input_values, signatures_of, input_signatures}
 use Rattle.fs_runs.specs.Outcomes.{Outputs}
 use Rattle.fs_run_text.specs.ItemTexts.{AreItems, IsGiven, AreGiven, input_names}
 use Rattle.fs_run_text.specs.EndTexts.{IsCounterexampleText, counterexample_text}

@@ -3,7 +3,7 @@ use Rattle.std.specs.Prelude.{◌≡◌, ℕ, ℤ, List, [], ◌∷◌, ◌++◌
 use Rattle.std.specs.List.{flat_map}
 use Rattle.std.specs.Fmt.{signed_decimal}
 use Rattle.fs_model.specs.Runs.{Content, Number, Entries, Emitted}
-use Rattle.fs_runs.specs.EntryLists.{Entry, IsListing}
+use Rattle.fs_stores.specs.EntryLists.{Entry, IsListing}
 
 -- texts, joined by a comma and a space
 abbrev pub join_texts : List (List ℕ) → List ℕ

@@ -3,7 +3,7 @@ use Rattle.std.specs.Prelude.{◌≡◌, ℕ, List, [], ◌∷◌, ◌++◌, map
 use Rattle.std.specs.List.{AllByRecursion, AllZip}
 use Rattle.fs_model.specs.Runs.{Content}
 use Rattle.fs_model.specs.declared.parts.VarInfo.{VarInfo}
-use Rattle.fs_runs.specs.InputValues.{Signature, input_signatures}
+use Rattle.fs_stores.specs.InputValues.{Signature, input_signatures}
 use Rattle.fs_runs.specs.Outcomes.{Outputs}
 use Rattle.fs_run_text.specs.ContentTexts.{PrintsAs}
 

@@ -3,7 +3,7 @@ use Rattle.std.specs.Prelude.{◌≡◌, ℕ, List, None}
 use Rattle.fs_model.specs.Machines.{Fsmd}
 use Rattle.fs_model.specs.Runs.{Inputs, Content}
 use Rattle.fs_runs.specs.declared.run.RunStop.{RunStop}
-use Rattle.fs_runs.specs.InputValues.{Signature, input_signatures, Serves}
+use Rattle.fs_stores.specs.InputValues.{Signature, input_signatures, Serves}
 use Rattle.fs_pair.specs.Interfaces.{interface_fault}
 use Rattle.fs_run_text.specs.declared.ends.Side.{Side}
 use Rattle.fs_run_text.specs.ContentTexts.{PrintsAs}

@@ -2,8 +2,8 @@
 
 ghost use Rattle.std.specs.Prelude.{◌≡◌, None, map, IfOk};
 ghost use Rattle.fs_pair.specs.Interfaces.{interface_fault};
-ghost use Rattle.fs_runs.specs.Values.{content_of};
-ghost use Rattle.fs_runs.specs.InputValues.{input_values, signatures_of, input_signatures};
+ghost use Rattle.fs_stores.specs.Values.{content_of};
+ghost use Rattle.fs_stores.specs.InputValues.{input_values, signatures_of, input_signatures};
 ghost use Rattle.fs_runs.specs.Outcomes.{output_names, told_by, HoldsEach};
 ghost use Rattle.fs_run_text.specs.ItemTexts.{input_names};
 ghost use Rattle.fs_run_text.specs.EndTexts.{IsCounterexampleText, counterexample_text};
@@ -14,8 +14,8 @@ use crate::memory::NoMemory;
 use crate::replay::append_side;
 use crate::shown::append;
 use fs_ast::machine::Machine;
-use fs_runs::inputs::Inputs;
 use fs_runs::run::Ended;
+use fs_stores::inputs::Inputs;
 use std::alloc::Global;
 
 /// The text of inputs from which runs of two machines with the same inputs and outputs ended: `counterexample`, a line

@@ -2,8 +2,8 @@
 
 ghost use Rattle.std.specs.Prelude.{◌≡◌, ℕ, List, [], ◌∷◌, map, option_map, IfOk};
 ghost use Rattle.std.specs.Result.{OnOk};
-ghost use Rattle.fs_runs.specs.Values.{content_of};
-ghost use Rattle.fs_runs.specs.InputValues.{input_values, signatures_of, input_signatures};
+ghost use Rattle.fs_stores.specs.Values.{content_of};
+ghost use Rattle.fs_stores.specs.InputValues.{input_values, signatures_of, input_signatures};
 ghost use Rattle.fs_runs.specs.Outcomes.{output_names, told_by, HoldsEach};
 ghost use Rattle.fs_run_text.specs.ContentTexts.{PrintsAs};
 ghost use Rattle.fs_run_text.specs.ItemTexts.{AreGiven, AreItems, AddsItems, input_names, item_text};
@@ -13,8 +13,8 @@ use crate::shown::{append, push, value_text};
 use fs_ast::machine::Machine;
 use fs_model::name::Name;
 use fs_model::parts::VarInfo;
-use fs_runs::inputs::Inputs;
-use fs_runs::values::Value;
+use fs_stores::inputs::Inputs;
+use fs_stores::values::Value;
 use std::alloc::Global;
 
 // What the output of a name holds, of values in order of the machine's outputs. Takes no memory.

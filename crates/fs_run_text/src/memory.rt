@@ -4,8 +4,8 @@
 #[derive(Clone, Copy)]
 pub struct NoMemory;
 
-impl From<fs_runs::memory::NoMemory> for NoMemory {
-    fn from(_refused: fs_runs::memory::NoMemory) -> NoMemory {
+impl From<fs_stores::memory::NoMemory> for NoMemory {
+    fn from(_refused: fs_stores::memory::NoMemory) -> NoMemory {
         NoMemory
     }
 }

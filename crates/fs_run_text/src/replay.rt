@@ -4,7 +4,7 @@ ghost use Rattle.std.specs.Prelude.{◌≡◌, ◌++◌, ◌∷◌, [], Option, 
 ghost use Rattle.std.specs.Bool.{Decides};
 ghost use Rattle.std.specs.Result.{OnOk};
 ghost use Rattle.fs_pair.specs.Interfaces.{interface_fault};
-ghost use Rattle.fs_runs.specs.Values.{content_of, entry_number, numbers_of};
+ghost use Rattle.fs_stores.specs.Values.{content_of, entry_number, numbers_of};
 ghost use Rattle.fs_runs.specs.Outcomes.{output_names, told_by, HoldsEach};
 ghost use Rattle.fs_run_text.specs.ItemTexts.{AgreeOnNames, SameOutputs};
 ghost use Rattle.fs_run_text.specs.EndTexts.{IsReplayText, replay_text, side_line, after_space, verdict_line};
@@ -14,9 +14,9 @@ use crate::memory::NoMemory;
 use crate::shown::{append, join_with_commas};
 use fs_ast::machine::Machine;
 use fs_model::parts::VarInfo;
-use fs_runs::numbers::Numbers;
 use fs_runs::run::Ended;
-use fs_runs::values::{Entries, Value};
+use fs_stores::numbers::Numbers;
+use fs_stores::values::{Entries, Value};
 use std::alloc::Global;
 
 /// What two runs that ended answered: whether the outputs are the same, and the text that says so.

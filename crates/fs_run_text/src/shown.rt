@@ -4,11 +4,11 @@ ghost use Rattle.std.specs.Prelude.{◌≡◌, ◌++◌, List, [], ◌∷◌, ma
 ghost use Rattle.std.specs.Result.{OnOk};
 ghost use Rattle.std.specs.List.{flat_map};
 ghost use Rattle.std.specs.Fmt.{signed_decimal};
-ghost use Rattle.fs_runs.specs.Values.{content_of};
+ghost use Rattle.fs_stores.specs.Values.{content_of};
 ghost use Rattle.fs_run_text.specs.ContentTexts.{join_texts, entry_text, array_text, numbers_text, PrintsAs};
 
 use crate::memory::NoMemory;
-use fs_runs::values::Value;
+use fs_stores::values::Value;
 use std::alloc::{AllocError, Global};
 
 // A number in decimal.

@@ -11,12 +11,12 @@ use Rattle.fs_model.specs.declared.parts.VarInfo.{VarInfo}
 use Rattle.fs_model.specs.Machines.{Fsmd}
 use Rattle.fs_model.specs.Stores.{Store}
 use Rattle.fs_model.specs.Runs.{Inputs, Run, Content, Number, Entries, Emitted, is_output, content, output_from, output}
-use Rattle.fs_runs.specs.declared.values.Value.{Value}
-use Rattle.fs_runs.specs.declared.values.Value.TheVariants.{Num, Arr}
-use Rattle.fs_runs.specs.declared.values.Value.TheVariants as values
-use Rattle.fs_runs.specs.Values.{value_number, entry_in, value_list, sort_of, content_of, store_from}
+use Rattle.fs_stores.specs.declared.values.Value.{Value}
+use Rattle.fs_stores.specs.declared.values.Value.TheVariants.{Num, Arr}
+use Rattle.fs_stores.specs.declared.values.Value.TheVariants as values
+use Rattle.fs_stores.specs.Values.{value_number, entry_in, value_list, sort_of, content_of, store_from}
 use Rattle.fs_runs.specs.Outcomes.{Outputs, output_names, outs_of, outputs_by_name, HoldsEach}
-use Rattle.fs_runs.proofs.Slots.{left_cons}
+use Rattle.fs_stores.proofs.Slots.{left_cons}
 
 held : (vs : List Value) (j : ℕ) (w : Value) → slice_get vs j ≡ Some w → content (sort_of w) j (store_from vs) ≡ content_of w
 held vs j (Num n) e = ap (λ o. Number (value_number o)) e

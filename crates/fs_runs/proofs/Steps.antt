@@ -19,17 +19,17 @@ use Rattle.fs_model.specs.Touched.{touched_by_step, touched_by_assignment, touch
 use Rattle.fs_model.specs.Trees.{Branch, branches_of}
 use Rattle.fs_ast.specs.OpenBranches.{TakesOneBranch}
 use Rattle.fs_ast.proofs.Opens.{takes_one}
-use Rattle.fs_runs.specs.declared.values.Value.{Value}
-use Rattle.fs_runs.specs.declared.values.Value.TheVariants.{Num, Arr}
-use Rattle.fs_runs.specs.declared.values.Value.TheVariants as values
-use Rattle.fs_runs.specs.declared.step.StepStop.{StepStop}
-use Rattle.fs_runs.specs.declared.step.StepStop.TheVariants.{PastWide, NoMemory}
-use Rattle.fs_runs.specs.Values.{sort_of, HasSorts}
-use Rattle.fs_runs.specs.Outcomes.{PastOnly}
-use Rattle.fs_runs.specs.Reads.{touched_by_branches, taken_branch, Both}
+use Rattle.fs_stores.specs.declared.values.Value.{Value}
+use Rattle.fs_stores.specs.declared.values.Value.TheVariants.{Num, Arr}
+use Rattle.fs_stores.specs.declared.values.Value.TheVariants as values
+use Rattle.fs_stores.specs.declared.changes.StepStop.{StepStop}
+use Rattle.fs_stores.specs.declared.changes.StepStop.TheVariants.{PastWide, NoMemory}
+use Rattle.fs_stores.specs.Values.{sort_of, HasSorts}
+use Rattle.fs_stores.specs.Changes.{PastOnly}
+use Rattle.fs_stores.specs.Reads.{touched_by_branches, taken_branch, Both}
 use Rattle.fs_runs.specs.StepLaws.{BranchInRange, TouchedByBranches}
-use Rattle.fs_runs.specs.Changes.{change_by, AssignmentFits, AssignmentsFit, changed_all, is_number_value, is_array_value, is_list, suits, AllSuit}
-use Rattle.fs_runs.proofs.Ways.{both_parts, front_part, back_part, fits_touched, touched_fits, first_taken, touched_taken}
+use Rattle.fs_stores.specs.Changes.{change_by, AssignmentFits, AssignmentsFit, changed_all, is_number_value, is_array_value, is_list, suits, AllSuit}
+use Rattle.fs_stores.proofs.Ways.{both_parts, front_part, back_part, fits_touched, touched_fits, first_taken, touched_taken}
 
 -- the changes of assignments leave what the assignments leave
 pub changed_done : (acts : List (Assignment ℕ)) (before s : Store) → changed_all s (map (change_by before) acts) ≡ act_all acts before s

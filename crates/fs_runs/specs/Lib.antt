@@ -1,7 +1,2 @@
-pub mod Values
-pub mod Reads
-pub mod Changes
-pub mod InputValues
 pub mod Outcomes
-pub mod EntryLists
 pub mod StepLaws

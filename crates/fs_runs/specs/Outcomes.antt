@@ -7,17 +7,10 @@ use Rattle.fs_model.specs.Machines.{Fsmd}
 use Rattle.fs_model.specs.Stores.{Store}
 use Rattle.fs_model.specs.Runs.{Inputs, Content, FirstReturn, Run, start, is_output}
 use Rattle.fs_model.specs.Touched.{StaysInRange}
-use Rattle.fs_runs.specs.declared.step.StepStop.{StepStop}
-use Rattle.fs_runs.specs.declared.step.StepStop.TheVariants.{PastWide, NoMemory}
 use Rattle.fs_runs.specs.declared.run.RunStop.{RunStop}
 use Rattle.fs_runs.specs.declared.run.RunStop.TheVariants as stops
-use Rattle.fs_runs.specs.declared.values.Value.{Value}
-use Rattle.fs_runs.specs.Values.{content_of}
-
--- a stop at a number outside 128 bits comes only where P; out of memory may come at any time
-abbrev pub PastOnly : StepStop → Type 0 → Type 0
-PastOnly PastWide P = P
-PastOnly NoMemory P = Unit {0}
+use Rattle.fs_stores.specs.declared.values.Value.{Value}
+use Rattle.fs_stores.specs.Values.{content_of}
 
 -- what each output name holds
 abbrev pub Outputs : Type 0

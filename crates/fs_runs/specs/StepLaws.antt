@@ -7,7 +7,7 @@ use Rattle.fs_model.specs.Runs.{Inputs}
 use Rattle.fs_model.specs.Touched.{touched_by_step, touched_by_assignments, AllInRange}
 use Rattle.fs_model.specs.Trees.{Branch, branches_of}
 use Rattle.fs_runs.specs.declared.run.RunStop.{RunStop}
-use Rattle.fs_runs.specs.Reads.{touched_by_branches, taken_branch, Both}
+use Rattle.fs_stores.specs.Reads.{touched_by_branches, taken_branch, Both}
 use Rattle.fs_runs.specs.Outcomes.{Outputs, EndsWith, IsStopped, IsStopOfRun}
 
 -- the numbers looked at up to the branch that a store takes, and those of its assignments, are in range

@@ -1,20 +1,21 @@
 //! Runs: steps from the reset state up to the first return to it.
 
 ghost use Rattle.std.specs.Prelude.{◌≡◌, ◌≤◌, ◌==◌, ◌++◌, ◌∷◌, [], ℕ, List, length, map, IfOk, IfErr};
-ghost use Rattle.fs_model.specs.Runs.{Run, start, output};
+ghost use Rattle.fs_model.specs.Runs.{Run, Inputs as Given, start, output};
 ghost use Rattle.fs_model.specs.Touched.{StaysInRange};
-ghost use Rattle.fs_runs.specs.Values.{content_of, store_of, IsStoreOf};
-ghost use Rattle.fs_runs.specs.InputValues.{inputs_of, signatures_of, Serves};
+ghost use Rattle.fs_stores.specs.Values.{content_of, store_of, IsStoreOf};
+ghost use Rattle.fs_stores.specs.InputValues.{inputs_of, signatures_of, Serves};
 ghost use Rattle.fs_runs.specs.Outcomes.{output_names, outs_of, told_by, HoldsEach, IsStopped};
 ghost use Rattle.std.specs.Result.{OnOk};
 
-use crate::inputs::{Inputs, start};
-use crate::memory::NoMemory;
-use crate::step::{StepStop, step};
-use crate::store::Store;
-use crate::values::Value;
+use crate::step::step;
 use fs_ast::machine::Machine;
 use fs_model::parts::{StateId, VarInfo};
+use fs_stores::changes::StepStop;
+use fs_stores::inputs::{Inputs, start};
+use fs_stores::memory::NoMemory;
+use fs_stores::store::Store;
+use fs_stores::values::Value;
 use std::alloc::Global;
 
 /// How a run ended: what the outputs hold, in order of declaration, and after how many steps.
@@ -53,15 +54,31 @@ pub fn run(alloc: Global, m: &Machine, inputs: &Inputs, limit: u64) -> Result<En
         Ok(store) => store,
         Err(_) => return Err(RunStop::NoMemory),
     };
+    run_from(alloc, m, &mut store, limit)
+}
+
+// Runs a machine from a store in which it starts.
+fn run_from(alloc: Global, m: &Machine, store: &mut Store, limit: u64) -> Result<Ended, RunStop>
+    requires limit { 1 ≤ limit }
+    requires store { IsStoreOf m.now store.old }
+    ensures ended { (ins : Given) → store_of store.old ≡ start m.now ins
+        → IfOk result (λ e. Run m.now ins (told_by m.now e.outputs.items) e.steps) }
+    ensures count { IfOk result (λ e. length e.outputs.items ≡ length (output_names m.now.variables)) }
+    ensures holds { IfOk result (λ e. HoldsEach (told_by m.now e.outputs.items) (output_names m.now.variables)) }
+    ensures within { IfOk result (λ e. e.steps ≤ limit) }
+    ensures in_range { (ins : Given) → store_of store.old ≡ start m.now ins
+        → IfOk result (λ e. StaysInRange m.now e.steps m.now.reset (start m.now ins)) }
+    ensures stopped { (ins : Given) → store_of store.old ≡ start m.now ins → IfErr result (λ e. IsStopped m.now ins limit e) }
+{
     let mut at = m.reset();
     for done in 0..limit {
-        match step(alloc, m, &mut store, at) {
+        match step(alloc, m, store, at) {
             Ok(next) => at = next,
             Err(StepStop::PastWide) => return Err(RunStop::PastWide { step: done + 1 }),
             Err(StepStop::NoMemory) => return Err(RunStop::NoMemory),
         }
         if is_reset(m, at) {
-            return end_after(alloc, m, &store, done + 1);
+            return end_after(alloc, m, store, done + 1);
         }
     }
     Err(RunStop::StepsOver { limit })

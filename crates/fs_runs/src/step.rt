@@ -4,23 +4,15 @@ ghost use Rattle.std.specs.Prelude.{◌≡◌, ◌<◌, length, IfOk, IfErr};
 ghost use Rattle.std.specs.Result.{OnOk, OnErr};
 ghost use Rattle.fs_model.specs.Runs.{Step};
 ghost use Rattle.fs_model.specs.Touched.{touched_by_step, AllInRange};
-ghost use Rattle.fs_runs.specs.Values.{store_of, IsStoreOf};
-ghost use Rattle.fs_runs.specs.Outcomes.{PastOnly};
+ghost use Rattle.fs_stores.specs.Values.{store_of, IsStoreOf};
+ghost use Rattle.fs_stores.specs.Changes.{PastOnly};
 
-use crate::branches::taken_branch;
-use crate::changes::{change_all, changes_of};
-use crate::store::Store;
 use fs_ast::machine::Machine;
 use fs_model::parts::StateId;
+use fs_stores::branches::taken_branch;
+use fs_stores::changes::{StepStop, change_all, changes_of};
+use fs_stores::store::Store;
 use std::alloc::Global;
-
-/// Why a step is not taken.
-#[derive(Clone, Copy)]
-pub enum StepStop {
-    /// A number that the step touches lies outside 128 bits.
-    PastWide,
-    NoMemory,
-}
 
 /// Takes the step from a state, and answers the state to which it leads.
 ///

@@ -14,12 +14,12 @@ use Rattle.fs_model.proofs.Options.{none_from_map}
 use Rattle.fs_model.specs.declared.parts.Sort.{Sort}
 use Rattle.fs_model.specs.declared.parts.VarInfo.{VarInfo}
 use Rattle.fs_model.specs.Runs.{Content, Entries, is_input}
-use Rattle.fs_runs.specs.declared.values.Value.{Value}
-use Rattle.fs_runs.specs.declared.values.Value.TheVariants as values
-use Rattle.fs_runs.specs.declared.inputs.Input.{Input}
-use Rattle.fs_runs.specs.declared.inputs.Inputs.{Inputs as InputValues}
-use Rattle.fs_runs.specs.Values.{content_of, value_number, entry_in}
-use Rattle.fs_runs.specs.InputValues.{Signature, input_signatures, signature, value_named, input_values, inputs_of, signatures_of}
+use Rattle.fs_stores.specs.declared.values.Value.{Value}
+use Rattle.fs_stores.specs.declared.values.Value.TheVariants as values
+use Rattle.fs_stores.specs.declared.inputs.Input.{Input}
+use Rattle.fs_stores.specs.declared.inputs.Inputs.{Inputs as InputValues}
+use Rattle.fs_stores.specs.Values.{content_of, value_number, entry_in}
+use Rattle.fs_stores.specs.InputValues.{Signature, input_signatures, signature, value_named, input_values, inputs_of, signatures_of}
 use Rattle.fs_runs.specs.Outcomes.{outputs_by_name}
 use Rattle.fs_trials.specs.Candidates.{Candidate, content_at, array_of, contents, number_told, array_told, inputs_told}
 

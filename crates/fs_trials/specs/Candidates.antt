@@ -6,7 +6,7 @@ use Rattle.fs_model.specs.declared.parts.Sort.{Sort}
 use Rattle.fs_model.specs.declared.parts.Sort.TheVariants.{Scalar, Array, Port}
 use Rattle.fs_model.specs.Machines.{Fsmd}
 use Rattle.fs_model.specs.Runs.{Inputs, Content, Number, Entries, Emitted}
-use Rattle.fs_runs.specs.InputValues.{Signature, input_signatures}
+use Rattle.fs_stores.specs.InputValues.{Signature, input_signatures}
 use Rattle.fs_runs.specs.Outcomes.{outputs_by_name}
 use Rattle.fs_trials.specs.Pool.{pool_of, further_values}
 

@@ -1,8 +1,8 @@
 //! Candidate inputs of two machines.
 
 ghost use Rattle.std.specs.Prelude.{◌≡◌, ◌<◌, ◌≤◌, ℤ, length, map, IfOk};
-ghost use Rattle.fs_runs.specs.Values.{entry_number, content_of, sort_of};
-ghost use Rattle.fs_runs.specs.InputValues.{input_values, inputs_of, signatures_of, input_signatures, Serves};
+ghost use Rattle.fs_stores.specs.Values.{entry_number, content_of, sort_of};
+ghost use Rattle.fs_stores.specs.InputValues.{input_values, inputs_of, signatures_of, input_signatures, Serves};
 ghost use Rattle.fs_trials.specs.Pool.{most_values, pool_of, further_values};
 ghost use Rattle.fs_trials.specs.Candidates.{pool_count, candidate_count, pool_candidate, further_place, further_candidate};
 ghost use Rattle.fs_trials.specs.Candidates.{candidate, candidate_array, content_at, candidate_contents, candidate_inputs};
@@ -10,10 +10,10 @@ ghost use Rattle.fs_trials.specs.Candidates.{candidate, candidate_array, content
 use crate::pool::{further_values, pool};
 use fs_ast::machine::Machine;
 use fs_model::parts::Sort;
-use fs_runs::inputs::Inputs;
-use fs_runs::memory::NoMemory;
-use fs_runs::numbers::Numbers;
-use fs_runs::values::{Entries, Value};
+use fs_stores::inputs::Inputs;
+use fs_stores::memory::NoMemory;
+use fs_stores::numbers::Numbers;
+use fs_stores::values::{Entries, Value};
 use std::alloc::Global;
 
 /// How many indices of an array, from 0 on, a candidate of the pool gives a number.

@@ -2,8 +2,8 @@
 
 ghost use Rattle.std.specs.Prelude.{◌≡◌, ◌≤◌, ◌<◌, ℕ, IfOk, MatchOption, IfSome, None, map};
 ghost use Rattle.fs_pair.specs.Interfaces.{interface_fault};
-ghost use Rattle.fs_runs.specs.Values.{content_of};
-ghost use Rattle.fs_runs.specs.InputValues.{input_values, inputs_of, signatures_of, input_signatures, Serves};
+ghost use Rattle.fs_stores.specs.Values.{content_of};
+ghost use Rattle.fs_stores.specs.InputValues.{input_values, inputs_of, signatures_of, input_signatures, Serves};
 ghost use Rattle.fs_trials.specs.Candidates.{stated_count, stated_contents, stated_inputs};
 ghost use Rattle.fs_trials.specs.Differences.{ShowsDifference, DiffersAt, IsEnd, HasNoEnd, AreApart};
 
@@ -11,9 +11,9 @@ use crate::candidates::Candidates;
 use fs_ast::machine::Machine;
 use fs_pair::positions::Pairing;
 use fs_run_text::replay::same_outputs;
-use fs_runs::inputs::Inputs;
-use fs_runs::memory::NoMemory;
 use fs_runs::run::{Ended, RunStop, run};
+use fs_stores::inputs::Inputs;
+use fs_stores::memory::NoMemory;
 use std::alloc::Global;
 
 /// A stated candidate that shows a difference: its number, its inputs, and how the run of each machine ended.

@@ -9,7 +9,7 @@ ghost use Rattle.fs_trials.specs.Pool.{most_values, is_pool_number, first_values
 ghost use Rattle.fs_trials.specs.Pool.{most_further_values, fixed_values, further_values, is_in_pool, with_pool_number};
 
 use fs_ast::machine::Machine;
-use fs_runs::memory::NoMemory;
+use fs_stores::memory::NoMemory;
 use std::alloc::Global;
 
 /// The most numbers of a pool.

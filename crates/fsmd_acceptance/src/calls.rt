@@ -1,14 +1,14 @@
 //! Public calls that the program does not make: what an input and a variable hold.
 
 ghost use Rattle.std.specs.Prelude.{◌<◌, length};
-ghost use Rattle.fs_runs.specs.Values.{values_of};
+ghost use Rattle.fs_stores.specs.Values.{values_of};
 
 use fs_ast::machine::Machine;
 use fs_model::parts::VarId;
-use fs_runs::inputs::{Inputs, start};
-use fs_runs::store::Store;
-use fs_runs::values::Value;
 use fs_sample_machines::reading::machine;
+use fs_stores::inputs::{Inputs, start};
+use fs_stores::store::Store;
+use fs_stores::values::Value;
 use std::alloc::Global;
 
 const TEXT: &str = "fsmd 1; input a; output y; reset s; state s: goto s: y = a;";

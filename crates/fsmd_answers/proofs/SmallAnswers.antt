@@ -2,9 +2,9 @@
 use Rattle.std.proofs.Common.{◌≡◌, ℕ, List, refl, sym, subst}
 use Rattle.std.specs.Prelude.{Option, Some, IfSome}
 use Rattle.fs_model.specs.Machines.{Fsmd}
-use Rattle.fs_runs.specs.declared.inputs.Inputs.{Inputs as InputValues}
+use Rattle.fs_stores.specs.declared.inputs.Inputs.{Inputs as InputValues}
 use Rattle.fs_runs.specs.declared.run.Ended.{Ended}
-use Rattle.fs_runs.specs.InputValues.{inputs_of, signatures_of, input_signatures}
+use Rattle.fs_stores.specs.InputValues.{inputs_of, signatures_of, input_signatures}
 use Rattle.fs_runs.specs.Outcomes.{output_names, told_by}
 use Rattle.fs_model.specs.Runs.{Inputs}
 use Rattle.fs_run_text.specs.ItemTexts.{input_names}

@@ -3,7 +3,7 @@ use Rattle.std.specs.Prelude.{◌≡◌, ℕ, ◌≤◌, List, length}
 use Rattle.fs_model.specs.Limits.{most_text_bytes}
 use Rattle.fs_model.specs.Machines.{Fsmd}
 use Rattle.fs_model.specs.Runs.{Inputs}
-use Rattle.fs_runs.specs.InputValues.{Signature, input_signatures}
+use Rattle.fs_stores.specs.InputValues.{Signature, input_signatures}
 use Rattle.fs_inputs.specs.declared.faults.Fault.{Fault}
 use Rattle.fs_inputs.specs.declared.faults.Fault.TheVariants as faults
 use Rattle.fs_inputs.specs.Refusals.{HasFaultyInput, SpellsInputFile}

@@ -2,7 +2,7 @@
 
 ghost use Rattle.std.specs.Prelude.{◌≡◌, ◌≤◌, cond, None, IfOk};
 ghost use Rattle.fs_pair.specs.Interfaces.{interface_fault};
-ghost use Rattle.fs_runs.specs.InputValues.{inputs_of, signatures_of, Serves};
+ghost use Rattle.fs_stores.specs.InputValues.{inputs_of, signatures_of, Serves};
 ghost use Rattle.fsmd_answers.specs.RunAnswers.{IsOfStop, IsOfRun};
 ghost use Rattle.fsmd_answers.specs.Replays.{IsOfReplay};
 ghost use Rattle.fsmd_replies.specs.declared.answer.Answer.TheVariants.{Text, Differs};
@@ -10,8 +10,8 @@ ghost use Rattle.fsmd_replies.specs.declared.answer.Answer.TheVariants.{Text, Di
 use fs_ast::machine::Machine;
 use fs_run_text::ends::{Side, end_text, stop_text};
 use fs_run_text::replay::{Replay, replay_text};
-use fs_runs::inputs::Inputs;
 use fs_runs::run::{RunStop, run};
+use fs_stores::inputs::Inputs;
 use fsmd_replies::answer::{Answer, Lines};
 use std::alloc::{AllocError, Global};
 

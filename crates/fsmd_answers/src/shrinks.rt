@@ -2,7 +2,7 @@
 
 ghost use Rattle.std.specs.Prelude.{◌≡◌, ◌≤◌, None, IfOk, IsTrue};
 ghost use Rattle.fs_pair.specs.Interfaces.{interface_fault};
-ghost use Rattle.fs_runs.specs.InputValues.{inputs_of, signatures_of, Serves};
+ghost use Rattle.fs_stores.specs.InputValues.{inputs_of, signatures_of, Serves};
 ghost use Rattle.fs_trials.specs.Differences.{ShowsDifference};
 ghost use Rattle.hls_shrink.specs.Given.{has_no_input_port};
 ghost use Rattle.fsmd_answers.specs.InputFiles.{signatures};
@@ -12,7 +12,7 @@ use crate::runs::replay_machines;
 use fs_ast::machine::Machine;
 use fs_pair::positions::Pairing;
 use fs_run_text::counterexample::counterexample_text;
-use fs_runs::inputs::Inputs;
+use fs_stores::inputs::Inputs;
 use fs_trials::differences::differing_ends;
 use fsmd_replies::answer::{Answer, Lines};
 use hls_shrink::laws::inputs_are_given_by_name;

@@ -2,8 +2,8 @@
 
 ghost use Rattle.std.specs.Prelude.{◌≡◌, ◌≤◌, None, map, IfOk, MatchOption};
 ghost use Rattle.fs_pair.specs.Interfaces.{interface_fault};
-ghost use Rattle.fs_runs.specs.Values.{content_of};
-ghost use Rattle.fs_runs.specs.InputValues.{input_values, signatures_of, input_signatures};
+ghost use Rattle.fs_stores.specs.Values.{content_of};
+ghost use Rattle.fs_stores.specs.InputValues.{input_values, signatures_of, input_signatures};
 ghost use Rattle.fs_runs.specs.Outcomes.{output_names, told_by, HoldsEach};
 ghost use Rattle.fs_run_text.specs.ItemTexts.{input_names};
 ghost use Rattle.fs_run_text.specs.EndTexts.{IsCounterexampleText};

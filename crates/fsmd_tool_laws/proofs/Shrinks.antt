@@ -2,7 +2,7 @@
 use Rattle.std.proofs.Common.{◌≡◌, ℕ, List, sym, ◌∙◌, ap, subst}
 use Rattle.fs_model.specs.Machines.{Fsmd}
 use Rattle.fs_model.specs.Runs.{Inputs, Content}
-use Rattle.fs_runs.specs.InputValues.{input_signatures}
+use Rattle.fs_stores.specs.InputValues.{input_signatures}
 use Rattle.fs_runs.specs.Outcomes.{Outputs, output_names}
 use Rattle.fs_run_text.specs.ItemTexts.{input_names}
 use Rattle.fs_run_text.specs.EndTexts.{IsCounterexampleText}

@@ -18,11 +18,11 @@ use Rattle.fs_model.specs.declared.parts.VarInfo.{VarInfo}
 use Rattle.fs_model.specs.Runs.{Content, is_input, is_output, is_port}
 use Rattle.fs_model.specs.Source.{Declaration}
 use Rattle.fs_model.specs.WellFormed.{is_well_formed_declaration, is_well_formed_state}
-use Rattle.fs_runs.specs.declared.inputs.Input.{Input}
-use Rattle.fs_runs.specs.declared.inputs.Inputs.{Inputs}
-use Rattle.fs_runs.specs.Values.{content_of, sort_of}
-use Rattle.fs_runs.specs.InputValues.{Signature, signature, value_named, inputs_of, is_given, first_content}
-use Rattle.fs_runs.proofs.InputValues.{begins_given}
+use Rattle.fs_stores.specs.declared.inputs.Input.{Input}
+use Rattle.fs_stores.specs.declared.inputs.Inputs.{Inputs}
+use Rattle.fs_stores.specs.Values.{content_of, sort_of}
+use Rattle.fs_stores.specs.InputValues.{Signature, signature, value_named, inputs_of, is_given, first_content}
+use Rattle.fs_stores.proofs.InputValues.{begins_given}
 use Rattle.hls_shrink.specs.ReductionLaws.{GivenByName, NoInputPorts}
 
 abbrev names : List VarInfo → List (List ℕ)

@@ -10,12 +10,12 @@ use Rattle.fs_ast.specs.SoundParts.{IsSound}
 use Rattle.fs_model.specs.declared.parts.Sort.{Sort}
 use Rattle.fs_model.specs.Machines.{Fsmd}
 use Rattle.fs_model.specs.Runs.{Content}
-use Rattle.fs_runs.specs.declared.values.Value.{Value}
-use Rattle.fs_runs.specs.declared.inputs.Input.{Input}
-use Rattle.fs_runs.specs.declared.inputs.Inputs.{Inputs}
-use Rattle.fs_runs.specs.Values.{content_of, sort_of}
-use Rattle.fs_runs.specs.InputValues.{Signature, signature, input_values, signatures_of, input_signatures, sort_named, Serves}
-use Rattle.fs_runs.proofs.InputValues.{serves_own}
+use Rattle.fs_stores.specs.declared.values.Value.{Value}
+use Rattle.fs_stores.specs.declared.inputs.Input.{Input}
+use Rattle.fs_stores.specs.declared.inputs.Inputs.{Inputs}
+use Rattle.fs_stores.specs.Values.{content_of, sort_of}
+use Rattle.fs_stores.specs.InputValues.{Signature, signature, input_values, signatures_of, input_signatures, sort_named, Serves}
+use Rattle.fs_stores.proofs.InputValues.{serves_own}
 use Rattle.hls_shrink.specs.InputEntries.{contents_in}
 use Rattle.hls_shrink.specs.Reductions.{content_with, with_number_at}
 

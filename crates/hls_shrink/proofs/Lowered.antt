@@ -10,8 +10,8 @@ use Rattle.std.specs.Map.{keys_of}
 use Rattle.std.proofs.lemmas.Bool.{false≢true}
 use Rattle.std.proofs.lemmas.Bool.Decides.{Decides-int_eq}
 use Rattle.fs_model.specs.Runs.{Content, Number, Entries, Emitted}
-use Rattle.fs_runs.specs.EntryLists.{listed_number, IsListing}
-use Rattle.fs_runs.proofs.Listings.{none_away, away_behind}
+use Rattle.fs_stores.specs.EntryLists.{listed_number, IsListing}
+use Rattle.fs_stores.proofs.Listings.{none_away, away_behind}
 use Rattle.hls_shrink.specs.declared.entries.Entry.{Entry}
 use Rattle.hls_shrink.specs.InputEntries.{at_input, number_entries, AreArrayEntries, AreEntriesOf, AreEntries}
 use Rattle.hls_shrink.specs.Reductions.{content_with, with_number_at}

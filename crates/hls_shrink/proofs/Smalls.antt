@@ -3,9 +3,9 @@ use Rattle.std.proofs.Common.{◌≡◌, ℕ, true, refl, sym, ◌∙◌, ap, su
 use Rattle.std.specs.Prelude.{Option, Some, None, Result, Ok, Err, IfOk, IfSome}
 use Rattle.fs_model.specs.Machines.{Fsmd}
 use Rattle.fs_model.specs.Runs.{Content}
-use Rattle.fs_runs.specs.declared.memory.NoMemory.{NoMemory}
-use Rattle.fs_runs.specs.declared.inputs.Inputs.{Inputs as InputValues}
-use Rattle.fs_runs.specs.InputValues.{inputs_of, signatures_of, input_signatures}
+use Rattle.fs_stores.specs.declared.memory.NoMemory.{NoMemory}
+use Rattle.fs_stores.specs.declared.inputs.Inputs.{Inputs as InputValues}
+use Rattle.fs_stores.specs.InputValues.{inputs_of, signatures_of, input_signatures}
 use Rattle.fs_runs.specs.Outcomes.{EndsWith, told_by}
 use Rattle.fs_trials.specs.Candidates.{inputs_told}
 use Rattle.fs_trials.specs.Differences.{ShowsDifference}

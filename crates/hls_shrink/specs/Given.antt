@@ -3,7 +3,7 @@ use Rattle.std.specs.Prelude.{Bool, not, ◌&&◌, List, map, filter}
 use Rattle.std.specs.List.{list_all}
 use Rattle.fs_model.specs.Machines.{Fsmd}
 use Rattle.fs_model.specs.Runs.{Inputs, Content, is_input, is_port}
-use Rattle.fs_runs.specs.InputValues.{first_content}
+use Rattle.fs_stores.specs.InputValues.{first_content}
 
 -- what each input of a machine holds as a run starts, in order of declaration: a scalar its number, an array its numbers, by name
 abbrev pub given_contents : Fsmd → Inputs → List Content

@@ -2,10 +2,10 @@
 use Rattle.std.specs.Prelude.{◌≡◌, ℕ, ◌+◌, cond, ℤ, pos, List, [], ◌∷◌, ◌++◌, map}
 use Rattle.std.specs.Ordering.{int_eq}
 use Rattle.fs_model.specs.Runs.{Content, Number, Entries, Emitted}
-use Rattle.fs_runs.specs.declared.inputs.Inputs.{Inputs}
-use Rattle.fs_runs.specs.Values.{content_of}
-use Rattle.fs_runs.specs.InputValues.{input_values}
-use Rattle.fs_runs.specs.EntryLists.{IsListing}
+use Rattle.fs_stores.specs.declared.inputs.Inputs.{Inputs}
+use Rattle.fs_stores.specs.Values.{content_of}
+use Rattle.fs_stores.specs.InputValues.{input_values}
+use Rattle.fs_stores.specs.EntryLists.{IsListing}
 use Rattle.hls_shrink.specs.declared.entries.Entry.{Entry}
 
 -- what inputs are given, in order of declaration

@@ -6,8 +6,8 @@ use Rattle.fs_model.specs.Source.{Source}
 use Rattle.fs_model.specs.Machines.{Fsmd}
 use Rattle.fs_model.specs.Runs.{Content}
 use Rattle.fs_model.specs.WellFormed.{is_well_formed}
-use Rattle.fs_runs.specs.declared.inputs.Inputs.{Inputs}
-use Rattle.fs_runs.specs.InputValues.{signatures_of, input_signatures, inputs_of}
+use Rattle.fs_stores.specs.declared.inputs.Inputs.{Inputs}
+use Rattle.fs_stores.specs.InputValues.{signatures_of, input_signatures, inputs_of}
 use Rattle.hls_shrink.specs.declared.entries.Entry.{Entry}
 use Rattle.hls_shrink.specs.InputEntries.{AreEntries, contents_in}
 use Rattle.hls_shrink.specs.Given.{given_contents, has_no_input_port}

@@ -3,7 +3,7 @@ use Rattle.std.specs.Prelude.{◌≡◌, ◌⊎◌, ℕ, zero, suc, List, [], �
 use Rattle.std.specs.List.{AllByRecursion}
 use Rattle.fs_model.specs.Machines.{Fsmd}
 use Rattle.fs_model.specs.Runs.{Content}
-use Rattle.fs_runs.specs.InputValues.{input_signatures, signatures_of, inputs_of}
+use Rattle.fs_stores.specs.InputValues.{input_signatures, signatures_of, inputs_of}
 use Rattle.fs_trials.specs.Candidates.{inputs_told}
 use Rattle.fs_trials.specs.Differences.{ShowsDifference, AreApart}
 use Rattle.hls_shrink.specs.declared.entries.Entry.{Entry}

@@ -18,7 +18,7 @@ use cert_model::cert::Cert;
 use fs_ast::machine::Machine;
 use fs_model::laws::{same_behaviour_is_reflexive, same_behaviour_is_transitive};
 use fs_pair::positions::Pairing;
-use fs_runs::memory::NoMemory;
+use fs_stores::memory::NoMemory;
 use nf_terms::stop::NoMemory as NoRoom;
 use std::alloc::Global;
 use std::marker::Model;

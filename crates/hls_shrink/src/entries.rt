@@ -2,16 +2,16 @@
 
 ghost use Rattle.std.specs.Prelude.{◌≡◌, ◌++◌, map, IfOk};
 ghost use Rattle.std.specs.Result.{OnOk};
-ghost use Rattle.fs_runs.specs.Values.{content_of, sort_of};
-ghost use Rattle.fs_runs.specs.InputValues.{signatures_of, input_signatures, Serves};
+ghost use Rattle.fs_stores.specs.Values.{content_of, sort_of};
+ghost use Rattle.fs_stores.specs.InputValues.{signatures_of, input_signatures, Serves};
 ghost use Rattle.hls_shrink.specs.InputEntries.{contents_in, AreEntries, at_input, number_entries};
 ghost use Rattle.hls_shrink.specs.Growth.{AddsEntries};
 ghost use Rattle.hls_shrink.specs.Reductions.{content_with, contents_with};
 
 use fs_ast::machine::Machine;
-use fs_runs::inputs::Inputs;
-use fs_runs::memory::NoMemory;
-use fs_runs::values::Value;
+use fs_stores::inputs::Inputs;
+use fs_stores::memory::NoMemory;
+use fs_stores::values::Value;
 use std::alloc::Global;
 
 /// A number of inputs that is not 0: the input, counted in order of declaration from 0, the index, which is 0 for a scalar,

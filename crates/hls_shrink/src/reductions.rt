@@ -2,7 +2,7 @@
 
 ghost use Rattle.std.specs.Prelude.{◌≡◌, ◌≤◌, int_div, pos, IfOk, IfSome, None};
 ghost use Rattle.fs_pair.specs.Interfaces.{interface_fault};
-ghost use Rattle.fs_runs.specs.InputValues.{signatures_of, input_signatures};
+ghost use Rattle.fs_stores.specs.InputValues.{signatures_of, input_signatures};
 ghost use Rattle.hls_shrink.specs.InputEntries.{contents_in};
 ghost use Rattle.hls_shrink.specs.Reductions.{contents_with, reductions_at, reductions, is_beyond_one};
 ghost use Rattle.hls_shrink.specs.Shrunk.{ShowDifference, IsFirst, NoneHas, IsSmall};
@@ -10,8 +10,8 @@ ghost use Rattle.hls_shrink.specs.Shrunk.{ShowDifference, IsFirst, NoneHas, IsSm
 use crate::entries::{Entry, with_number};
 use crate::shrinking::Small;
 use fs_ast::machine::Machine;
-use fs_runs::inputs::Inputs;
-use fs_runs::memory::NoMemory;
+use fs_stores::inputs::Inputs;
+use fs_stores::memory::NoMemory;
 use fs_trials::differences::differing_ends;
 use std::alloc::Global;
 

@@ -2,7 +2,7 @@
 
 ghost use Rattle.std.specs.Prelude.{◌≡◌, ◌≤◌, IfOk, None};
 ghost use Rattle.fs_pair.specs.Interfaces.{interface_fault};
-ghost use Rattle.fs_runs.specs.InputValues.{signatures_of, input_signatures, inputs_of};
+ghost use Rattle.fs_stores.specs.InputValues.{signatures_of, input_signatures, inputs_of};
 ghost use Rattle.fs_trials.specs.Differences.{ShowsDifference, AreApart};
 ghost use Rattle.hls_shrink.specs.InputEntries.{contents_in};
 ghost use Rattle.hls_shrink.specs.Shrunk.{ShowDifference, IsLeast, IsSmall, EndsIn};
@@ -11,9 +11,9 @@ use crate::entries::entries;
 use crate::reductions::first_reduction;
 use fs_ast::machine::Machine;
 use fs_pair::positions::Pairing;
-use fs_runs::inputs::Inputs;
-use fs_runs::memory::NoMemory;
 use fs_runs::run::Ended;
+use fs_stores::inputs::Inputs;
+use fs_stores::memory::NoMemory;
 use fs_trials::differences::differing_ends;
 use std::alloc::Global;
 

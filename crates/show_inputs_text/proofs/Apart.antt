@@ -3,7 +3,7 @@ use Rattle.std.proofs.Common.{ℕ, List}
 use Rattle.fs_model.specs.Machines.{Fsmd}
 use Rattle.fs_model.specs.Runs.{Inputs}
 use Rattle.fs_runs.specs.declared.run.Ended.{Ended}
-use Rattle.fs_runs.specs.InputValues.{input_signatures}
+use Rattle.fs_stores.specs.InputValues.{input_signatures}
 use Rattle.fs_runs.specs.Outcomes.{told_by}
 use Rattle.fs_inputs.specs.Refusals.{SpellsInputFile}
 use Rattle.fs_trials.specs.Differences.{AreApart}

@@ -2,7 +2,7 @@
 use Rattle.std.specs.Prelude.{ℕ, List}
 use Rattle.fs_model.specs.Machines.{Fsmd}
 use Rattle.fs_model.specs.Runs.{Inputs}
-use Rattle.fs_runs.specs.InputValues.{input_signatures}
+use Rattle.fs_stores.specs.InputValues.{input_signatures}
 use Rattle.fs_inputs.specs.Refusals.{SpellsInputFile}
 use Rattle.fs_trials.specs.Differences.{ShowsDifference}
 

@@ -2,8 +2,8 @@
 
 use fs_ast::machine::Machine;
 use fs_model::parts::VarInfo;
-use fs_runs::inputs::Inputs;
-use fs_runs::values::Value;
+use fs_stores::inputs::Inputs;
+use fs_stores::values::Value;
 use itoa::Buffer;
 use nf_terms::stop::NoMemory;
 use std::alloc::Global;

@@ -2,9 +2,9 @@
 
 use crate::candidates::first::first_found;
 use fs_ast::machine::Machine;
-use fs_runs::inputs::Inputs;
-use fs_runs::values::Value;
 use fs_sample_machines::reading::machine;
+use fs_stores::inputs::Inputs;
+use fs_stores::values::Value;
 use fs_trials::candidates::Candidates;
 use fs_trials::differences::Found;
 use std::alloc::Global;

@@ -1,6 +1,6 @@
 use Rattle.std.proofs.Common.{◌≡◌}
 use Rattle.serde_json.specs.View.{members_view}
-use Rattle.fs_runs.specs.InputValues.{input_signatures}
+use Rattle.fs_stores.specs.InputValues.{input_signatures}
 use Rattle.fs_inputs.specs.InputMembers.{first_input_fault}
 use Rattle.fs_inputs.proofs.files.first_fault.Given as goal
 

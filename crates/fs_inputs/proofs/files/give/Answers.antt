@@ -1,7 +1,7 @@
 use Rattle.std.proofs.Common.{◌≡◌, Some, sym, ap, ◌∙◌, string_bytes}
 use Rattle.std.proofs.lemmas.Result.{on_ok_weaker}
 use Rattle.serde_json.specs.View.{view}
-use Rattle.fs_runs.specs.InputValues.{signatures_of, sort_named}
+use Rattle.fs_stores.specs.InputValues.{signatures_of, sort_named}
 use Rattle.fs_inputs.specs.Steps.{input_place}
 use Rattle.fs_inputs.proofs.Places.{gives, sort_there}
 use Rattle.fs_inputs.proofs.files.give.Goals as goal

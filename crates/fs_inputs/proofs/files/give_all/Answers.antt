@@ -1,6 +1,6 @@
 use Rattle.std.proofs.Common.{sym, ap, ◌∙◌, string_bytes}
 use Rattle.serde_json.specs.View.{view, members_view}
-use Rattle.fs_runs.specs.InputValues.{inputs_of, input_signatures}
+use Rattle.fs_stores.specs.InputValues.{inputs_of, input_signatures}
 use Rattle.fs_inputs.specs.Steps.{inputs_over}
 use Rattle.fs_inputs.proofs.Steps.{first_fine, inputs_step, over_none}
 use Rattle.fs_inputs.proofs.files.give_all.Goals as goal

@@ -1,6 +1,6 @@
 use Rattle.std.proofs.Common.{◌≡◌, None}
 use Rattle.serde_json.specs.View.{members_view}
-use Rattle.fs_runs.specs.InputValues.{inputs_of, signatures_of, input_signatures}
+use Rattle.fs_stores.specs.InputValues.{inputs_of, signatures_of, input_signatures}
 use Rattle.fs_inputs.specs.InputMembers.{first_input_fault}
 use Rattle.fs_inputs.specs.Steps.{inputs_over}
 use Rattle.fs_inputs.proofs.files.give_all.Given as goal

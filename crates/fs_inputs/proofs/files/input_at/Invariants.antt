@@ -1,6 +1,6 @@
 use Rattle.std.proofs.Common.{◌≡◌, ◌≤◌, ◌+◌, drop}
 use Rattle.std.specs.Option.{option_map}
-use Rattle.fs_runs.specs.InputValues.{input_signatures, sort_named}
+use Rattle.fs_stores.specs.InputValues.{input_signatures, sort_named}
 use Rattle.fs_inputs.specs.Steps.{input_place}
 use Rattle.fs_inputs.proofs.files.input_at.Given as goal
 

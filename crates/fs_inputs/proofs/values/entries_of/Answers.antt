@@ -1,6 +1,6 @@
 use Rattle.std.proofs.Common.{sym, ap, ◌∙◌, string_bytes}
 use Rattle.serde_json.specs.View.{view, members_view}
-use Rattle.fs_runs.specs.Values.{entry_number}
+use Rattle.fs_stores.specs.Values.{entry_number}
 use Rattle.fs_inputs.specs.Steps.{entry_over}
 use Rattle.fs_inputs.proofs.Steps.{first_read, entry_step}
 use Rattle.fs_inputs.proofs.values.entries_of.Goals as goal

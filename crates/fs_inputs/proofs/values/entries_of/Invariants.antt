@@ -1,6 +1,6 @@
 use Rattle.std.proofs.Common.{◌≡◌, true, ℤ}
 use Rattle.serde_json.specs.View.{members_view}
-use Rattle.fs_runs.specs.Values.{entry_number}
+use Rattle.fs_stores.specs.Values.{entry_number}
 use Rattle.fs_inputs.specs.InputMembers.{are_numbers, all_fit, input_number_or_zero, last_member_value, spells}
 use Rattle.fs_inputs.specs.Steps.{entry_over}
 use Rattle.fs_inputs.proofs.values.entries_of.Given as goal

@@ -1,6 +1,6 @@
 use Rattle.std.proofs.Common.{◌≡◌, drop}
 use Rattle.std.specs.Prelude.{map}
-use Rattle.fs_runs.specs.Values.{content_of}
+use Rattle.fs_stores.specs.Values.{content_of}
 use Rattle.fs_runs.specs.Outcomes.{output_names, outputs_by_name, told_by}
 use Rattle.fs_run_text.proofs.items.held.Given as goal
 

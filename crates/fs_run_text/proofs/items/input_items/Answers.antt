@@ -3,8 +3,8 @@ use Rattle.std.specs.Option.{option_map}
 use Rattle.std.proofs.lemmas.List.{map-append}
 use Rattle.std.specs.Prelude.{map, slice_get, Some}
 use Rattle.std.proofs.lemmas.Option.{slice_get-map}
-use Rattle.fs_runs.specs.Values.{content_of}
-use Rattle.fs_runs.specs.InputValues.{input_values}
+use Rattle.fs_stores.specs.Values.{content_of}
+use Rattle.fs_stores.specs.InputValues.{input_values}
 use Rattle.fs_run_text.specs.ItemTexts.{input_names}
 use Rattle.fs_run_text.proofs.Told.{Steps, first_step, names_many, has_number, one_told, none_told, all_told}
 use Rattle.fs_run_text.proofs.items.input_items.Goals.{then-is_input+in_ok-item+in_ok-push, else-is_input}

@@ -1,6 +1,6 @@
 use Rattle.std.specs.Prelude.{map}
-use Rattle.fs_runs.specs.Values.{content_of}
-use Rattle.fs_runs.specs.InputValues.{input_values}
+use Rattle.fs_stores.specs.Values.{content_of}
+use Rattle.fs_stores.specs.InputValues.{input_values}
 use Rattle.fs_run_text.specs.ItemTexts.{input_names}
 use Rattle.fs_run_text.proofs.Told.{Steps}
 use Rattle.fs_run_text.proofs.items.input_items.Given as goal

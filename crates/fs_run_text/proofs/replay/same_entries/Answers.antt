@@ -1,6 +1,6 @@
 use Rattle.std.proofs.Common.{◌≡◌}
 use Rattle.std.specs.Cmp.Lexicographic.{pointwise}
-use Rattle.fs_runs.specs.Values.{entry_number}
+use Rattle.fs_stores.specs.Values.{entry_number}
 use Rattle.fs_run_text.proofs.Arrays.{same_pair, same_arrays}
 use Rattle.fs_run_text.proofs.replay.same_entries.Goals as goal
 

@@ -3,7 +3,7 @@ use Rattle.std.specs.Ordering.{int_eq}
 use Rattle.std.specs.Cmp.Lexicographic.{pointwise}
 use Rattle.std.proofs.lemmas.Slice.Eq.{slice_eq-Decides}
 use Rattle.std.proofs.lemmas.Bool.Decides.{Decides-int_eq}
-use Rattle.fs_runs.specs.Values.{numbers_of}
+use Rattle.fs_stores.specs.Values.{numbers_of}
 use Rattle.fs_run_text.proofs.replay.same_numbers.Goals as goal
 
 pub returns : goal.returns

@@ -2,7 +2,7 @@ use Rattle.std.proofs.Common.{List, Result, Ok, Err, subst}
 use Rattle.std.specs.Prelude.{Bool, IfOk}
 use Rattle.std.specs.Bool.{Decides}
 use Rattle.std.proofs.lemmas.Bool.Decides.{Decides-like}
-use Rattle.fs_runs.specs.declared.values.Value.{Value}
+use Rattle.fs_stores.specs.declared.values.Value.{Value}
 use Rattle.fs_runs.specs.Outcomes.{output_names, told_by}
 use Rattle.fs_run_text.specs.ItemTexts.{AgreeOnNames, SameOutputs}
 use Rattle.fs_run_text.proofs.Interfaces.{same_everywhere, each_same}

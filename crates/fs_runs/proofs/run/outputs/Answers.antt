@@ -3,8 +3,8 @@ use Rattle.std.specs.Prelude.{map, List}
 use Rattle.std.proofs.lemmas.List.{length-map}
 use Rattle.fs_model.specs.declared.parts.VarInfo.{VarInfo}
 use Rattle.fs_model.specs.Runs.{Content}
-use Rattle.fs_runs.specs.declared.values.Value.{Value}
-use Rattle.fs_runs.specs.Values.{content_of, sort_of, store_of, values_of}
+use Rattle.fs_stores.specs.declared.values.Value.{Value}
+use Rattle.fs_stores.specs.Values.{content_of, sort_of, store_of, values_of}
 use Rattle.fs_runs.specs.Outcomes.{output_names, outs_of, outputs_by_name, told_by}
 use Rattle.fs_runs.proofs.Outs.{told_all, as_long, outs_count, outs_next, outs_done, holds_each}
 use Rattle.fs_runs.proofs.run.outputs.Goals as goal

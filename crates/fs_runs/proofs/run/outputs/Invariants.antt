@@ -1,6 +1,6 @@
 use Rattle.std.proofs.Common.{◌≡◌, ◌++◌, drop}
 use Rattle.std.specs.Prelude.{map}
-use Rattle.fs_runs.specs.Values.{content_of}
+use Rattle.fs_stores.specs.Values.{content_of}
 use Rattle.fs_runs.specs.Outcomes.{outs_of}
 use Rattle.fs_runs.proofs.run.outputs.Given as goal
 

@@ -4,7 +4,7 @@ use Rattle.std.proofs.lemmas.Result.{err_from_is_err_and}
 use Rattle.std.proofs.lemmas.List.{with_items_is}
 use Rattle.fs_model.specs.View.{branch_of}
 use Rattle.fs_model.specs.Runs.{Step}
-use Rattle.fs_runs.specs.Values.{store_from, values_of}
+use Rattle.fs_stores.specs.Values.{store_from, values_of}
 use Rattle.fs_runs.proofs.Steps.{takes, one_open, is_open, past_taken}
 use Rattle.fs_runs.proofs.step.step.Goals as goal
 

@@ -1,4 +1,4 @@
-use Rattle.fs_runs.specs.InputValues.{inputs_of}
+use Rattle.fs_stores.specs.InputValues.{inputs_of}
 use Rattle.fs_trials.specs.Differences.{IsEnd}
 use Rattle.fs_trials.proofs.Apart.{same_shows_none}
 use Rattle.fs_trials.proofs.differences.differing_ends.Goals as goal

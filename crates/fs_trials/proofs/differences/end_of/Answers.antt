@@ -1,5 +1,5 @@
 use Rattle.std.proofs.Common.{sym, subst}
-use Rattle.fs_runs.specs.InputValues.{inputs_of}
+use Rattle.fs_stores.specs.InputValues.{inputs_of}
 use Rattle.fs_runs.specs.Outcomes.{IsStopOfRun}
 use Rattle.fs_trials.proofs.Apart.{no_end}
 use Rattle.fs_trials.proofs.differences.end_of.Goals as goal

@@ -1,5 +1,5 @@
 use Rattle.std.proofs.Common.{◌≡◌, ◌∙◌, ap}
-use Rattle.fs_runs.specs.InputValues.{inputs_of, signatures_of}
+use Rattle.fs_stores.specs.InputValues.{inputs_of, signatures_of}
 use Rattle.fs_run_text.proofs.Serving.{serves_both}
 use Rattle.fs_trials.specs.Candidates.{candidate_count, candidate_contents, stated_count}
 use Rattle.fs_trials.specs.Differences.{DiffersAt, AreApart}

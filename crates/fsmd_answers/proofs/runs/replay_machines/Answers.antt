@@ -1,4 +1,4 @@
-use Rattle.fs_runs.specs.InputValues.{inputs_of}
+use Rattle.fs_stores.specs.InputValues.{inputs_of}
 use Rattle.fsmd_answers.proofs.Ends.{left_stopped, right_stopped, both_ended}
 use Rattle.fsmd_answers.proofs.runs.replay_machines.Goals as goal
 

@@ -1,4 +1,4 @@
-use Rattle.fs_runs.specs.InputValues.{inputs_of}
+use Rattle.fs_stores.specs.InputValues.{inputs_of}
 use Rattle.fsmd_answers.proofs.Ends.{run_stopped, run_ended}
 use Rattle.fsmd_answers.proofs.runs.run_machine.Goals as goal
 

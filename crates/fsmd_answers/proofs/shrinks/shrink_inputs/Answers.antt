@@ -1,4 +1,4 @@
-use Rattle.fs_runs.specs.InputValues.{inputs_of, signatures_of}
+use Rattle.fs_stores.specs.InputValues.{inputs_of, signatures_of}
 use Rattle.fs_run_text.proofs.Serving.{serves_both}
 use Rattle.fsmd_answers.specs.Replays.{IsOfReplay}
 use Rattle.fsmd_answers.specs.Shrinks.{IsOfShrink, Replayed}

@@ -1,5 +1,5 @@
 use Rattle.fs_model.specs.Runs.{Inputs}
-use Rattle.fs_runs.specs.InputValues.{inputs_of}
+use Rattle.fs_stores.specs.InputValues.{inputs_of}
 use Rattle.fsmd_machine_commands.specs.InputFiles.{RefusesInputs, SpellsInputs}
 use Rattle.fsmd_machine_commands.specs.Shrinks.{IsOfShrink}
 use Rattle.fsmd_machine_commands.specs.Follows.{Ends}

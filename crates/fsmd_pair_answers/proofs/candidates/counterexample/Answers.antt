@@ -1,6 +1,6 @@
 use Rattle.std.specs.Prelude.{map}
-use Rattle.fs_runs.specs.Values.{content_of}
-use Rattle.fs_runs.specs.InputValues.{input_values, inputs_of}
+use Rattle.fs_stores.specs.Values.{content_of}
+use Rattle.fs_stores.specs.InputValues.{input_values, inputs_of}
 use Rattle.fsmd_pair_answers.proofs.Behaviour.{is_counterexample}
 use Rattle.fsmd_pair_answers.proofs.candidates.counterexample.Goals as goal
 

@@ -1,7 +1,7 @@
 use Rattle.std.proofs.Common.{◌≡◌, ◌≤◌, true, false, length, ap, ◌∙◌, arith, rules}
 use Rattle.std.specs.Option.{is_none}
-use Rattle.fs_runs.specs.Values.{content_of}
-use Rattle.fs_runs.specs.InputValues.{input_signatures}
+use Rattle.fs_stores.specs.Values.{content_of}
+use Rattle.fs_stores.specs.InputValues.{input_signatures}
 use Rattle.fs_trials.proofs.Given.{few_inputs}
 use Rattle.hls_shrink.specs.InputEntries.{contents_in}
 use Rattle.hls_shrink.proofs.Changed.{as_many, none_left, some_left, content_there}

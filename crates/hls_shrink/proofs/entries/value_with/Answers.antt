@@ -3,7 +3,7 @@ use Rattle.std.specs.Prelude.{FitsSigned}
 use Rattle.std.specs.Int.{w128}
 use Rattle.std.specs.Ordering.{int_eq}
 use Rattle.std.proofs.lemmas.Int.{to_z-of_z}
-use Rattle.fs_runs.specs.Values.{entry_number, content_of}
+use Rattle.fs_stores.specs.Values.{entry_number, content_of}
 use Rattle.fs_trials.proofs.Given.{entries_are}
 use Rattle.hls_shrink.specs.Reductions.{content_with}
 use Rattle.hls_shrink.proofs.entries.value_with.Goals as goal

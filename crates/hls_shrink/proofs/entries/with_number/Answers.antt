@@ -1,8 +1,8 @@
 use Rattle.std.proofs.Common.{◌≡◌, true, false, sym, ◌∙◌, ap, rules}
 use Rattle.std.specs.Prelude.{Some, option_map, slice_get}
 use Rattle.std.specs.Option.{is_none}
-use Rattle.fs_runs.specs.Values.{content_of}
-use Rattle.fs_runs.specs.InputValues.{Signature, input_values}
+use Rattle.fs_stores.specs.Values.{content_of}
+use Rattle.fs_stores.specs.InputValues.{Signature, input_values}
 use Rattle.hls_shrink.specs.InputEntries.{contents_in}
 use Rattle.hls_shrink.specs.Reductions.{with_number_at}
 use Rattle.hls_shrink.proofs.Changed.{serve_own, none_left, some_left, content_there, sort_there, changed_past, changed_is}

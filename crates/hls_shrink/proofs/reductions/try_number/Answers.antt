@@ -1,4 +1,4 @@
-use Rattle.fs_runs.specs.InputValues.{signatures_of}
+use Rattle.fs_stores.specs.InputValues.{signatures_of}
 use Rattle.fs_run_text.proofs.Serving.{serves_both}
 use Rattle.hls_shrink.specs.InputEntries.{contents_in}
 use Rattle.hls_shrink.specs.Reductions.{contents_with}

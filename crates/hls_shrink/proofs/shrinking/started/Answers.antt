@@ -1,5 +1,5 @@
 use Rattle.std.proofs.Common.{◌∙◌}
-use Rattle.fs_runs.specs.InputValues.{signatures_of}
+use Rattle.fs_stores.specs.InputValues.{signatures_of}
 use Rattle.fs_run_text.proofs.Serving.{serves_both}
 use Rattle.hls_shrink.proofs.Changed.{serve_own}
 use Rattle.hls_shrink.proofs.Smalls.{same_show}

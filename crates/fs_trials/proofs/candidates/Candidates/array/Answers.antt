@@ -3,7 +3,7 @@ use Rattle.std.specs.Prelude.{pos, FitsSigned}
 use Rattle.std.specs.Int.{w128}
 use Rattle.std.specs.Ordering.{int_eq}
 use Rattle.std.proofs.lemmas.Int.{to_z-of_z}
-use Rattle.fs_runs.specs.Values.{entry_number}
+use Rattle.fs_stores.specs.Values.{entry_number}
 use Rattle.fs_trials.specs.Candidates.{candidate}
 use Rattle.fs_trials.proofs.Given.{filled_more}
 use Rattle.fs_trials.proofs.candidates.Candidates.array.Goals as goal

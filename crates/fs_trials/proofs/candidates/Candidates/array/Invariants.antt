@@ -1,5 +1,5 @@
 use Rattle.std.proofs.Common.{◌≡◌, ℤ}
-use Rattle.fs_runs.specs.Values.{entry_number}
+use Rattle.fs_stores.specs.Values.{entry_number}
 use Rattle.fs_trials.specs.Candidates.{candidate, array_of}
 use Rattle.fs_trials.proofs.candidates.Candidates.array.Given as goal
 

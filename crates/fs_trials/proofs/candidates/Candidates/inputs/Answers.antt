@@ -1,7 +1,7 @@
 use Rattle.std.proofs.Common.{◌≡◌, ◌≤◌, length, sym, ◌∙◌, ap, subst, arith}
 use Rattle.std.specs.Prelude.{None, Some, map, option_map, slice_get}
-use Rattle.fs_runs.specs.Values.{content_of}
-use Rattle.fs_runs.specs.InputValues.{Signature, input_values, input_signatures, Serves}
+use Rattle.fs_stores.specs.Values.{content_of}
+use Rattle.fs_stores.specs.InputValues.{Signature, input_values, input_signatures, Serves}
 use Rattle.fs_trials.specs.Candidates.{candidate, contents, content_at}
 use Rattle.fs_trials.proofs.Given.{as_many, given_more, given_all, past_all, few_inputs, inputs_are}
 use Rattle.fs_trials.proofs.candidates.Candidates.inputs.Goals as goal

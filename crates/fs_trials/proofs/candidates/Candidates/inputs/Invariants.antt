@@ -1,7 +1,7 @@
 use Rattle.std.proofs.Common.{◌≡◌}
 use Rattle.std.specs.Prelude.{map}
-use Rattle.fs_runs.specs.Values.{content_of}
-use Rattle.fs_runs.specs.InputValues.{input_values, signatures_of, input_signatures, Serves}
+use Rattle.fs_stores.specs.Values.{content_of}
+use Rattle.fs_stores.specs.InputValues.{input_values, signatures_of, input_signatures, Serves}
 use Rattle.fs_trials.specs.Candidates.{candidate}
 use Rattle.fs_trials.proofs.Given.{AreGiven}
 use Rattle.fs_trials.proofs.candidates.Candidates.inputs.Given as goal
