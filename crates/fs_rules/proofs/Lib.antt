@@ -2,7 +2,6 @@ pub mod Turns
 pub mod Results
 pub mod FirstFaults
 pub mod Naming
-pub mod Lines
 pub mod Uses
 pub mod Noted
 pub mod Walks

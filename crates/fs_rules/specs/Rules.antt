@@ -1,6 +1,6 @@
 -- The rules that the parts of a machine keep, and the line at which each is broken.
-use Rattle.std.specs.Prelude.{◌≡◌, ℕ, zero, suc, ◌<◌, ◌==◌, nat_lt, Bool, true, false, not, ◌&&◌, ◌||◌, cond, ◌⊎◌, Contains, List}
-use Rattle.std.specs.Prelude.{[], ◌∷◌, ◌++◌, length, take, drop, map, Some, is_some, slice_get}
+use Rattle.std.specs.Prelude.{◌≡◌, ℕ, zero, suc, ◌<◌, ◌==◌, nat_lt, Bool, false, not, ◌&&◌, ◌||◌, cond, ◌⊎◌, Contains, List}
+use Rattle.std.specs.Prelude.{[], ◌∷◌, ◌++◌, length, take, drop, map, Some, slice_get}
 use Rattle.std.specs.List.{list_all, list_any, flat_map}
 use Rattle.std.specs.Str.{bytes_eq}
 use Rattle.fs_model.specs.declared.parts.VarInfo.{VarInfo}
@@ -8,6 +8,7 @@ use Rattle.fs_model.specs.Terms.{Transition}
 use Rattle.fs_model.specs.Source.{Declaration, SourceTransition, SourceState, Source}
 use Rattle.fs_model.specs.Machines.{Fsmd, transitions_of}
 use Rattle.fs_model.specs.Trees.{tree_of_transitions, count_leaves}
+pub use Rattle.fs_else_lines.specs.ElseLines.{lacks_else, after_else}
 use Rattle.fs_rules.specs.declared.check.CheckRule.{CheckRule}
 use Rattle.fs_rules.specs.declared.check.CheckRule.TheVariants.{TwiceNamed, UnknownName, WrongSort, AssignInput, AssignedTwice}
 use Rattle.fs_rules.specs.declared.check.CheckRule.TheVariants.{NoElse, AfterElse, TooManyBranches, EndlessLine, UnknownState}
@@ -72,17 +73,6 @@ transition_faults vs count n l =
     ++ (broken_where (not (all_differ (assigned_in l.assignments))) AssignedTwice n
     ++ (broken_where (not (nat_lt l.target count)) UnknownState n
     ++ broken_where (nat_lt most_emits (emit_count l.assignments)) TooManyEmits n))))
-
--- no transition is there, or the last has a guard
-abbrev pub lacks_else : List SourceTransition → Bool
-lacks_else [] = true
-lacks_else (l ∷ []) = is_some l.content.guard
-lacks_else (l ∷ k ∷ rest) = lacks_else (k ∷ rest)
-
--- the lines of the transitions after one without guard
-abbrev pub after_else : Bool → List SourceTransition → List ℕ
-after_else seen [] = []
-after_else seen (l ∷ ls) = cond seen (l.line ∷ after_else true ls) (after_else (not (is_some l.content.guard)) ls)
 
 abbrev pub transitions_faults : List VarInfo → List (List ℕ) → List SourceTransition → List CheckFault
 transitions_faults vs ss ls = flat_map (λ l. transition_faults vs (length ss) l.line (transition_spelled (names_of vs) ss l)) ls

@@ -14,7 +14,7 @@ ghost use Rattle.fs_rules.specs.SoundParts.{arrays_in_condition, scalars_in_assi
 ghost use Rattle.fs_rules.specs.SoundParts.{scalars_in_assignments};
 ghost use Rattle.fs_rules.specs.SoundParts.{arrays_in_assignments, port_in, ports_in_assignments, emits_of, emit_count, input_at};
 ghost use Rattle.fs_rules.specs.SoundParts.{changed_by, assigned_in, all_differ, occurs};
-ghost use Rattle.fs_rules.specs.Rules.{at_lines, transition_faults, transitions_faults, lacks_else, after_else, state_faults};
+ghost use Rattle.fs_rules.specs.Rules.{at_lines, transition_faults, transitions_faults, after_else, state_faults};
 ghost use Rattle.fs_rules.specs.Rules.{changes_input};
 ghost use Rattle.std.specs.List.{flat_map};
 ghost use Rattle.fs_rules.specs.FirstFault.{earliest};
@@ -24,6 +24,7 @@ ghost use Rattle.fs_rules.specs.Uses.{uses_of, either_of};
 use crate::check::CheckRule;
 use crate::faults::Faults;
 use crate::scope::Scope;
+use fs_else_lines::else_lines::lacks_else;
 use fs_model::limits::EMIT_LIMIT;
 use fs_model::name::{Name, NoMemory};
 use fs_model::parts::{Assign, Expr, Guard, RawLine, RawState};
@@ -341,16 +342,6 @@ fn emits_of(assign: &Assign<Name>) -> usize
     match assign {
         Assign::Set(..) | Assign::Put(..) => 0,
         Assign::Emit(..) => 1,
-    }
-}
-
-// Whether the last transition has a guard, or there is none.
-fn lacks_else(lines: &[RawLine]) -> bool
-    ensures { result ≡ lacks_else (map source_transition_of lines.now) }
-{
-    match lines.last() {
-        None => true,
-        Some(line) => line.guard.is_some(),
     }
 }
 

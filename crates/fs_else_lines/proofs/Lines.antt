@@ -5,7 +5,7 @@ use Rattle.std.specs.Option.{is_some}
 use Rattle.fs_model.proofs.Options.{is_some-map}
 use Rattle.fs_model.specs.declared.parts.RawLine.{RawLine}
 use Rattle.fs_model.specs.View.{source_transition_of, named_guard}
-use Rattle.fs_rules.specs.Rules.{lacks_else}
+use Rattle.fs_else_lines.specs.ElseLines.{lacks_else}
 
 pub lacks_last : (ls : List RawLine) (n : ℕ) (l : RawLine) → suc n ≡ length ls → slice_get ls n ≡ Some l
     → lacks_else (map source_transition_of ls) ≡ is_some l.guard

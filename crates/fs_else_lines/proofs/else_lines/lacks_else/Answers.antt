@@ -1,6 +1,6 @@
 use Rattle.std.proofs.Common.{◌∙◌, ◌-◌, ◌<◌, length, rules, tests, arith, sym}
-use Rattle.fs_rules.proofs.Lines.{lacks_last}
-use Rattle.fs_rules.proofs.rules.lacks_else.Goals as goal
+use Rattle.fs_else_lines.proofs.Lines.{lacks_last}
+use Rattle.fs_else_lines.proofs.else_lines.lacks_else.Goals as goal
 
 pub returns-in-Some : goal.returns-in-Some
 returns-in-Some c =
