@@ -1,4 +1,5 @@
-use Rattle.std.proofs.Common.{◌+◌, max, refl, ap, ◌∙◌, arith}
+use Rattle.std.proofs.Common.{◌+◌, max, map, refl, ap, ◌∙◌, arith}
+use Rattle.std.proofs.lemmas.List.{at_drop_all}
 use Rattle.nf_terms.specs.NormalTerms.{monomial_of, polynomial_of, writes_of}
 use Rattle.nf_terms.specs.View.{atom_in, term_in, write_in}
 use Rattle.nf_terms.specs.Measures.{depth_of_atom, depth_of_monomial, depth_of, depth_of_writes}
@@ -32,3 +33,21 @@ depth_of_arr-loop-index-preserved t c = (
       c.loop-index-test.true c.loop-index-item.is
       ∙ c.loop-index.invariant.1,
 )
+
+pub depth_of_mono-returns : goal.depth_of_mono-returns
+depth_of_mono-returns t c =
+    let nothing = at_drop_all (λ ys. depth_of_monomial (monomial_of (map atom_in ys)))
+    c.deref-atom-items.result.now c.loop-atom.atom-index c.loop-atom-test.false in
+    omega (arith, nothing, c.loop-atom.invariant.0, c.loop-atom.invariant.1)
+
+pub depth_of_poly-returns : goal.depth_of_poly-returns
+depth_of_poly-returns t c =
+    let nothing = at_drop_all (λ ys. depth_of (polynomial_of (map term_in ys)))
+    c.deref-mono-items.result.now c.loop-mono.mono-index c.loop-mono-test.false in
+    omega (arith, nothing, c.loop-mono.invariant.0, c.loop-mono.invariant.1)
+
+pub depth_of_arr-returns : goal.depth_of_arr-returns
+depth_of_arr-returns t c =
+    let nothing = at_drop_all (λ ys. depth_of_writes (writes_of (map write_in ys)))
+    c.deref-index-items.result.now c.loop-index.index-index c.loop-index-test.false in
+    omega (arith, nothing, c.loop-index.invariant.0, c.loop-index.invariant.1)
