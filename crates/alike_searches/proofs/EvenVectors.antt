@@ -23,7 +23,7 @@ use Rattle.nf_substitution.specs.Vectors.{form_at, number_or, array_or, list_or}
 use Rattle.nf_substitution.specs.SamePlaces.{own_pos}
 use Rattle.sym_paths.specs.ValuationStores.{at}
 use Rattle.sym_facts.specs.Facts.{FactPosition, sort_of_terms, own_symbol, form_or_symbol, vector_of, has_its_sort}
-use Rattle.propagate.specs.Rebases.{value_at}
+use Rattle.search_tables.specs.Rebases.{value_at}
 use Rattle.cert_bisimulation.specs.ExpressionSameness.{AreTwins}
 use Rattle.alike_paths.specs.Evenness.{IsEven}
 use Rattle.alike_searches.specs.EvenFacts.{places_of, AreEvenValues, AreEvenPositions}

@@ -25,7 +25,7 @@ use Rattle.nf_substitution.specs.Vectors.{form_at, with_form, number_or, array_o
 use Rattle.nf_substitution.specs.SamePlaces.{pos_equal, sorts_equal, own_pos, own_sort}
 use Rattle.nf_substitution.specs.Substitution.{atom_substituted, atoms_substituted, terms_substituted, writes_substituted, array_substituted}
 use Rattle.nf_substitution.proofs.Entries.{form_put}
-use Rattle.propagate.specs.Rebases.{is_held}
+use Rattle.search_tables.specs.Rebases.{is_held}
 
 -- ---- tests of joined lists
 

@@ -20,8 +20,8 @@ use Rattle.nf_substitution.specs.Substitution.{polynomial_substituted}
 use Rattle.sym_paths.specs.Sequences.{each}
 use Rattle.sym_facts.specs.Facts.{FactPosition, own_symbol, form_or_symbol, has_its_sort}
 use Rattle.sym_facts.specs.Entailment.{form_substituted, form_like, equation_met, false_places}
-use Rattle.propagate.specs.Rebases.{value_at}
-use Rattle.propagate.specs.Joins.{is_among}
+use Rattle.search_tables.specs.Rebases.{value_at}
+use Rattle.search_tables.specs.Joins.{is_among}
 use Rattle.alike_paths.specs.Risen.{IsRisenVector}
 use Rattle.alike_paths.proofs.SubstitutedWorth.{symbol_substituted}
 use Rattle.alike_searches.specs.EvenFacts.{places_of, AreEvenValues, AreEvenPositions}

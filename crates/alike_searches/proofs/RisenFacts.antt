@@ -30,13 +30,13 @@ use Rattle.sym_paths.specs.Execution.{Post}
 use Rattle.sym_facts.specs.Facts.{FactPosition, Fact, own_symbol, form_or_symbol, vector_of, most_literals}
 use Rattle.sym_facts.specs.Entailment.{form_substituted, Missing}
 use Rattle.sym_facts.specs.Starts.{zero_of, start_form, partner_in, start_position, start_fact}
-use Rattle.propagate.specs.Rebases.{value_at, number_held, form_held, RebaseState, with_mark, symbol_found, first_by, first_pass, Split, split_off_symbol}
-use Rattle.propagate.specs.Rebases.{less_rest}
-use Rattle.propagate.specs.Rebases.{Solution, solution, second_pass_solution, second_by, second_pass, number_tied_to, number_tied, form_tied}
-use Rattle.propagate.specs.Rebases.{rebase_tied_equation, equation_found}
-use Rattle.propagate.specs.Rebases.{freed_with, with_equation, third_pass, with_needed, conditions_over, rebase}
-use Rattle.propagate.specs.Joins as joins
-use Rattle.propagate.specs.Joins.{Freed, symbol_like, is_alike, position_joined, is_among, positions_joined, literals_kept, join}
+use Rattle.search_tables.specs.Rebases.{value_at, number_held, form_held, RebaseState, with_mark, symbol_found, first_by, first_pass, Split, split_off_symbol}
+use Rattle.search_tables.specs.Rebases.{less_rest}
+use Rattle.search_tables.specs.Rebases.{Solution, solution, second_pass_solution, second_by, second_pass, number_tied_to, number_tied, form_tied}
+use Rattle.search_tables.specs.Rebases.{rebase_tied_equation, equation_found}
+use Rattle.search_tables.specs.Rebases.{freed_with, with_equation, third_pass, with_needed, conditions_over, rebase}
+use Rattle.search_tables.specs.Joins as joins
+use Rattle.search_tables.specs.Joins.{Freed, symbol_like, is_alike, position_joined, is_among, positions_joined, literals_kept, join}
 use Rattle.alike_paths.specs.Risen.{is_risen, is_risen_array, IsRisenVector}
 use Rattle.alike_paths.proofs.RisenOperations.{sum_rises, difference_rises}
 use Rattle.alike_paths.proofs.RisenSubstitutions.{substituted_rises, array_rises}

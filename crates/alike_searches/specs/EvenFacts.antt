@@ -4,7 +4,7 @@ use Rattle.fs_model.specs.declared.parts.Sort.{Sort}
 use Rattle.fs_model.specs.declared.sides.Pos.{Pos}
 use Rattle.nf_terms.specs.declared.form.Nf.{Nf}
 use Rattle.sym_facts.specs.Facts.{FactPosition, Fact, form_or_symbol}
-use Rattle.propagate.specs.Rebases.{value_at}
+use Rattle.search_tables.specs.Rebases.{value_at}
 
 -- the positions of a fact, with their sorts
 abbrev pub places_of : List FactPosition → List (Pos × Sort)

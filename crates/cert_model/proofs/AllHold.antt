@@ -13,10 +13,10 @@ use Rattle.fs_model.specs.Machines.{Fsmd}
 use Rattle.fs_model.specs.Stores.{Store}
 use Rattle.fs_model.specs.Runs.{Inputs, start, content, SameBehaviour}
 use Rattle.fs_model.specs.Runs as runs
-use Rattle.fs_pair.specs.Interfaces.{interface_fault}
-use Rattle.fs_pair.specs.PairedOutputs.{OutputPair, output_pairs, AgreeOnOutput}
-use Rattle.fs_pair.specs.Positions.{positions}
-use Rattle.fs_pair.proofs.SameOutputs.{same_outputs}
+use Rattle.sym_facts.specs.Interfaces.{interface_fault}
+use Rattle.sym_facts.specs.PairedOutputs.{OutputPair, output_pairs, AgreeOnOutput}
+use Rattle.sym_facts.specs.Positions.{positions}
+use Rattle.sym_facts.proofs.SameOutputs.{same_outputs}
 use Rattle.fs_cut.specs.Paths.{Point, Start, Done, Path, IsPath, is_point}
 use Rattle.fs_cut.specs.Covers.{paths_of, same_point}
 use Rattle.fs_cut.proofs.Listed.{path_is_listed, same_is}

@@ -4,3 +4,7 @@ pub mod Lawful
 pub mod View
 pub mod Kept
 pub mod Sizes
+pub use Rattle.sym_facts.specs.Entailment
+pub use Rattle.sym_facts.specs.Facts
+pub use Rattle.sym_facts.specs.Pairings
+pub use Rattle.sym_facts.specs.Starts

@@ -7,8 +7,8 @@ use Rattle.fs_model.specs.Machines.{Fsmd}
 use Rattle.fs_cut.specs.Paths.{Point, Start, Path}
 use Rattle.fs_cut.specs.Paths as paths
 use Rattle.fs_cut.specs.Covers.{paths_of, same_point}
-use Rattle.fs_pair.specs.PairedOutputs.{OutputPair, output_pairs}
-use Rattle.fs_pair.specs.Positions.{positions}
+use Rattle.sym_facts.specs.PairedOutputs.{OutputPair, output_pairs}
+use Rattle.sym_facts.specs.Positions.{positions}
 use Rattle.cert_bisimulation.specs.declared.mode.Mode.{Mode}
 use Rattle.cert_bisimulation.specs.declared.mode.Mode.TheVariants.{Both, Left, Right, End}
 use Rattle.cert_bisimulation.specs.Tables.{Node}

@@ -23,3 +23,5 @@ pub mod lawful_nodes;
 pub mod laws;
 pub mod outputs;
 pub mod reason;
+
+pub use sym_facts::fact;

@@ -3,3 +3,4 @@ pub mod Listed
 pub mod Loops
 pub mod Legs
 pub mod Cutting
+pub use Rattle.fs_ast.proofs.Lifted

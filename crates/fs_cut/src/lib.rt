@@ -18,3 +18,5 @@ pub mod make_cover;
 pub mod memory;
 pub mod points;
 mod walk;
+
+pub use fs_ast::machine;

@@ -12,10 +12,10 @@ ghost use Rattle.fsmd_answers.specs.Refusing.{WhereAnswered};
 
 use crate::refused::Refused;
 use fsmd_replies::answer::{Answer, Lines, Operand};
+use fsmd_synthesis_answers::fault::LangError;
+use fsmd_synthesis_answers::program::Program;
 use fsmd_synthesis_answers::programs::compiled_text;
-use hls_lang::fault::LangError;
-use hls_lang::program::Program;
-use hls_lang::read_program as read_program_text;
+use fsmd_synthesis_answers::read_program as read_program_text;
 use std::alloc::Global;
 
 // The program that the bytes of a file spell, or the answer that refuses them.

@@ -18,8 +18,8 @@ use fs_cut::cover::Point;
 use fs_model::parts::Parts;
 use fs_path_text::paths::point_text;
 use fsmd_replies::answer::{Answer, KeyFault, Lines, Operand};
+use fsmd_synthesis_answers::SchedError;
 use fsmd_synthesis_answers::schedules::scheduled_text;
-use hls_sched::SchedError;
 use hls_unit_counts::{UnitError, Units, read_units as read_unit_counts};
 use std::alloc::{AllocError, Global};
 

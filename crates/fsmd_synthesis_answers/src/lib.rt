@@ -10,3 +10,6 @@
 pub mod bindings;
 pub mod programs;
 pub mod schedules;
+
+pub use hls_lang::{fault, program, read_program};
+pub use hls_sched::SchedError;

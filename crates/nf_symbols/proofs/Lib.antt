@@ -5,3 +5,4 @@ pub mod Writing
 pub mod Substituted
 pub mod Mentioned
 pub mod Gathered
+pub use Rattle.nf_substitution.proofs.Values

@@ -1,2 +1,10 @@
 pub mod GatheredSymbols
 pub mod SymbolTests
+pub use Rattle.nf_substitution.specs.NewAtoms
+pub use Rattle.nf_substitution.specs.Pushes
+pub use Rattle.nf_substitution.specs.SamePlaces
+pub use Rattle.nf_substitution.specs.StayingTerms
+pub use Rattle.nf_substitution.specs.Substitution
+pub use Rattle.nf_substitution.specs.VectorPlaces
+pub use Rattle.nf_substitution.specs.Vectors
+pub use Rattle.nf_substitution.specs.Writes

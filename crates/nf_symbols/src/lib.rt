@@ -8,3 +8,5 @@
 
 pub mod gathering;
 pub mod laws;
+
+pub use nf_substitution::{shared_form, subst, vector};

@@ -13,7 +13,7 @@ use Rattle.nf_terms.specs.declared.form.Nf.TheVariants.{Num, Arr, Seq}
 use Rattle.nf_sums.specs.Operations.{normal_sum, normal_difference}
 use Rattle.nf_substitution.specs.Vectors.{number_at}
 use Rattle.nf_substitution.specs.Substitution.{polynomial_substituted}
-use Rattle.nf_symbols.proofs.Results.{added_within, subtracted_within}
+use Rattle.sym_facts.proofs.Results.{added_within, subtracted_within}
 use Rattle.sym_paths.specs.Execution.{Post}
 use Rattle.sym_facts.specs.Facts.{FactPosition, Fact}
 use Rattle.sym_facts.specs.Entailment.{form_like, Missing}

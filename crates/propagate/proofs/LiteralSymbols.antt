@@ -15,8 +15,8 @@ use Rattle.nf_terms.specs.declared.symbols.Sort.{Sort as TermSort}
 use Rattle.fs_model.specs.declared.sides.Pos.{Pos}
 use Rattle.nf_sums.specs.Operations.{normal_difference}
 use Rattle.nf_sums.proofs.Values.{goes_done}
-use Rattle.nf_symbols.proofs.Passing.{front, back, together}
-use Rattle.nf_symbols.proofs.Results.{subtracted_within, negation_within}
+use Rattle.sym_facts.proofs.Passing.{front, back, together}
+use Rattle.sym_facts.proofs.Results.{subtracted_within, negation_within}
 use Rattle.nf_rel.specs.declared.kind.Kind.TheVariants.{Eq, Ne}
 use Rattle.nf_rel.specs.Literals.{NormalLiteral, True, False, Is, truth, common_divisor, divide_coefficients, begins_positive, signed_number, Form, AtLeastZero}
 use Rattle.nf_rel.specs.Literals.{IsZero, IsNotZero, form_holds, bounded_literal, bounded_by, literal_form, one, against_zero, literal}

@@ -22,9 +22,9 @@ use Rattle.nf_sums.specs.Operations.{normal_sum, normal_difference, number}
 use Rattle.nf_sums.proofs.Values.{goes_done}
 use Rattle.nf_substitution.specs.Vectors.{form_at, number_or, array_or, list_or, number_at}
 use Rattle.nf_substitution.specs.Substitution.{polynomial_substituted, array_substituted, list_substituted}
-use Rattle.nf_symbols.specs.SymbolTests.{LeadsTo}
-use Rattle.nf_symbols.proofs.Results.{added_within, subtracted_within, number_done_within}
-use Rattle.nf_symbols.proofs.Substituted.{polynomial_over, array_term_over, list_over}
+use Rattle.sym_facts.specs.SymbolTests.{LeadsTo}
+use Rattle.sym_facts.proofs.Results.{added_within, subtracted_within, number_done_within}
+use Rattle.sym_facts.proofs.Substituted.{polynomial_over, array_term_over, list_over}
 use Rattle.nf_rel.specs.Literals.{NormalLiteral, True, False, Is, literal}
 use Rattle.sym_paths.specs.Sequences.{each}
 use Rattle.sym_paths.specs.Execution.{Post}

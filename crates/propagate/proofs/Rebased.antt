@@ -31,8 +31,8 @@ use Rattle.nf_sums.proofs.Values.{goes_done, added_value, subtracted_value}
 use Rattle.nf_substitution.specs.Vectors.{form_at, number_or, array_or, list_or, number_at, array_form, list_at, vector_meaning}
 use Rattle.nf_substitution.specs.Substitution.{polynomial_substituted, array_substituted, list_substituted}
 use Rattle.nf_substitution.proofs.Values.{substituted_value, array_value, list_value}
-use Rattle.nf_symbols.specs.SymbolTests.{AgreeAt}
-use Rattle.nf_symbols.proofs.Agreement.{value_same, array_same, list_same}
+use Rattle.sym_facts.specs.SymbolTests.{AgreeAt}
+use Rattle.sym_facts.proofs.Agreement.{value_same, array_same, list_same}
 use Rattle.nf_rel.specs.Literals.{NormalLiteral, True, False, Is, meets, is_true_in, all_true_in}
 use Rattle.sym_paths.specs.Sequences.{each}
 use Rattle.sym_paths.specs.Execution.{Post}

@@ -11,8 +11,8 @@ use Rattle.fs_model.specs.declared.sides.Pos.{Pos}
 use Rattle.nf_terms.specs.declared.form.Nf.{Nf}
 use Rattle.nf_sums.proofs.Values.{goes_done}
 use Rattle.nf_substitution.specs.SamePlaces.{pos_equal, own_pos}
-use Rattle.nf_symbols.specs.SymbolTests.{is_other}
-use Rattle.nf_symbols.proofs.Mentioned.{number_other, form_other}
+use Rattle.sym_facts.specs.SymbolTests.{is_other}
+use Rattle.sym_facts.proofs.Mentioned.{number_other, form_other}
 use Rattle.nf_rel.specs.Literals.{NormalLiteral, True, False, Is}
 use Rattle.sym_paths.specs.Execution.{Post}
 use Rattle.sym_facts.specs.Facts.{FactPosition, Fact, equation_mentions, literal_mentions, is_mentioned, is_unsolved, is_solved}

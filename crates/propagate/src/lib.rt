@@ -15,3 +15,5 @@ pub mod joins;
 pub mod laws;
 pub mod modes;
 pub mod rebases;
+
+pub use nf_substitution::subst;

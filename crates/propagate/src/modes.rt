@@ -15,8 +15,8 @@ ghost use Rattle.propagate.specs.Modes.{is_open_path as is_open_under, count_fro
 ghost use Rattle.propagate.specs.View.{Traces};
 
 use cert_bisimulation::mode::Mode;
-use fs_ast::machine::Machine;
 use fs_cut::cover::{Cover, Path, Point};
+use fs_cut::machine::Machine;
 use nf_refutation::refutation::is_refuted;
 use nf_rel::literals::NLit;
 use nf_substitution::vector::Vector;

@@ -7,13 +7,13 @@ ghost use Rattle.propagate_equations.specs.Equations.{is_held, number_held, form
 
 use nf_rel::literals::NLit;
 use nf_substitution::vector::Vector;
-use nf_symbols::gathering::{symbols_of_nf, symbols_of_poly};
 use nf_terms::form::Nf;
 use nf_terms::poly::Poly;
 use nf_terms::stop::NoMemory;
 use nf_terms::symbols::Sort;
 use nf_terms::tree::Pos;
 use std::alloc::Global;
+use sym_facts::gathering::{symbols_of_nf, symbols_of_poly};
 
 /// Whether a symbol is held: a new meaning stands for it.
 pub fn is_held(meanings: &Vector, p: Pos, sort: Sort) -> bool

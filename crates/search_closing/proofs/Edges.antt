@@ -15,7 +15,7 @@ use Rattle.nf_terms.specs.declared.stop.NoMemory.{NoMemory}
 use Rattle.nf_terms.specs.Computed.{Computed, Done, Wide, Large}
 use Rattle.nf_rel.specs.Literals.{is_refuted}
 use Rattle.sym_paths.specs.Execution.{Post, end_of}
-use Rattle.propagate.specs.Modes.{Traced, Found, WideAt, LargeAt}
+use Rattle.search_tables.specs.Modes.{Traced, Found, WideAt, LargeAt}
 use Rattle.cert_model.specs.Obligations.{same_alone}
 use Rattle.search_tables.specs.Walks.{InRange, lists_in}
 use Rattle.search_tables.specs.declared.nodes.TableNode.{TableNode}

@@ -7,7 +7,7 @@ use Rattle.std.proofs.lemmas.List.{length-map}
 use Rattle.std.proofs.lemmas.Option.{slice_get-map, slice_get_read, slice_get_within, slice_get-get_or}
 use Rattle.fs_model.proofs.Booleans.{and_first, and_second}
 use Rattle.cert_bisimulation.specs.declared.mode.Mode.{Mode}
-use Rattle.propagate.specs.Modes.{Traced, Found}
+use Rattle.search_tables.specs.Modes.{Traced, Found}
 use Rattle.search_tables.specs.SearchTables.{MachinePair, SearchNode, Table}
 use Rattle.search_tables.specs.Next.{mode_at, paths_in, IsClosed}
 use Rattle.search_tables.specs.declared.nodes.TableNode.{TableNode}

@@ -6,7 +6,7 @@ use Rattle.cert_bisimulation.specs.declared.mode.Mode.{Mode}
 use Rattle.cert_bisimulation.specs.Tables.{Node as CertificateNode}
 use Rattle.nf_terms.specs.declared.stop.NoMemory.{NoMemory}
 use Rattle.sym_facts.specs.Facts.{Fact}
-use Rattle.propagate.specs.Modes.{Traced, Found}
+use Rattle.search_tables.specs.Modes.{Traced, Found}
 use Rattle.cert_model.specs.View.{node_of}
 use Rattle.search_tables.specs.Graphs.{IsCycle, BeginsLeast, AreRanks}
 use Rattle.search_tables.specs.Walks.{IsRanking}

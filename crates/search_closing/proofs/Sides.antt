@@ -5,7 +5,7 @@ use Rattle.std.specs.List.{AllByRecursion}
 use Rattle.cert_bisimulation.specs.declared.mode.Mode.{Mode}
 use Rattle.cert_bisimulation.specs.declared.mode.Mode.TheVariants.{Both, Left, Right, End}
 use Rattle.fs_model.specs.declared.sides.Side.{Side}
-use Rattle.propagate.specs.Modes.{Found}
+use Rattle.search_tables.specs.Modes.{Found}
 use Rattle.cert_model.specs.Obligations.{same_alone}
 use Rattle.search_tables.specs.Graphs.{first_or, Follow, IsCycle, BeginsLeast}
 use Rattle.search_tables.specs.SearchTables.{MachinePair, Table}

@@ -3,7 +3,7 @@ use Rattle.std.proofs.Common.{◌≡◌, ℕ, refl, ap, ◌∙◌, Bool, true, f
 use Rattle.fs_cut.specs.Paths.{Point}
 use Rattle.cert_bisimulation.specs.declared.mode.Mode.{Mode}
 use Rattle.cert_bisimulation.specs.declared.mode.Mode.TheVariants.{Both}
-use Rattle.propagate.specs.Modes.{Traced, Found, WideAt, LargeAt}
+use Rattle.search_tables.specs.Modes.{Traced, Found, WideAt, LargeAt}
 use Rattle.cert_model.specs.Obligations.{same_alone}
 use Rattle.nf_terms.specs.Computed.{Computed, Done, Wide, Large}
 use Rattle.nf_rel.specs.Literals.{is_refuted}

@@ -4,7 +4,7 @@ use Rattle.cert_bisimulation.specs.declared.mode.Mode.{Mode}
 use Rattle.cert_bisimulation.specs.declared.mode.Mode.TheVariants.{Right}
 use Rattle.fs_model.specs.declared.sides.Side.{Side}
 use Rattle.fs_model.specs.declared.sides.Side.TheVariants as side
-use Rattle.propagate.specs.Modes.{Traced, Found, WideAt, LargeAt}
+use Rattle.search_tables.specs.Modes.{Traced, Found, WideAt, LargeAt}
 use Rattle.search_tables.specs.SearchTables.{MachinePair, Table}
 use Rattle.search_tables.specs.Next.{mode_at}
 

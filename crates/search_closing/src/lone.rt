@@ -8,7 +8,7 @@ ghost use Rattle.nf_terms.specs.Computed.{Answers, Done, after};
 ghost use Rattle.nf_rel.specs.Literals.{is_refuted as refuted};
 ghost use Rattle.sym_paths.specs.Execution.{end_of};
 ghost use Rattle.sym_paths.specs.View.{answer_in_data, post_in};
-ghost use Rattle.propagate.specs.Modes.{Found};
+ghost use Rattle.search_tables.specs.Modes.{Found};
 ghost use Rattle.cert_model.specs.Obligations.{same_alone};
 ghost use Rattle.search_tables.specs.Walks.{lists_in};
 ghost use Rattle.search_tables.specs.SearchTables.{Keeps, node_target, effect, arrival};

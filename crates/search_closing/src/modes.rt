@@ -3,7 +3,7 @@
 ghost use Rattle.std.specs.Prelude.{◌≡◌, ◌&&◌, IsTrue, IfOk};
 ghost use Rattle.fs_cut.specs.Paths.{is_point};
 ghost use Rattle.fs_cut.specs.View.{point_of};
-ghost use Rattle.propagate.specs.Modes.{Found};
+ghost use Rattle.search_tables.specs.Modes.{Found};
 ghost use Rattle.search_tables.specs.Next.{mode_at, IsClosed};
 ghost use Rattle.search_tables.specs.TableInvariants.{IsWellFormed};
 ghost use Rattle.search_tables.specs.View.{table_in, table_node_in};
@@ -14,7 +14,7 @@ use crate::covered::Covered;
 use cert_bisimulation::mode::Mode;
 use nf_terms::stop::{NfStop, NoMemory};
 use nf_terms::tree::Side;
-use propagate::modes::mode;
+use search_tables::modes::mode;
 use search_tables::nodes::TableNode;
 use std::alloc::Global;
 

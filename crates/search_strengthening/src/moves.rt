@@ -2,9 +2,9 @@
 
 use fs_cut::cover::{Path, Point};
 use nf_refutation::refutation::is_refuted;
-use search_strengthening_claims::weeding::weed;
 use search_strengthening_facts::facts::fact_of;
 use search_strengthening_facts::first_facts::{FirstFact, first_fact};
+use search_strengthening_facts::weeding::weed;
 use search_strengthening_tables::nodes::{NodeMove, SearchNode, Settled, find, find_version};
 use search_strengthening_tables::sides::{Covered, Sides};
 use search_strengthening_tables::state::{State, add, change_fact};

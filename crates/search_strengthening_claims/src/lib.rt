@@ -13,3 +13,5 @@
 pub mod claims;
 pub mod tested_facts;
 pub mod weeding;
+
+pub use search_strengthening_terms::{order, stop, universe, work};

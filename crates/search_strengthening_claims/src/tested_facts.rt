@@ -12,13 +12,13 @@ use fs_model::parts::Sort;
 use fs_pair::positions::{Pairing, Position};
 use nf_rel::literals::NLit;
 use nf_rel::normal::is_normal;
-use nf_symbols::gathering::{symbols_of_nf, symbols_of_poly};
 use nf_terms::form::Nf;
 use nf_terms::stop::NoMemory;
 use nf_terms::symbols::Sort as TermSort;
 use nf_terms::tree::Pos;
 use std::alloc::Global;
 use sym_facts::fact::{Fact, FactError};
+use sym_facts::gathering::{symbols_of_nf, symbols_of_poly};
 
 /// The most literals of a fact.
 pub const LITERAL_LIMIT: usize = 64;

@@ -3,9 +3,9 @@
 use crate::claims::{Claims, form_at};
 use nf_rel::clashes::implied;
 use nf_rel::literals::NLit;
-use nf_substitution::subst::Subst;
 use nf_terms::form::Nf;
 use nf_terms::stop::NoMemory;
+use propagate::subst::Subst;
 use search_strengthening_terms::stop::{Stop, unless_stopped};
 use search_strengthening_terms::universe::Universe;
 use search_strengthening_terms::work::Work;

@@ -2,8 +2,8 @@
 
 use crate::facts::fact_of;
 use fs_pair::positions::Pairing;
-use search_strengthening_claims::claims::{Claims, claims_before};
-use search_strengthening_claims::weeding::weed;
+use search_strengthening_solutions::claims::{Claims, claims_before};
+use search_strengthening_solutions::weeding::weed;
 use search_strengthening_terms::stop::Stop;
 use search_strengthening_terms::universe::Universe;
 use search_strengthening_terms::work::Work;

@@ -8,3 +8,5 @@ pub mod first_facts;
 mod literals;
 pub mod open_paths;
 pub mod outputs;
+
+pub use search_strengthening_solutions::weeding;

@@ -4,7 +4,7 @@ use nf_rel::clashes::implied;
 use nf_rel::literals::NLit;
 use nf_substitution::subst::Subst;
 use nf_substitution::vector::Vector;
-use search_strengthening_claims::tested_facts::LITERAL_LIMIT;
+use search_strengthening_solutions::tested_facts::LITERAL_LIMIT;
 use search_strengthening_terms::stop::{Stop, unless_stopped};
 use search_strengthening_terms::work::Work;
 use std::alloc::Global;

@@ -11,3 +11,5 @@ pub mod equating;
 pub mod settling;
 pub mod solution;
 mod solving;
+
+pub use search_strengthening_claims::{claims, tested_facts, weeding};

@@ -4,9 +4,9 @@ use cert_model::covers::cover_of;
 use fs_ast::machine::Machine;
 use fs_cut::cover::Cover;
 use fs_pair::positions::Pairing;
-use search_strengthening_terms::order::PointOrder;
-use search_strengthening_terms::stop::Stop;
-use search_strengthening_terms::universe::{Universe, universe_of};
+use search_strengthening_claims::order::PointOrder;
+use search_strengthening_claims::stop::Stop;
+use search_strengthening_claims::universe::{Universe, universe_of};
 use std::alloc::Global;
 
 /// A machine with its cover, and its points in order.

@@ -4,13 +4,13 @@ use crate::universe::{Term, Universe};
 use fs_pair::positions::Position;
 use nf_rel::copies::is_same;
 use nf_rel::literals::NLit;
-use nf_symbols::gathering::symbols_of_nf;
 use nf_terms::form::Nf;
 use nf_terms::stop::NoMemory;
 use nf_terms::symbols::Sort;
 use nf_terms::tree::Pos;
 use nf_vectors::vector::Vector;
 use std::alloc::Global;
+use sym_facts::gathering::symbols_of_nf;
 
 /// The most terms of a universe.
 pub const TERM_LIMIT: usize = 512;

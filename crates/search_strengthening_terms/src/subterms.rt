@@ -14,7 +14,7 @@ use nf_terms::stop::NoMemory;
 use nf_terms::tree::Side;
 use std::alloc::Global;
 use std::rc::Rc;
-use sym_paths::evaluation::evaluate;
+use sym_facts::evaluation::evaluate;
 
 // Adds the term that an expression is.
 fn add_term(

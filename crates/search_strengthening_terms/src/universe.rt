@@ -15,8 +15,8 @@ use nf_terms::seq::Seq;
 use nf_terms::stop::NoMemory;
 use nf_terms::tree::{Base, Pos, SeqBase, Side};
 use std::alloc::Global;
+use sym_facts::evaluation::evaluate;
 use sym_facts::fact::own_symbol;
-use sym_paths::evaluation::evaluate;
 
 /// A term over the symbols of positions, and the places of the positions that it mentions.
 #[derive(Drop)]

@@ -7,8 +7,8 @@ use Rattle.std.proofs.lemmas.Option.{slice_get_within, get_or_from_slice_get}
 use Rattle.std.specs.Prelude.{is_none, sum_by, slice_get, slice_set}
 use Rattle.fs_cut.specs.Paths.{Point}
 use Rattle.propagate.specs.Execution.{Post, end_of, arrive}
-use Rattle.sym_facts.specs.Facts.{FactPosition, vector_of, most_literals}
-use Rattle.sym_facts.specs.Starts.{start_position, start_fact}
+use Rattle.cert_model.specs.Facts.{FactPosition, vector_of, most_literals}
+use Rattle.cert_model.specs.Starts.{start_position, start_fact}
 use Rattle.propagate.specs.Strength.{with_equation_count, strength}
 use Rattle.propagate.proofs.Strength.{rebase_bounded, join_weaker}
 use Rattle.cert_model.specs.Lawful.{most_nodes}

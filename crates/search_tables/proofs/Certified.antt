@@ -15,9 +15,9 @@ use Rattle.cert_bisimulation.specs.declared.mode.Mode.TheVariants.{Both, Left, R
 use Rattle.cert_bisimulation.specs.Tables.{Node as CertificateNode}
 use Rattle.nf_terms.specs.Computed.{Done, after}
 use Rattle.propagate.specs.Execution.{Post}
-use Rattle.sym_facts.specs.Facts.{Fact, vector_of}
-use Rattle.sym_facts.specs.Entailment.{entails}
-use Rattle.sym_facts.specs.Starts.{start_fact}
+use Rattle.cert_model.specs.Facts.{Fact, vector_of}
+use Rattle.cert_model.specs.Entailment.{entails}
+use Rattle.cert_model.specs.Starts.{start_fact}
 use Rattle.propagate.specs.Modes.{Found}
 use Rattle.cert_model.specs.declared.reason.Reason.TheVariants as reason
 use Rattle.cert_model.specs.Obligations.{Judged, node_at, first_missing, start_reaches, judge_move, mode_fits, same_forms, judge_output, moves_by, owed_by}

@@ -8,8 +8,8 @@ use Rattle.cert_bisimulation.specs.declared.mode.Mode.{Mode}
 use Rattle.nf_terms.specs.Computed.{Computed, Done, Wide, Large}
 use Rattle.nf_rel.specs.Literals.{is_refuted}
 use Rattle.propagate.specs.Execution.{Post}
-use Rattle.sym_facts.specs.Facts.{Fact}
-use Rattle.sym_facts.specs.Entailment.{Missing, entails, is_nothing}
+use Rattle.cert_model.specs.Facts.{Fact}
+use Rattle.cert_model.specs.Entailment.{Missing, entails, is_nothing}
 use Rattle.propagate.specs.Joins.{join}
 use Rattle.propagate.specs.Rebases.{rebase}
 use Rattle.propagate.specs.Modes.{Traced, Found, WideAt, LargeAt}

@@ -6,9 +6,9 @@ use Rattle.fs_model.proofs.Quantifiers.{each_append, each_at}
 use Rattle.fs_cut.specs.Paths.{Point}
 use Rattle.fs_pair.specs.declared.positions.Position.{Position}
 use Rattle.propagate.specs.Execution.{Post, arrive, end_of}
-use Rattle.sym_facts.specs.Facts.{vector_of}
-use Rattle.sym_facts.specs.Pairings.{IsFactOf}
-use Rattle.sym_facts.proofs.StartSolved.{of_the_pairing}
+use Rattle.cert_model.specs.Facts.{vector_of}
+use Rattle.cert_model.specs.Pairings.{IsFactOf}
+use Rattle.cert_model.proofs.StartSolved.{of_the_pairing}
 use Rattle.propagate.proofs.Paired.{rebase_paired}
 use Rattle.propagate.proofs.JoinPaired.{join_paired}
 use Rattle.search_tables.specs.declared.moves.Move.{Move}

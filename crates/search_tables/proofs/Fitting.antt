@@ -8,7 +8,7 @@ use Rattle.fs_cut.specs.Covers.{paths_of}
 use Rattle.cert_bisimulation.specs.declared.mode.Mode.{Mode}
 use Rattle.cert_bisimulation.specs.declared.mode.Mode.TheVariants.{Both, Left, Right, End}
 use Rattle.fs_model.specs.declared.sides.Side.TheVariants as side
-use Rattle.sym_facts.specs.Facts.{Fact}
+use Rattle.cert_model.specs.Facts.{Fact}
 use Rattle.propagate.specs.Modes.{Traced, Found, WideAt, LargeAt, traced_then, count_from, mode_of_counts, mode_by, mode_of}
 use Rattle.cert_model.specs.Obligations.{is_done, mode_fits}
 

@@ -18,7 +18,7 @@ use Rattle.fs_pair.specs.declared.positions.Position.{Position}
 use Rattle.cert_bisimulation.specs.declared.mode.Mode.{Mode}
 use Rattle.cert_bisimulation.specs.declared.mode.Mode.TheVariants.{Both, Left, Right, End}
 use Rattle.propagate.specs.Execution.{Post, end_of, arrive}
-use Rattle.sym_facts.specs.Facts.{Fact, vector_of}
+use Rattle.cert_model.specs.Facts.{Fact, vector_of}
 use Rattle.search_tables.specs.declared.moves.Move.{Move}
 use Rattle.search_tables.specs.SearchTables.{MachinePair, positions_of, SearchNode, Table, first_table, Unknown, Known, target_from, is_at, with_fact, PathPair}
 use Rattle.search_tables.specs.Next.{paths_in, Change, next_move}

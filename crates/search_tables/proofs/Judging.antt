@@ -14,8 +14,8 @@ use Rattle.cert_bisimulation.specs.Tables.{Node as CertificateNode}
 use Rattle.nf_terms.specs.Computed.{Computed, Done, after}
 use Rattle.nf_rel.specs.Literals.{is_refuted}
 use Rattle.propagate.specs.Execution.{Post, arrive, end_of}
-use Rattle.sym_facts.specs.Facts.{Fact, vector_of}
-use Rattle.sym_facts.specs.Entailment.{Missing, entails, is_nothing}
+use Rattle.cert_model.specs.Facts.{Fact, vector_of}
+use Rattle.cert_model.specs.Entailment.{Missing, entails, is_nothing}
 use Rattle.propagate.specs.Modes.{Found}
 use Rattle.cert_model.specs.Obligations.{Judged, node_at, first_missing, same_alone, rank_falls, reaches, judge_move}
 use Rattle.search_tables.specs.Graphs.{above}

@@ -8,8 +8,8 @@ use Rattle.std.proofs.lemmas.Bool.{and_from}
 use Rattle.fs_cut.specs.Paths.{is_point}
 use Rattle.fs_cut.specs.Covers.{same_point}
 use Rattle.cert_bisimulation.specs.Tables.{Node as CertificateNode}
-use Rattle.sym_facts.specs.Facts.{Fact}
-use Rattle.sym_facts.specs.Pairings.{IsFactOf}
+use Rattle.cert_model.specs.Facts.{Fact}
+use Rattle.cert_model.specs.Pairings.{IsFactOf}
 use Rattle.cert_model.specs.Lawful.{most_rank, points_differ, IsLawful}
 use Rattle.search_tables.specs.SearchTables.{MachinePair, positions_of, SearchNode, Table}
 use Rattle.search_tables.specs.TableInvariants.{nodes_differ, IsWellFormed}

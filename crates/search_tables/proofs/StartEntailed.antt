@@ -30,10 +30,10 @@ use Rattle.nf_sums.specs.Operations.{normal_sum, normal_product}
 use Rattle.propagate.specs.Vectors.{form_at, number_or, array_or, list_or, number_at, array_form, list_at}
 use Rattle.propagate.specs.SamePlaces.{pos_equal, own_pos, own_sort}
 use Rattle.propagate.specs.Sequences.{each}
-use Rattle.sym_facts.specs.Facts.{FactPosition, own_symbol, form_or_symbol, vector_of}
-use Rattle.sym_facts.specs.Entailment.{form_like, equation_met, false_places, entails}
-use Rattle.sym_facts.specs.Starts.{zero_of, start_form, partner_in, start_position, start_fact}
-use Rattle.sym_facts.proofs.StartHolds.{left_side, partner_is_input, by_form}
+use Rattle.cert_model.specs.Facts.{FactPosition, own_symbol, form_or_symbol, vector_of}
+use Rattle.cert_model.specs.Entailment.{form_like, equation_met, false_places, entails}
+use Rattle.cert_model.specs.Starts.{zero_of, start_form, partner_in, start_position, start_fact}
+use Rattle.cert_model.proofs.StartHolds.{left_side, partner_is_input, by_form}
 
 -- ---- forms are the same as themselves
 pub own_form : (f : Nf) → same_form f f ≡ true

@@ -3,7 +3,7 @@ use Rattle.std.proofs.Common.{◌≡◌, ℕ, suc, ◌+◌, refl, ap, ◌∙◌,
 use Rattle.std.specs.Prelude.{slice_get}
 use Rattle.fs_cut.specs.Paths.{Point}
 use Rattle.cert_bisimulation.specs.Tables.{Node as CertificateNode}
-use Rattle.sym_facts.specs.Facts.{Fact}
+use Rattle.cert_model.specs.Facts.{Fact}
 use Rattle.cert_model.specs.Obligations.{node_at}
 use Rattle.search_tables.specs.SearchTables.{SearchNode, Known, target_from, is_at}
 use Rattle.search_tables.specs.Certifying.{node_without_mode}

@@ -2,7 +2,7 @@
 use Rattle.std.specs.Prelude.{◌≡◌, ℕ, List, map}
 use Rattle.std.specs.List.{AllByRecursion}
 use Rattle.cert_bisimulation.specs.Tables.{Node as CertificateNode}
-use Rattle.sym_facts.specs.Facts.{Fact}
+use Rattle.cert_model.specs.Facts.{Fact}
 use Rattle.propagate.specs.Modes.{Found}
 use Rattle.search_tables.specs.SearchTables.{MachinePair, SearchNode, Table}
 use Rattle.search_tables.specs.Next.{mode_at}

@@ -5,7 +5,7 @@ use Rattle.fs_cut.specs.Paths.{Done}
 use Rattle.fs_pair.specs.PairedOutputs.{OutputPair, output_pairs}
 use Rattle.fs_model.specs.declared.sides.Pos.{Pos}
 use Rattle.nf_terms.specs.declared.form.Nf.{Nf}
-use Rattle.sym_facts.specs.Facts.{vector_of}
+use Rattle.cert_model.specs.Facts.{vector_of}
 use Rattle.cert_model.specs.Obligations.{same_forms}
 use Rattle.search_tables.specs.declared.moves.Move.{Move}
 use Rattle.search_tables.specs.SearchTables.{MachinePair, SearchNode, Table, is_at, first_table}

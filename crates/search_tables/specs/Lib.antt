@@ -11,3 +11,6 @@ pub mod Obstacles
 pub mod View
 pub use Rattle.cert_model.specs.Obligations
 pub use Rattle.propagate.specs.Modes
+pub use Rattle.cert_model.specs.PointKeys
+pub use Rattle.propagate.specs.Joins
+pub use Rattle.propagate.specs.Rebases

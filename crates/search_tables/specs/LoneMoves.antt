@@ -9,7 +9,7 @@ use Rattle.fs_model.specs.declared.sides.Side.TheVariants as side
 use Rattle.nf_terms.specs.Computed.{Computed, Done, Wide, Large}
 use Rattle.nf_rel.specs.Literals.{is_refuted}
 use Rattle.propagate.specs.Execution.{Post, arrive, end_of}
-use Rattle.sym_facts.specs.Facts.{vector_of}
+use Rattle.cert_model.specs.Facts.{vector_of}
 use Rattle.propagate.specs.Modes.{Traced, Found, WideAt, LargeAt}
 use Rattle.cert_model.specs.Obligations.{same_alone}
 use Rattle.search_tables.specs.Graphs.{IsCycle, BeginsLeast}

@@ -8,9 +8,9 @@ use Rattle.fs_cut.specs.Covers.{same_point}
 use Rattle.nf_terms.specs.Computed.{Computed, Done, Wide, Large}
 use Rattle.nf_rel.specs.Literals.{is_refuted}
 use Rattle.propagate.specs.Execution.{Post, arrive, end_of}
-use Rattle.sym_facts.specs.Facts.{Fact, vector_of, size_of_fact}
-use Rattle.sym_facts.specs.Entailment.{Missing, entails, is_nothing}
-use Rattle.sym_facts.specs.Starts.{start_fact}
+use Rattle.cert_model.specs.Facts.{Fact, vector_of, size_of_fact}
+use Rattle.cert_model.specs.Entailment.{Missing, entails, is_nothing}
+use Rattle.cert_model.specs.Starts.{start_fact}
 use Rattle.propagate.specs.Joins.{join}
 use Rattle.propagate.specs.Rebases.{rebase}
 use Rattle.cert_model.specs.Lawful.{most_nodes}

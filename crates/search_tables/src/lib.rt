@@ -32,3 +32,6 @@ pub mod outcome;
 pub mod rank_laws;
 pub mod ranking;
 pub mod walk;
+
+pub use cert_model::keys;
+pub use propagate::modes;

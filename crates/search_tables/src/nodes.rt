@@ -1,7 +1,7 @@
 //! Nodes of a table.
 
+use cert_model::fact::Fact;
 use fs_cut::cover::Point;
-use sym_facts::fact::Fact;
 
 /// The pair of points of a node.
 #[derive(Clone, Copy)]

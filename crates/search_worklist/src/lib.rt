@@ -13,3 +13,5 @@ pub mod state;
 pub mod trial;
 mod trials;
 pub mod turns;
+
+pub use search_places::nodes;

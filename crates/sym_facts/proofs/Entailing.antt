@@ -16,9 +16,9 @@ use Rattle.nf_terms.specs.declared.form.Nf.{Nf}
 use Rattle.nf_terms.specs.declared.form.Nf.TheVariants.{Num, Arr, Seq}
 use Rattle.nf_sums.specs.Operations.{number}
 use Rattle.nf_sums.proofs.Values.{goes_done}
-use Rattle.nf_substitution.specs.Vectors.{number_at, array_form, list_at, vector_meaning}
-use Rattle.nf_substitution.specs.Substitution.{polynomial_substituted, array_substituted, list_substituted}
-use Rattle.nf_substitution.proofs.Values.{substituted_value, array_value, list_value, number_is}
+use Rattle.nf_symbols.specs.Vectors.{number_at, array_form, list_at, vector_meaning}
+use Rattle.nf_symbols.specs.Substitution.{polynomial_substituted, array_substituted, list_substituted}
+use Rattle.nf_symbols.proofs.Values.{substituted_value, array_value, list_value, number_is}
 use Rattle.nf_rel.specs.declared.kind.Kind.{Kind}
 use Rattle.nf_rel.specs.declared.kind.Kind.TheVariants.{Ge, Le, Eq, Ne}
 use Rattle.nf_rel.specs.Literals.{NormalLiteral, True, False, Is, meets, is_true_in, all_true_in, literal, is_implied}

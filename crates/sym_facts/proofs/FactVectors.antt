@@ -19,8 +19,8 @@ use Rattle.nf_terms.specs.declared.tree.SeqBase.TheVariants as list
 use Rattle.nf_terms.specs.declared.form.Nf.{Nf}
 use Rattle.nf_terms.specs.declared.form.Nf.TheVariants.{Num, Arr, Seq}
 use Rattle.nf_terms.specs.TermSorts.{same_term_sort}
-use Rattle.nf_substitution.specs.Vectors.{form_at, number_or, array_or, list_or, number_at, array_form, list_at, vector_meaning}
-use Rattle.nf_substitution.specs.SamePlaces.{pos_equal}
+use Rattle.nf_symbols.specs.Vectors.{form_at, number_or, array_or, list_or, number_at, array_form, list_at, vector_meaning}
+use Rattle.nf_symbols.specs.SamePlaces.{pos_equal}
 use Rattle.sym_facts.specs.Facts.{FactPosition, own_symbol, form_or_symbol, vector_of, EquationHolds, EquationsHold}
 
 pub valuation_ext : (v w : Valuation) → ((p : Pos) → v.scalar p ≡ w.scalar p) → ((p : Pos) → v.array p ≡ w.array p) → ((p : Pos) → v.list p ≡ w.list p) → v ≡ w

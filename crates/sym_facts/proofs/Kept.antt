@@ -26,7 +26,7 @@ use Rattle.fs_model.specs.Sides.{same_side as same, same_side}
 use Rattle.nf_terms.specs.Forms.{sort_of_form}
 use Rattle.nf_terms.specs.declared.symbols.Sort.{Sort as TermSort}
 use Rattle.nf_terms.specs.declared.form.Nf.{Nf}
-use Rattle.nf_substitution.specs.SamePlaces.{own_pos, sorts_equal}
+use Rattle.nf_symbols.specs.SamePlaces.{own_pos, sorts_equal}
 use Rattle.nf_rel.specs.Literals.{NormalLiteral}
 use Rattle.sym_facts.specs.Facts.{FactPosition, Fact, IsFact, sort_of_terms, form_or_symbol, vector_of, has_its_sort, is_unsolved, may_be_kept, most_literals}
 use Rattle.sym_facts.specs.Pairings.{is_position, form_within, literal_within, IsFactOf}

@@ -15,3 +15,8 @@ pub use Rattle.sym_paths.proofs.Arrivals
 pub use Rattle.nf_rel.proofs.Truth
 pub use Rattle.nf_sums.proofs.Values
 pub use Rattle.nf_symbols.proofs.Passing
+pub use Rattle.nf_symbols.proofs.Agreement
+pub use Rattle.nf_symbols.proofs.Mentioned
+pub use Rattle.nf_symbols.proofs.Results
+pub use Rattle.nf_symbols.proofs.Substituted
+pub use Rattle.fs_pair.proofs.SameOutputs

@@ -16,8 +16,8 @@ use Rattle.nf_terms.specs.declared.form.Nf.{Nf}
 use Rattle.nf_terms.specs.declared.form.Nf.TheVariants.{Num, Arr, Seq}
 use Rattle.nf_sums.specs.Operations.{number}
 use Rattle.nf_sums.proofs.Values.{goes_done}
-use Rattle.nf_substitution.specs.Vectors.{is_entry_at, form_at, number_or, array_or, list_or}
-use Rattle.nf_substitution.specs.Substitution.{polynomial_substituted, array_substituted, list_substituted}
+use Rattle.nf_symbols.specs.Vectors.{is_entry_at, form_at, number_or, array_or, list_or}
+use Rattle.nf_symbols.specs.Substitution.{polynomial_substituted, array_substituted, list_substituted}
 use Rattle.nf_symbols.specs.SymbolTests.{LeadsTo}
 use Rattle.nf_symbols.proofs.Results.{number_done_within}
 use Rattle.nf_symbols.proofs.Substituted.{polynomial_over, array_term_over, list_over}

@@ -30,10 +30,10 @@ use Rattle.nf_terms.specs.declared.form.Nf.{Nf}
 use Rattle.nf_terms.specs.declared.form.Nf.TheVariants.{Num, Arr, Seq}
 use Rattle.nf_sums.specs.Operations.{normal_sum, normal_difference, normal_product, normal_negation}
 use Rattle.nf_sums.proofs.Values.{goes_done}
-use Rattle.nf_substitution.specs.NewAtoms.{quotient_of, remainder_of}
-use Rattle.nf_substitution.specs.Writes.{write_array, read_at}
-use Rattle.nf_substitution.specs.Pushes.{list_with_item}
-use Rattle.nf_substitution.specs.Vectors.{number_at, array_form, list_at, with_form}
+use Rattle.nf_symbols.specs.NewAtoms.{quotient_of, remainder_of}
+use Rattle.nf_symbols.specs.Writes.{write_array, read_at}
+use Rattle.nf_symbols.specs.Pushes.{list_with_item}
+use Rattle.nf_symbols.specs.Vectors.{number_at, array_form, list_at, with_form}
 use Rattle.nf_symbols.proofs.Passing.{front, back, together}
 use Rattle.nf_symbols.proofs.Results.{added_within, subtracted_within, multiplied_within, negation_within, number_done_within}
 use Rattle.nf_symbols.proofs.Writing.{read_within, written_within, pushed_within, quotient_within, remainder_within}

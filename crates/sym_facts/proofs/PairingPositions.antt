@@ -27,8 +27,8 @@ use Rattle.fs_model.specs.declared.sides.Side.{Side}
 use Rattle.fs_model.specs.Sides.{same_side}
 use Rattle.nf_terms.specs.declared.form.Nf.{Nf}
 use Rattle.nf_terms.specs.TermSorts.{same_term_sort}
-use Rattle.nf_substitution.specs.Vectors.{is_entry_at, with_form}
-use Rattle.nf_substitution.specs.SamePlaces.{pos_equal, own_pos, sorts_equal, own_sort}
+use Rattle.nf_symbols.specs.Vectors.{is_entry_at, with_form}
+use Rattle.nf_symbols.specs.SamePlaces.{pos_equal, own_pos, sorts_equal, own_sort}
 use Rattle.sym_paths.specs.ValuationStores.{at}
 use Rattle.sym_facts.specs.Facts.{sort_of_terms}
 use Rattle.sym_facts.specs.Pairings.{is_position, form_within, IsVectorOf}

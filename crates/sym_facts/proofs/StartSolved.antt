@@ -22,7 +22,7 @@ use Rattle.nf_terms.specs.TermSorts.{same_term_sort}
 use Rattle.fs_model.specs.declared.sides.Pos.{Pos}
 use Rattle.fs_model.specs.declared.sides.Side.{Side}
 use Rattle.fs_model.specs.declared.sides.Side.TheVariants as side
-use Rattle.nf_substitution.specs.SamePlaces.{pos_equal, own_pos, own_sort}
+use Rattle.nf_symbols.specs.SamePlaces.{pos_equal, own_pos, own_sort}
 use Rattle.sym_facts.specs.Facts.{sort_of_terms, own_symbol, form_or_symbol, vector_of, equation_mentions, is_mentioned, is_unsolved, has_its_sort, IsFact}
 use Rattle.sym_facts.specs.Pairings.{is_position, form_within, IsFactOf}
 use Rattle.sym_facts.specs.Starts.{zero_of, start_form, partner_in, start_position, start_fact}

@@ -7,8 +7,8 @@ use Rattle.nf_terms.specs.Forms.{sort_of_form}
 use Rattle.fs_model.specs.declared.sides.Pos.{Pos}
 use Rattle.nf_terms.specs.declared.form.Nf.{Nf}
 use Rattle.nf_terms.specs.TermSorts.{same_term_sort}
-use Rattle.nf_substitution.specs.Vectors.{with_form}
-use Rattle.nf_substitution.specs.SamePlaces.{pos_equal, own_pos}
+use Rattle.nf_symbols.specs.Vectors.{with_form}
+use Rattle.nf_symbols.specs.SamePlaces.{pos_equal, own_pos}
 use Rattle.sym_facts.specs.Facts.{FactPosition, vector_of}
 use Rattle.sym_facts.specs.FactParts.{are_distinct_positions}
 

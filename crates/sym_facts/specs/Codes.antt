@@ -12,7 +12,7 @@ use Rattle.nf_terms.specs.declared.form.Nf.{Nf}
 use Rattle.nf_rel.specs.declared.kind.Kind.{Kind}
 use Rattle.nf_rel.specs.declared.kind.Kind.TheVariants.{Ge, Le, Eq, Ne}
 use Rattle.nf_rel.specs.Literals.{NormalLiteral, True, False, Is}
-use Rattle.nf_substitution.specs.VectorPlaces.{coded_vector}
+use Rattle.nf_symbols.specs.VectorPlaces.{coded_vector}
 use Rattle.sym_paths.specs.Execution.{Post}
 use Rattle.sym_facts.specs.Facts.{FactPosition, Fact}
 

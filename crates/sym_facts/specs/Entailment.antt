@@ -8,9 +8,9 @@ use Rattle.fs_model.specs.declared.sides.Pos.{Pos}
 use Rattle.nf_terms.specs.declared.form.Nf.{Nf}
 use Rattle.nf_terms.specs.declared.form.Nf.TheVariants.{Num, Arr, Seq}
 use Rattle.nf_sums.specs.Operations.{number}
-use Rattle.nf_substitution.specs.Vectors.{number_at, array_form, list_at}
-use Rattle.nf_substitution.specs.Substitution.{polynomial_substituted, array_substituted, list_substituted}
-use Rattle.nf_substitution.specs.StayingTerms.{terms_stay}
+use Rattle.nf_symbols.specs.Vectors.{number_at, array_form, list_at}
+use Rattle.nf_symbols.specs.Substitution.{polynomial_substituted, array_substituted, list_substituted}
+use Rattle.nf_symbols.specs.StayingTerms.{terms_stay}
 use Rattle.nf_rel.specs.declared.kind.Kind.{Kind}
 use Rattle.nf_rel.specs.declared.kind.Kind.TheVariants.{Ge, Le, Eq, Ne}
 use Rattle.nf_rel.specs.Literals.{NormalLiteral, True, False, Is, literal, is_implied}

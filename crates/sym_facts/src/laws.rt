@@ -14,7 +14,7 @@ ghost use Rattle.nf_terms.specs.declared.symbols.Sort.{Sort as TermSort};
 ghost use Rattle.fs_model.specs.declared.sides.Pos.{Pos as PlainPos};
 ghost use Rattle.fs_model.specs.declared.sides.Side.{Side};
 ghost use Rattle.nf_terms.specs.declared.form.Nf.{Nf as PlainForm};
-ghost use Rattle.nf_substitution.specs.Vectors.{vector_meaning};
+ghost use Rattle.nf_symbols.specs.Vectors.{vector_meaning};
 ghost use Rattle.nf_symbols.specs.SymbolTests.{LeadsTo};
 ghost use Rattle.nf_rel.specs.Literals.{NormalLiteral, all_true_in};
 ghost use Rattle.sym_paths.specs.ValuationStores.{choose_side};

@@ -20,4 +20,5 @@ mod parts;
 mod position_set;
 pub mod start;
 
-pub use nf_substitution::shared_form;
+pub use nf_symbols::{gathering, shared_form};
+pub use sym_paths::evaluation;

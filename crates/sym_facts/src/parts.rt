@@ -14,7 +14,7 @@ use crate::mentioned::{add_form, add_number};
 use crate::position_set::PositionSet;
 use fs_pair::positions::Position;
 use nf_rel::literals::NLit;
-use nf_substitution::shared_form::SharedForm;
+use nf_symbols::shared_form::SharedForm;
 use nf_terms::form::Nf;
 use nf_terms::stop::NoMemory;
 use std::alloc::Global;

@@ -2,4 +2,4 @@ pub mod Values
 pub mod Changes
 pub mod Arrivals
 pub mod Loops
-pub use Rattle.fs_ast.proofs.Lifted
+pub use Rattle.fs_cut.proofs.Lifted

@@ -3,6 +3,6 @@ pub mod Sequences
 pub mod Evaluation
 pub mod Execution
 pub mod View
-pub use Rattle.fs_ast.specs.Branches
-pub use Rattle.fs_ast.specs.SoundParts
+pub use Rattle.fs_cut.specs.Branches
+pub use Rattle.fs_cut.specs.SoundParts
 pub use Rattle.fs_cut.specs.Paths

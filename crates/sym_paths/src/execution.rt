@@ -13,8 +13,8 @@ ghost use Rattle.sym_paths.specs.View.{answer_in_data, post_in};
 
 use crate::assignments::act_over;
 use crate::evaluation::evaluate_literals;
-use fs_ast::machine::Machine;
 use fs_cut::cover::{Path, Point};
+use fs_cut::machine::Machine;
 use fs_model::parts::{Assign, Branch, Lit, StateId, VarId};
 use nf_rel::literals::NLit;
 use nf_terms::stop::NfStop;

@@ -1,6 +1,6 @@
 use Rattle.std.proofs.Common.{inl, inr, ap, sym, ◌∙◌}
 use Rattle.cert_bisimulation.specs.declared.mode.Mode.TheVariants.{Both}
-use Rattle.propagate.specs.Modes.{Found}
+use Rattle.search_tables.specs.Modes.{Found}
 use Rattle.search_tables.specs.Next.{paths_in}
 use Rattle.search_tables.specs.LoneMoves.{lone_in}
 use Rattle.search_tables.specs.View.{table_in, table_node_in}

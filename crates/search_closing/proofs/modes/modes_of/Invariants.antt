@@ -1,5 +1,5 @@
 use Rattle.std.proofs.Common.{◌≡◌, ◌++◌, map, drop}
-use Rattle.propagate.specs.Modes.{Found}
+use Rattle.search_tables.specs.Modes.{Found}
 use Rattle.search_tables.specs.Next.{mode_at}
 use Rattle.search_tables.specs.View.{table_in}
 use Rattle.search_closing.specs.View.{covered_machines}
