@@ -27,7 +27,8 @@ use Rattle.sym_facts.specs.Facts.{sort_of_terms, own_symbol}
 use Rattle.sym_facts.specs.Entailment.{form_substituted}
 use Rattle.sym_facts.proofs.StartSolved.{own_sort_of}
 use Rattle.search_tables.specs.Rebases.{value_at, is_held, number_held, form_held, bare_base, symbol_of_array, symbol_of_list}
-use Rattle.search_tables.specs.Rebases.{bare_symbol, RebaseState, with_mark, unheld_symbol, symbol_found, first_by, first_pass, Split, split_off_symbol, less_rest}
+use Rattle.search_tables.specs.Rebases.{bare_symbol, RebaseState, with_mark, unheld_symbol, symbol_found, first_by}
+use Rattle.search_tables.specs.Rebases.{first_pass, Split, split_off_symbol, less_rest}
 use Rattle.search_tables.specs.Rebases.{Solution}
 use Rattle.search_tables.specs.Rebases.{solution, second_pass_solution, second_by, second_pass}
 use Rattle.alike_paths.specs.Risen.{is_risen}

@@ -3,7 +3,8 @@ use Rattle.std.specs.Prelude.{List, true, map}
 use Rattle.std.specs.List.{fold}
 use Rattle.clap.specs.Words.{App, Rule, Shape, Text, with_subcommand}
 use Rattle.clap.specs.Simple.{new_shape}
-use Rattle.fsmd_command_line.specs.CommandLine.{alone, cert_option, chain_words, command_with, file_word, loops_word, steps_option}
+use Rattle.fsmd_command_line.specs.CommandLine.{alone, cert_option, chain_words, command_with}
+use Rattle.fsmd_command_line.specs.CommandLine.{file_word, loops_word, steps_option}
 use Rattle.fsmd_command_line.specs.declared.subcommands.Argument.{Argument}
 use Rattle.fsmd_command_line.specs.declared.subcommands.Argument.TheVariants.{File, Files, Cert, Steps, Loops}
 use Rattle.fsmd_command_line.specs.declared.subcommands.Subcommand.{Subcommand}

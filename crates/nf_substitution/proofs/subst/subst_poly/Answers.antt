@@ -12,4 +12,5 @@ returns-clause-answers c =
 
 pub returns-clause-value : goal.returns-clause-value
 returns-clause-value c = poly_answer c.args.v.now c.args.p.now c.poly.result
-    (subst (λ (s : VectorWithAtoms). Answers {T = Polynomial} c.poly.result (polynomial_substituted s.vector c.args.p.now)) c.new.ensures c.poly.ensures.answers)
+    (subst (λ (s : VectorWithAtoms). Answers {T = Polynomial} c.poly.result (polynomial_substituted s.vector c.args.p.now)) c.new.ensures
+    c.poly.ensures.answers)

@@ -317,7 +317,8 @@ pub read-returns-in_err-index-clause-shorter : goal.read-returns-in_err-index-cl
 read-returns-in_err-index-clause-shorter t c = none_left c.from_residual-in_err-index.result c.in_err-index.field-0.0 _ c.from_residual-in_err-index.ensures.1
 
 pub read-returns-in_err-make_read-clause-shorter : goal.read-returns-in_err-make_read-clause-shorter
-read-returns-in_err-make_read-clause-shorter t c = none_left c.from_residual-in_err-make_read.result c.in_err-make_read.field-0.0 _ c.from_residual-in_err-make_read.ensures.1
+read-returns-in_err-make_read-clause-shorter t c =
+    none_left c.from_residual-in_err-make_read.result c.in_err-make_read.field-0.0 _ c.from_residual-in_err-make_read.ensures.1
 
 pub index-returns-in_err-open_bracket-clause-shorter : goal.index-returns-in_err-open_bracket-clause-shorter
 index-returns-in_err-open_bracket-clause-shorter t c = none_left c.from_residual.result c.in_err-open_bracket.field-0.0 _ c.from_residual.ensures.1
@@ -326,7 +327,8 @@ pub index-returns-in_err-index-clause-shorter : goal.index-returns-in_err-index-
 index-returns-in_err-index-clause-shorter t c = none_left c.from_residual-in_err-index.result c.in_err-index.field-0.0 _ c.from_residual-in_err-index.ensures.1
 
 pub index-returns-in_err-close_bracket-clause-shorter : goal.index-returns-in_err-close_bracket-clause-shorter
-index-returns-in_err-close_bracket-clause-shorter t c = none_left c.from_residual-in_err-close_bracket.result c.in_err-close_bracket.field-0.0 _ c.from_residual-in_err-close_bracket.ensures.1
+index-returns-in_err-close_bracket-clause-shorter t c =
+    none_left c.from_residual-in_err-close_bracket.result c.in_err-close_bracket.field-0.0 _ c.from_residual-in_err-close_bracket.ensures.1
 
 pub writes-returns-in_err-index-in-Some-clause-shorter : goal.writes-returns-in_err-index-in-Some-clause-shorter
 writes-returns-in_err-index-in-Some-clause-shorter t c = none_left c.from_residual.result c.in_err-index-in-Some.field-0.0 _ c.from_residual.ensures.1
@@ -335,10 +337,12 @@ pub writes-returns-in_err-index-in-Some-clause-ends : goal.writes-returns-in_err
 writes-returns-in_err-index-in-Some-clause-ends t c = none_left c.from_residual.result c.in_err-index-in-Some.field-0.0 _ c.from_residual.ensures.1
 
 pub writes-returns-in_err-push_write-in-Some-clause-shorter : goal.writes-returns-in_err-push_write-in-Some-clause-shorter
-writes-returns-in_err-push_write-in-Some-clause-shorter t c = none_left c.from_residual-in_err-push_write-in-Some.result c.in_err-push_write-in-Some.field-0.0 _ c.from_residual-in_err-push_write-in-Some.ensures.1
+writes-returns-in_err-push_write-in-Some-clause-shorter t c =
+    none_left c.from_residual-in_err-push_write-in-Some.result c.in_err-push_write-in-Some.field-0.0 _ c.from_residual-in_err-push_write-in-Some.ensures.1
 
 pub writes-returns-in_err-push_write-in-Some-clause-ends : goal.writes-returns-in_err-push_write-in-Some-clause-ends
-writes-returns-in_err-push_write-in-Some-clause-ends t c = none_left c.from_residual-in_err-push_write-in-Some.result c.in_err-push_write-in-Some.field-0.0 _ c.from_residual-in_err-push_write-in-Some.ensures.1
+writes-returns-in_err-push_write-in-Some-clause-ends t c =
+    none_left c.from_residual-in_err-push_write-in-Some.result c.in_err-push_write-in-Some.field-0.0 _ c.from_residual-in_err-push_write-in-Some.ensures.1
 
 pub write-returns-in_err-index-clause-shorter : goal.write-returns-in_err-index-clause-shorter
 write-returns-in_err-index-clause-shorter t c = none_left c.from_residual.result c.in_err-index.field-0.0 _ c.from_residual.ensures.1
@@ -353,37 +357,44 @@ pub braced-returns-in_err-made-clause-shorter : goal.braced-returns-in_err-made-
 braced-returns-in_err-made-clause-shorter t c = none_left c.from_residual.result c.in_err-made.field-0.0 _ c.from_residual.ensures.1
 
 pub braced-returns-in_err-close_brace-clause-shorter : goal.braced-returns-in_err-close_brace-clause-shorter
-braced-returns-in_err-close_brace-clause-shorter t c = none_left c.from_residual-in_err-close_brace.result c.in_err-close_brace.field-0.0 _ c.from_residual-in_err-close_brace.ensures.1
+braced-returns-in_err-close_brace-clause-shorter t c =
+    none_left c.from_residual-in_err-close_brace.result c.in_err-close_brace.field-0.0 _ c.from_residual-in_err-close_brace.ensures.1
 
 pub division-returns-in_err-left-clause-shorter : goal.division-returns-in_err-left-clause-shorter
 division-returns-in_err-left-clause-shorter t c = none_left c.from_residual.result c.in_err-left.field-0.0 _ c.from_residual.ensures.1
 
 pub division-returns-in_err-right-clause-shorter : goal.division-returns-in_err-right-clause-shorter
-division-returns-in_err-right-clause-shorter t c = none_left c.from_residual-in_err-right.result c.in_err-right.field-0.0 _ c.from_residual-in_err-right.ensures.1
+division-returns-in_err-right-clause-shorter t c =
+    none_left c.from_residual-in_err-right.result c.in_err-right.field-0.0 _ c.from_residual-in_err-right.ensures.1
 
 pub division-returns-in_err-make_division-clause-shorter : goal.division-returns-in_err-make_division-clause-shorter
-division-returns-in_err-make_division-clause-shorter t c = none_left c.from_residual-in_err-make_division.result c.in_err-make_division.field-0.0 _ c.from_residual-in_err-make_division.ensures.1
+division-returns-in_err-make_division-clause-shorter t c =
+    none_left c.from_residual-in_err-make_division.result c.in_err-make_division.field-0.0 _ c.from_residual-in_err-make_division.ensures.1
 
 pub right_side-returns-in_err-comma-clause-shorter : goal.right_side-returns-in_err-comma-clause-shorter
 right_side-returns-in_err-comma-clause-shorter t c = none_left c.from_residual.result c.in_err-comma.field-0.0 _ c.from_residual.ensures.1
 
 pub right_side-returns-in_err-right-clause-shorter : goal.right_side-returns-in_err-right-clause-shorter
-right_side-returns-in_err-right-clause-shorter t c = none_left c.from_residual-in_err-right.result c.in_err-right.field-0.0 _ c.from_residual-in_err-right.ensures.1
+right_side-returns-in_err-right-clause-shorter t c =
+    none_left c.from_residual-in_err-right.result c.in_err-right.field-0.0 _ c.from_residual-in_err-right.ensures.1
 
 pub right_side-returns-in_err-close_paren-clause-shorter : goal.right_side-returns-in_err-close_paren-clause-shorter
-right_side-returns-in_err-close_paren-clause-shorter t c = none_left c.from_residual-in_err-close_paren.result c.in_err-close_paren.field-0.0 _ c.from_residual-in_err-close_paren.ensures.1
+right_side-returns-in_err-close_paren-clause-shorter t c =
+    none_left c.from_residual-in_err-close_paren.result c.in_err-close_paren.field-0.0 _ c.from_residual-in_err-close_paren.ensures.1
 
 pub atoms-returns-in_err-next-in-Some-clause-shorter : goal.atoms-returns-in_err-next-in-Some-clause-shorter
 atoms-returns-in_err-next-in-Some-clause-shorter t c = none_left c.from_residual.result c.in_err-next-in-Some.field-0.0 _ c.from_residual.ensures.1
 
 pub atoms-returns-in_err-push_atom-in-Some-clause-shorter : goal.atoms-returns-in_err-push_atom-in-Some-clause-shorter
-atoms-returns-in_err-push_atom-in-Some-clause-shorter t c = none_left c.from_residual-in_err-push_atom-in-Some.result c.in_err-push_atom-in-Some.field-0.0 _ c.from_residual-in_err-push_atom-in-Some.ensures.1
+atoms-returns-in_err-push_atom-in-Some-clause-shorter t c =
+    none_left c.from_residual-in_err-push_atom-in-Some.result c.in_err-push_atom-in-Some.field-0.0 _ c.from_residual-in_err-push_atom-in-Some.ensures.1
 
 pub monomial-returns-in_err-head-clause-shorter : goal.monomial-returns-in_err-head-clause-shorter
 monomial-returns-in_err-head-clause-shorter t c = none_left c.from_residual.result c.in_err-head.field-0.0 _ c.from_residual.ensures.1
 
 pub monomial-returns-in_err-atoms-clause-shorter : goal.monomial-returns-in_err-atoms-clause-shorter
-monomial-returns-in_err-atoms-clause-shorter t c = none_left c.from_residual-in_err-atoms.result c.in_err-atoms.field-0.0 _ c.from_residual-in_err-atoms.ensures.1
+monomial-returns-in_err-atoms-clause-shorter t c =
+    none_left c.from_residual-in_err-atoms.result c.in_err-atoms.field-0.0 _ c.from_residual-in_err-atoms.ensures.1
 
 pub further-returns-in_err-minus-clause-shorter : goal.further-returns-in_err-minus-clause-shorter
 further-returns-in_err-minus-clause-shorter t c = none_left c.from_residual.result c.in_err-minus.field-0.0 _ c.from_residual.ensures.1
@@ -392,7 +403,8 @@ pub further-returns-in_err-next-clause-shorter : goal.further-returns-in_err-nex
 further-returns-in_err-next-clause-shorter t c = none_left c.from_residual-in_err-next.result c.in_err-next.field-0.0 _ c.from_residual-in_err-next.ensures.1
 
 pub monomials-returns-in_err-minus-in-Some-clause-shorter : goal.monomials-returns-in_err-minus-in-Some-clause-shorter
-monomials-returns-in_err-minus-in-Some-clause-shorter t c = none_left c.from_residual-in_err-minus-in-Some.result c.in_err-minus-in-Some.field-0.0 _ c.from_residual-in_err-minus-in-Some.ensures.1
+monomials-returns-in_err-minus-in-Some-clause-shorter t c =
+    none_left c.from_residual-in_err-minus-in-Some.result c.in_err-minus-in-Some.field-0.0 _ c.from_residual-in_err-minus-in-Some.ensures.1
 
 pub sum-returns-in_err-first-clause-shorter : goal.sum-returns-in_err-first-clause-shorter
 sum-returns-in_err-first-clause-shorter t c = none_left c.from_residual.result c.in_err-first.field-0.0 _ c.from_residual.ensures.1
@@ -401,7 +413,8 @@ pub read-returns-clause-shorter : goal.read-returns-clause-shorter
 read-returns-clause-shorter t c = less_than_all c.in_ok-index.ensures.shorter c.in_ok-array.ensures.shorter
 
 pub index-returns-clause-shorter : goal.index-returns-clause-shorter
-index-returns-clause-shorter t c = less_again c.in_ok-close_bracket.ensures.shorter (less_again c.in_ok-index.ensures.shorter c.in_ok-open_bracket.ensures.shorter)
+index-returns-clause-shorter t c =
+    less_again c.in_ok-close_bracket.ensures.shorter (less_again c.in_ok-index.ensures.shorter c.in_ok-open_bracket.ensures.shorter)
 
 pub write-returns-clause-shorter : goal.write-returns-clause-shorter
 write-returns-clause-shorter t c = less_again c.in_ok-value.ensures.shorter c.in_ok-index.ensures.shorter
