@@ -12,3 +12,5 @@
 pub mod laws;
 pub mod run;
 pub mod step;
+
+pub use fs_stores::{changes, inputs, store, values};
