@@ -14,7 +14,7 @@ use Rattle.sym_facts.specs.Entailment.{form_like, equation_met, literal_met, fal
 use Rattle.search_tables.specs.Rebases.{value_at}
 use Rattle.search_tables.specs.Joins.{Freed, symbol_like, tied_equation, with_equation, freed_with, position_joined, is_among, positions_joined, literals_kept}
 use Rattle.search_tables.specs.Joins.{join}
-use Rattle.alike_paths.specs.Risen.{IsRisenVector}
+use Rattle.alike_searches.specs.Risen.{IsRisenVector}
 use Rattle.alike_searches.specs.EvenFacts.{places_of, AreEvenValues, AreEvenPositions, IsEvenFact}
 use Rattle.alike_searches.proofs.Ties.{value_like, symbol_of_sort, tied_alike, tied_to_freed}
 use Rattle.alike_searches.proofs.Failing.{FailTogether, FailEvenly, fail_evenly}

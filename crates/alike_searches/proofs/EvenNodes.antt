@@ -14,7 +14,7 @@ use Rattle.sym_facts.proofs.Vectors.{positions_again}
 use Rattle.search_tables.specs.Modes.{Found, mode_of}
 use Rattle.search_tables.proofs.Whole.{sorts_kept}
 use Rattle.cert_bisimulation.specs.Alike.{Alike, DeclareTheSame}
-use Rattle.alike_paths.specs.Evenness.{IsEven}
+use Rattle.alike_searches.specs.Evenness.{IsEven}
 use Rattle.alike_searches.specs.Couples.{AreCouples, sorted_positions}
 use Rattle.alike_searches.specs.EvenFacts.{places_of}
 use Rattle.alike_searches.proofs.Coupled.{Among, positions_couple, positions_among}

@@ -20,7 +20,7 @@ use Rattle.sym_facts.specs.Entailment.{form_substituted}
 use Rattle.search_tables.specs.Rebases.{value_at, number_held, form_held, first_pass, second_pass, number_tied_to, number_tied, form_tied, rebase_tied_equation}
 use Rattle.search_tables.specs.Rebases.{equation_found}
 use Rattle.search_tables.specs.Rebases.{freed_with, with_equation, third_by, third_pass, with_needed, conditions_over, rebase}
-use Rattle.alike_paths.proofs.RisenSubstitutions.{self_difference}
+use Rattle.alike_searches.proofs.RisenSubstitutions.{self_difference}
 use Rattle.alike_searches.specs.EvenFacts.{AreEvenValues, AreEvenPositions, IsEvenFact}
 use Rattle.alike_searches.proofs.Extending.{extends_self}
 use Rattle.alike_searches.proofs.Freeing.{IsFreed, place, Marks, passes_mark}

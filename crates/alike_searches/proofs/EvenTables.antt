@@ -17,11 +17,11 @@ use Rattle.sym_facts.specs.Facts.{vector_of}
 use Rattle.sym_facts.proofs.StartSolved.{of_the_pairing}
 use Rattle.search_tables.proofs.Paired.{rebase_paired}
 use Rattle.search_tables.proofs.JoinPaired.{join_paired}
-use Rattle.alike_paths.specs.Risen.{IsRisenVector}
-use Rattle.alike_paths.proofs.RisenPaths.{arrival_rises}
+use Rattle.alike_searches.specs.Risen.{IsRisenVector}
+use Rattle.alike_searches.proofs.RisenPaths.{arrival_rises}
 use Rattle.cert_bisimulation.specs.Alike.{ArePaired, AlikePaths, AlikePoints, Alike}
-use Rattle.alike_paths.specs.Evenness.{IsEven}
-use Rattle.alike_paths.proofs.EvenPaths.{arrive_evenly}
+use Rattle.alike_searches.specs.Evenness.{IsEven}
+use Rattle.alike_searches.proofs.EvenPaths.{arrive_evenly}
 use Rattle.alike_searches.specs.Couples.{AreCouples, sorted_positions}
 use Rattle.alike_searches.specs.EvenFacts.{places_of, AreEvenValues}
 use Rattle.alike_searches.proofs.Coupled.{positions_couple}

@@ -25,7 +25,7 @@ use Rattle.sym_paths.specs.ValuationStores.{at}
 use Rattle.sym_facts.specs.Facts.{FactPosition, sort_of_terms, own_symbol, form_or_symbol, vector_of, has_its_sort}
 use Rattle.search_tables.specs.Rebases.{value_at}
 use Rattle.cert_bisimulation.specs.ExpressionSameness.{AreTwins}
-use Rattle.alike_paths.specs.Evenness.{IsEven}
+use Rattle.alike_searches.specs.Evenness.{IsEven}
 use Rattle.alike_searches.specs.EvenFacts.{places_of, AreEvenValues, AreEvenPositions}
 use Rattle.alike_searches.specs.Couples.{AreCouples}
 use Rattle.alike_searches.proofs.Coupled.{Among, one_name}

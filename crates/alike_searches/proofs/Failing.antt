@@ -22,8 +22,8 @@ use Rattle.sym_facts.specs.Facts.{FactPosition, own_symbol, form_or_symbol, has_
 use Rattle.sym_facts.specs.Entailment.{form_substituted, form_like, equation_met, false_places}
 use Rattle.search_tables.specs.Rebases.{value_at}
 use Rattle.search_tables.specs.Joins.{is_among}
-use Rattle.alike_paths.specs.Risen.{IsRisenVector}
-use Rattle.alike_paths.proofs.SubstitutedWorth.{symbol_substituted}
+use Rattle.alike_searches.specs.Risen.{IsRisenVector}
+use Rattle.alike_searches.proofs.SubstitutedWorth.{symbol_substituted}
 use Rattle.alike_searches.specs.EvenFacts.{places_of, AreEvenValues, AreEvenPositions}
 use Rattle.alike_searches.proofs.Ties.{same_of_equal, value_like}
 

@@ -31,8 +31,8 @@ use Rattle.search_tables.specs.Rebases.{bare_symbol, RebaseState, with_mark, unh
 use Rattle.search_tables.specs.Rebases.{first_pass, Split, split_off_symbol, less_rest}
 use Rattle.search_tables.specs.Rebases.{Solution}
 use Rattle.search_tables.specs.Rebases.{solution, second_pass_solution, second_by, second_pass}
-use Rattle.alike_paths.specs.Risen.{is_risen}
-use Rattle.alike_paths.proofs.SubstitutedWorth.{symbol_substituted}
+use Rattle.alike_searches.specs.Risen.{is_risen}
+use Rattle.alike_searches.proofs.SubstitutedWorth.{symbol_substituted}
 use Rattle.alike_searches.specs.EvenFacts.{AreEvenValues}
 use Rattle.alike_searches.proofs.Extending.{Extends, extends_self, extends_on, all_held, put_extends, put_there}
 use Rattle.alike_searches.proofs.Splits.{split_from, split_none, solved_back}

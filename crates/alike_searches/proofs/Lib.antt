@@ -1,3 +1,16 @@
+pub mod RisenForms
+pub mod ConstantParts
+pub mod Computing
+pub mod Opposites
+pub mod RisenOperations
+pub mod RisenSubstitutions
+pub mod SubstitutedWorth
+pub mod RisenPaths
+pub mod ExpressionTerms
+pub mod EvenPaths
+pub mod Parting
+pub mod OtherPaths
+pub mod OtherArrivals
 pub mod Pairs
 pub mod OwnExpressions
 pub mod SamePaths

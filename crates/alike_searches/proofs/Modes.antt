@@ -18,8 +18,8 @@ use Rattle.sym_facts.specs.Facts.{Fact, vector_of}
 use Rattle.search_tables.specs.Modes.{Traced, Found, WideAt, LargeAt, traced_then, on_path, is_open_path, count_open, count_from, mode_of_counts, mode_by}
 use Rattle.search_tables.specs.Modes.{mode_of}
 use Rattle.cert_bisimulation.specs.Alike.{AlikePoints}
-use Rattle.alike_paths.specs.Evenness.{IsEven}
-use Rattle.alike_paths.proofs.EvenPaths.{same_conditions}
+use Rattle.alike_searches.specs.Evenness.{IsEven}
+use Rattle.alike_searches.proofs.EvenPaths.{same_conditions}
 
 -- what is found in two steps was found in the first
 record Goes {S T : Type 0} (o : Traced S) (f : S → Traced T) (y : T) : Type 0 where

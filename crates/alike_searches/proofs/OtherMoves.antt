@@ -11,8 +11,8 @@ use Rattle.nf_rel.specs.Literals.{NormalLiteral, is_refuted}
 use Rattle.nf_rel.proofs.Clashing.{clash_refutes}
 use Rattle.sym_paths.specs.Execution.{Post, arrive}
 use Rattle.cert_bisimulation.specs.Alike.{AlikePoints}
-use Rattle.alike_paths.specs.Evenness.{IsEven}
-use Rattle.alike_paths.proofs.OtherArrivals.{arrivals_clash}
+use Rattle.alike_searches.specs.Evenness.{IsEven}
+use Rattle.alike_searches.proofs.OtherArrivals.{arrivals_clash}
 
 pub others_refuted : (a b : Fsmd) → IsSound a → (K : List (Point × Point)) (P Q : Point) (p q : Path) (ls : List NormalLiteral)
     (v : List (Pos × Nf)) (post : Post)

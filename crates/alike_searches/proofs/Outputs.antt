@@ -20,7 +20,7 @@ use Rattle.sym_paths.specs.ValuationStores.{at}
 use Rattle.search_tables.specs.Obligations.{same_forms}
 use Rattle.cert_bisimulation.specs.ExpressionSameness.{AreTwins}
 use Rattle.cert_bisimulation.specs.Alike.{DeclareTheSame}
-use Rattle.alike_paths.specs.Evenness.{IsEven}
+use Rattle.alike_searches.specs.Evenness.{IsEven}
 use Rattle.alike_searches.proofs.Coupled.{others_differ, not_again, first_of, rest_of, whole_suffix}
 use Rattle.alike_searches.proofs.Ties.{same_of_equal}
 

@@ -37,9 +37,9 @@ use Rattle.search_tables.specs.Rebases.{rebase_tied_equation, equation_found}
 use Rattle.search_tables.specs.Rebases.{freed_with, with_equation, third_pass, with_needed, conditions_over, rebase}
 use Rattle.search_tables.specs.Joins as joins
 use Rattle.search_tables.specs.Joins.{Freed, symbol_like, is_alike, position_joined, is_among, positions_joined, literals_kept, join}
-use Rattle.alike_paths.specs.Risen.{is_risen, is_risen_array, IsRisenVector}
-use Rattle.alike_paths.proofs.RisenOperations.{sum_rises, difference_rises}
-use Rattle.alike_paths.proofs.RisenSubstitutions.{substituted_rises, array_rises}
+use Rattle.alike_searches.specs.Risen.{is_risen, is_risen_array, IsRisenVector}
+use Rattle.alike_searches.proofs.RisenOperations.{sum_rises, difference_rises}
+use Rattle.alike_searches.proofs.RisenSubstitutions.{substituted_rises, array_rises}
 use Rattle.alike_searches.specs.RisenFacts.{IsRisenForm, IsRisenEquation, AreRisenPositions, IsRisenFact}
 
 own_rises : (s : Sort) (p : Pos) → IsRisenForm (own_symbol s p)

@@ -22,9 +22,9 @@ use Rattle.nf_substitution.specs.Vectors.{number_at}
 use Rattle.nf_substitution.proofs.LoneSymbols.{lone_is}
 use Rattle.nf_substitution.specs.Substitution.{atoms_substituted, terms_substituted, polynomial_substituted}
 use Rattle.search_tables.specs.Rebases.{is_held, number_held, lone_symbol, Split, with_more_of_split, split_by, split_at, split_off_symbol, less_rest}
-use Rattle.alike_paths.proofs.RisenForms.{settled_by_worth}
-use Rattle.alike_paths.proofs.RisenSubstitutions.{substituted_rises}
-use Rattle.alike_paths.proofs.SubstitutedWorth.{sum_worth, difference_worth, unit_worth, shift}
+use Rattle.alike_searches.proofs.RisenForms.{settled_by_worth}
+use Rattle.alike_searches.proofs.RisenSubstitutions.{substituted_rises}
+use Rattle.alike_searches.proofs.SubstitutedWorth.{sum_worth, difference_worth, unit_worth, shift}
 use Rattle.alike_searches.proofs.Extending.{all_left, all_right, all_joined, Extends, terms_again}
 
 -- ---- the symbol is not held, and with it all symbols are

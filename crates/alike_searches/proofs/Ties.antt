@@ -26,8 +26,8 @@ use Rattle.sym_facts.specs.Facts.{own_symbol, has_its_sort}
 use Rattle.sym_facts.specs.Entailment.{form_like}
 use Rattle.search_tables.specs.Rebases.{value_at}
 use Rattle.search_tables.specs.Joins.{Freed, symbol_like, number_tied_to, number_tied, is_alike, form_tied, tied_equation}
-use Rattle.alike_paths.proofs.Computing.{sum_is}
-use Rattle.alike_paths.proofs.RisenSubstitutions.{self_difference}
+use Rattle.alike_searches.proofs.Computing.{sum_is}
+use Rattle.alike_searches.proofs.RisenSubstitutions.{self_difference}
 
 -- ---- forms and sorts
 

@@ -1,9 +1,11 @@
+pub mod Risen
+pub mod Evenness
+pub mod Clashes
 pub mod RenamedStates
 pub mod SplitStates
 pub mod EvenFacts
 pub mod Couples
 pub mod RisenFacts
 pub mod Even
-pub use Rattle.alike_paths.specs.Evenness
 pub use Rattle.search_tables.specs.Obligations
 pub use Rattle.sym_facts.specs.Facts

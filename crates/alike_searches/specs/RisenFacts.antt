@@ -3,7 +3,7 @@ use Rattle.std.specs.Prelude.{◌≡◌, true, List, [], ◌∷◌, Option, Some
 use Rattle.nf_terms.specs.declared.form.Nf.{Nf}
 use Rattle.nf_terms.specs.declared.form.Nf.TheVariants.{Num, Arr, Seq}
 use Rattle.sym_facts.specs.Facts.{FactPosition, Fact}
-use Rattle.alike_paths.specs.Risen.{is_risen, is_risen_array}
+use Rattle.alike_searches.specs.Risen.{is_risen, is_risen_array}
 
 -- a number rises, and so do the values that are written to an array
 abbrev pub IsRisenForm : Nf → Type 0

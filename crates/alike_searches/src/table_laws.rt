@@ -17,7 +17,7 @@ ghost use Rattle.sym_facts.specs.Facts.{Fact, vector_of};
 ghost use Rattle.search_tables.specs.Obligations.{same_forms};
 ghost use Rattle.search_tables.specs.Modes.{Found, mode_of};
 ghost use Rattle.cert_bisimulation.specs.Alike.{DeclareTheSame, AlikePoints, Alike};
-ghost use Rattle.alike_paths.specs.Evenness.{IsEven};
+ghost use Rattle.alike_searches.specs.Evenness.{IsEven};
 ghost use Rattle.search_tables.specs.declared.moves.Move.{Move};
 ghost use Rattle.search_tables.specs.SearchTables.{MachinePair, SearchNode, Table, first_table};
 ghost use Rattle.search_tables.specs.Next.{Change, mode_at, next_move};

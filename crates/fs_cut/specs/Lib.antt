@@ -1,3 +1,4 @@
+pub mod PathTexts
 pub mod Paths
 pub mod Covers
 pub mod View

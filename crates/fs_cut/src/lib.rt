@@ -1,8 +1,9 @@
 //! Where runs of a machine are cut, and the paths between these points.
 //!
-//! Promises: points with their paths; each run is cut in exactly one way; runs go along paths.
+//! Promises: points with their paths; each run is cut in exactly one way; runs go along paths; the texts of points and
+//! paths.
 //!
-//! Rules: `specs/Paths`, `specs/Covers`, `specs/Cuts`.
+//! Rules: `specs/Paths`, `specs/Covers`, `specs/Cuts`, `specs/PathTexts`.
 //!
 //! Words:
 //! - cover: the points of a machine, each with its paths
@@ -16,6 +17,7 @@ pub mod cover;
 pub mod laws;
 pub mod make_cover;
 pub mod memory;
+pub mod path_text;
 pub mod points;
 mod walk;
 

@@ -1,2 +1,13 @@
+pub mod Complete
+pub mod Reached
+pub mod Sound
+pub mod Alternatives
+pub mod Beginning
+pub mod Exact
+pub mod Once
+pub mod Examples
+pub mod Inside
+pub mod Expressions
+pub mod Formats
 pub mod PartEnds
 pub mod Refusals

@@ -1,3 +1,8 @@
+pub mod Spelling
+pub mod WordWalks
+pub mod Beginnings
+pub mod Faults
+pub mod ExpressionEnds
 pub mod Tokens
 pub mod Operators
 pub mod Formats

@@ -1,2 +1,11 @@
+pub mod SoundDeclarations
+pub mod CompleteDeclarations
+pub mod ExactDeclarations
+pub mod Reached
+pub mod SoundExpressions
+pub mod Beginning
+pub mod CompleteExpressions
+pub mod ExactExpressions
+pub mod Called
 pub mod Steps
 pub mod Hosted

@@ -8,15 +8,15 @@ use Rattle.fs_grammar.specs.declared.fault.ReadError.{ReadError}
 use Rattle.fs_grammar.specs.declared.fault.ReadError.TheVariants.{Text, NoMemory}
 use Rattle.fs_grammar.specs.Tokens.{Gives}
 use Rattle.fs_lex.specs.Scan.{tokens_of}
-use Rattle.fs_grammar_laws.specs.Faults.{Spells, StopsAt}
-use Rattle.fs_grammar_laws.proofs.Exact.{read_is_spelled, fault_is_first}
-use Rattle.fs_text_laws.specs.Tokenization.{IsTokenIn}
-use Rattle.fs_text_laws.specs.Limit.{SpellWithin, StopWithin}
-use Rattle.fs_text_laws.proofs.Ended.{tokens_ended}
-use Rattle.fs_text_laws.proofs.Limit.{spelled_found, fault_stands}
-use Rattle.fs_text_laws.proofs.Read.{read_is_well_formed}
-use Rattle.fs_text_laws.specs.MachineTexts.{TextSpells, TextStops}
-use Rattle.fs_text_laws.proofs.Texts as texts
+use Rattle.fs_grammar.specs.Faults.{Spells, StopsAt}
+use Rattle.fs_grammar.proofs.Exact.{read_is_spelled, fault_is_first}
+use Rattle.fs_lex.specs.Tokenization.{IsTokenIn}
+use Rattle.fs_lex.specs.Limit.{SpellWithin, StopWithin}
+use Rattle.fs_lex.proofs.Ended.{tokens_ended}
+use Rattle.fs_lex.proofs.Limit.{spelled_found, fault_stands}
+use Rattle.fs_lex.proofs.Read.{read_is_well_formed}
+use Rattle.fs_lex.specs.MachineTexts.{TextSpells, TextStops}
+use Rattle.fs_lex.proofs.Texts as texts
 use Rattle.fs_text.specs.SourceOfText.{source_spelled, IfText}
 
 module _ {P : Type 0} (view : P → Source) (bytes : List ℕ) where

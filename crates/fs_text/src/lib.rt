@@ -9,11 +9,11 @@ ghost use Rattle.fs_model.specs.Limits.{most_text_bytes};
 ghost use Rattle.fs_model.specs.View.{source_of};
 ghost use Rattle.fs_model.specs.WellFormed.{is_well_formed};
 ghost use Rattle.fs_grammar.specs.Tokens.{Gives};
-ghost use Rattle.fs_grammar_laws.specs.Faults.{Spells, StopsAt};
+ghost use Rattle.fs_grammar.specs.Faults.{Spells, StopsAt};
 ghost use Rattle.fs_lex.specs.Scan.{tokens_of};
-ghost use Rattle.fs_text_laws.specs.Tokenization.{IsTokenIn};
-ghost use Rattle.fs_text_laws.specs.Limit.{SpellWithin, StopWithin};
-ghost use Rattle.fs_text_laws.specs.MachineTexts.{TextSpells, TextStops};
+ghost use Rattle.fs_lex.specs.Tokenization.{IsTokenIn};
+ghost use Rattle.fs_lex.specs.Limit.{SpellWithin, StopWithin};
+ghost use Rattle.fs_lex.specs.MachineTexts.{TextSpells, TextStops};
 ghost use Rattle.fs_text.specs.SourceOfText.{source_spelled, IfText};
 
 mod parse;

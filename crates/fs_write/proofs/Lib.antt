@@ -1,3 +1,7 @@
+pub mod Unlined
+pub mod MovedWords
+pub mod MovedTokens
+pub mod Gaps
 pub mod Allowed
 pub mod Steps
 pub mod Ends

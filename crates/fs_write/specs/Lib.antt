@@ -1,3 +1,4 @@
+pub mod CommentLines
 pub mod NeededFormats
 pub mod Canonical
 pub mod Spellable

@@ -4,12 +4,14 @@
 //! transition, and parentheses and braces only where leaving them out would change the parts. The
 //! definitions stand in `specs/`.
 //!
-//! Promises: `write_parts`: the canonical text, and that it reads as the parts.
+//! Promises: `write_parts`: the canonical text, and that it reads as the parts; alone or behind comment lines it spells
+//! their machine and keeps the rules where they do.
 //!
-//! Rules: `specs/Canonical`, `specs/CanonicalLines`, `src/laws`.
+//! Rules: `specs/Canonical`, `specs/CanonicalLines`, `src/laws`, `specs/CommentLines`, `src/reading_laws`.
 //!
 //! Words:
 //! - canonical text: the one text that `fmt` writes of a machine
+//! - comment line: a comment on a line of its own
 #![tactic(auto)]
 
 ghost use Rattle.std.specs.Prelude.{◌≡◌, IsTrue, IfOk, Ok};
@@ -23,6 +25,7 @@ ghost use Rattle.fs_write.specs.CanonicalLines.{with_canonical_lines};
 mod formats;
 mod guards;
 pub mod laws;
+pub mod reading_laws;
 mod states;
 mod terms;
 

@@ -2,8 +2,8 @@
 use Rattle.std.proofs.Common.{ℕ, List, sym, subst}
 use Rattle.std.specs.Prelude.{IsTrue}
 use Rattle.fs_model.specs.Machines.{Fsmd}
-use Rattle.fs_text_laws.proofs.Read.{read_is_well_formed}
-use Rattle.fs_text_laws.proofs.Texts.{reads}
+use Rattle.fs_lex.proofs.Read.{read_is_well_formed}
+use Rattle.fs_lex.proofs.Texts.{reads}
 use Rattle.hls_shrink.specs.Given.{has_no_input_port}
 use Rattle.hls_shrink.proofs.ByName.{no_input_ports}
 use Rattle.fsmd_answers.specs.MachineFiles.{SpellsMachine}

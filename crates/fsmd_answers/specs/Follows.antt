@@ -10,7 +10,7 @@ use Rattle.fs_pair.specs.Interfaces.{interface_fault}
 use Rattle.cert_bisimulation.specs.Tables.{Node}
 use Rattle.cert_model.specs.Obligations.{Yes, verdict_on}
 use Rattle.sym_facts.specs.Facts.{Fact}
-use Rattle.hls_program_laws.specs.Programs.{Program}
+use Rattle.hls_program_parts.specs.Programs.{Program}
 use Rattle.hls_unit_counts.specs.Counts.{Units}
 use Rattle.fsmd_synthesis_answers.specs.BindingAnswers.{Binding}
 use Rattle.fsmd_replies.specs.declared.answer.Operand.{Operand}
@@ -18,7 +18,7 @@ use Rattle.fsmd_replies.specs.declared.answer.Answer.{Answer}
 use Rattle.fsmd_replies.specs.declared.answer.Answer.TheVariants.{Usage, Text}
 use Rattle.fsmd_replies.specs.AskedFiles.{operand}
 use Rattle.fsmd_answers.specs.MachineFiles.{SpellsParts, SpellsMachine}
-use Rattle.fs_path_text.specs.PathTexts.{paths_text}
+use Rattle.fs_cut.specs.PathTexts.{paths_text}
 use Rattle.fs_write.specs.Canonical.{canonical}
 use Rattle.fsmd_answers.specs.Readings.{FileContent, OfBytes, Reading}
 use Rattle.fsmd_answers.specs.Refusals.{RefusesMachine, RefusesPair, RefusesCertificate, SpellsCertificate}

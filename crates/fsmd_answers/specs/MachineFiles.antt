@@ -4,7 +4,7 @@ use Rattle.fs_model.specs.Source.{Source}
 use Rattle.fs_model.specs.Machines.{Fsmd}
 use Rattle.fs_model.specs.Limits.{most_text_bytes}
 use Rattle.fs_grammar.specs.declared.fault.TextFault.{TextFault}
-use Rattle.fs_text_laws.specs.MachineTexts.{TextSpells, TextStops}
+use Rattle.fs_lex.specs.MachineTexts.{TextSpells, TextStops}
 use Rattle.fs_rules.specs.declared.check.CheckFault.{CheckFault}
 use Rattle.fs_rules.specs.MachineOfParts.{machine_of}
 use Rattle.fs_rules.specs.Rules.{BreaksNoRule, IsFirstBroken}

@@ -5,7 +5,7 @@ ghost use Rattle.std.specs.Result.{IfErr};
 ghost use Rattle.fs_model.specs.Limits.{most_text_bytes};
 ghost use Rattle.fs_model.specs.Machines.{Fsmd};
 ghost use Rattle.fs_model.specs.View.{source_of};
-ghost use Rattle.hls_binding_laws.specs.Bindings.{IsBindingOf};
+ghost use Rattle.hls_bind.specs.Bindings.{IsBindingOf};
 ghost use Rattle.hls_bind.specs.BindingMembers.{IsRefusedAsBinding};
 ghost use Rattle.hls_bind.specs.Results.{IsBuiltOf};
 ghost use Rattle.fsmd_answers.specs.Readings.{Readable};

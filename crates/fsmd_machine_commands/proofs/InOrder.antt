@@ -6,7 +6,7 @@ use Rattle.fsmd_words.specs.AskedWords.{Asked}
 use Rattle.fs_base.specs.Outside.{FilesTold}
 use Rattle.fs_model.specs.Machines.{Fsmd}
 use Rattle.fs_pair.specs.Interfaces.{interface_fault}
-use Rattle.hls_program_laws.specs.Programs.{Program}
+use Rattle.hls_program_parts.specs.Programs.{Program}
 use Rattle.fsmd_replies.specs.declared.answer.Operand.{Operand}
 use Rattle.fsmd_replies.specs.declared.answer.Answer.{Answer}
 use Rattle.fsmd_answers.specs.declared.refused.Refused.{Refused as Refusal}

@@ -10,7 +10,7 @@ ghost use Rattle.fs_stores.specs.InputValues.{signatures_of, inputs_of, Serves};
 ghost use Rattle.fs_pair.specs.Positions.{positions};
 ghost use Rattle.cert_model.specs.View.{node_of};
 ghost use Rattle.fsmd_replies.specs.AskedFiles.{file_word_of};
-ghost use Rattle.hls_binding_laws.specs.Bindings.{IsBindingOf};
+ghost use Rattle.hls_bind.specs.Bindings.{IsBindingOf};
 ghost use Rattle.hls_unit_counts.specs.Counts.{units_in};
 ghost use Rattle.fsmd_answers.specs.MachineFiles.{SpellsMachine};
 ghost use Rattle.fsmd_answers.specs.Unread.{IsUnread};

@@ -5,7 +5,7 @@ use Rattle.fs_cut.specs.Paths.{Point}
 use Rattle.fs_cut.specs.Covers.{paths_from, cover_of}
 use Rattle.fs_model.specs.declared.sides.Side.{Side}
 use Rattle.fs_model.specs.declared.sides.Side.TheVariants as side
-use Rattle.fs_path_text.specs.PathTexts.{point_text, named_path}
+use Rattle.fs_cut.specs.PathTexts.{point_text, named_path}
 use Rattle.search_tables.specs.declared.moves.Move.{Move}
 use Rattle.search_tables.specs.declared.outcome.Budget.{Budget}
 use Rattle.search_tables.specs.declared.outcome.Budget.TheVariants as budget

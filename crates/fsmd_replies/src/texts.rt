@@ -2,7 +2,7 @@
 
 ghost use Rattle.std.specs.Prelude.{◌≡◌, map, IfOk, slice_get};
 ghost use Rattle.fs_cut.specs.View.{point_of, path_of};
-ghost use Rattle.fs_path_text.specs.PathTexts.{named_path};
+ghost use Rattle.fs_cut.specs.PathTexts.{named_path};
 ghost use Rattle.search_tables.specs.View.{points_in};
 ghost use Rattle.search_tables.specs.SearchTables.{machines};
 ghost use Rattle.fsmd_replies.specs.ObstacleTexts.{text_of_lookup, both_sides, branch_text, side_text, move_text};
@@ -11,7 +11,7 @@ ghost use Rattle.fsmd_replies.specs.ObstacleTexts.{last_move_text, node_points_t
 use fs_ast::machine::Machine;
 use fs_cut::cover::{Path, Point};
 use fs_cut::make_cover::point_paths;
-use fs_path_text::paths::{point_text, write_named_path};
+use fs_cut::path_text::{point_text, write_named_path};
 use nf_terms::stop::NoMemory;
 use search_tables::moves::Move;
 use search_tables::nodes::NodePoints;

@@ -16,9 +16,9 @@ use Rattle.fs_model.specs.Words.{is_letter, is_word_byte, is_word, is_reserved, 
 use Rattle.fs_ast.specs.SoundParts.{IsSound}
 use Rattle.fs_ast.specs.StoredBranches.{state_name_of}
 use Rattle.fs_lex.specs.Lexemes.{is_in_comment}
-use Rattle.fs_text_laws.specs.MachineTexts.{TextSpells}
-use Rattle.fs_write_laws.specs.CommentLines.{IsCommentLine, lines_moved}
-use Rattle.fs_write_laws.proofs.Gaps.{lines_spell}
+use Rattle.fs_lex.specs.MachineTexts.{TextSpells}
+use Rattle.fs_write.specs.CommentLines.{IsCommentLine, lines_moved}
+use Rattle.fs_write.proofs.Gaps.{lines_spell}
 use Rattle.hls_sched.specs.declared.scheduling.LineReport.{LineReport}
 use Rattle.hls_sched.specs.Reports.{Report, report_of}
 use Rattle.fsmd_synthesis_answers.specs.ScheduleAnswers.{report_text}

@@ -7,14 +7,14 @@ use Rattle.fs_ast.specs.MachineOfParts.{machine_of}
 use Rattle.fs_ast.specs.Rules.{BreaksNoRule}
 use Rattle.fs_grammar.specs.Grammar.{at_start, reading}
 use Rattle.fs_lex.specs.Scan.{tokens_of}
-use Rattle.fs_text_laws.proofs.Texts.{spells}
+use Rattle.fs_lex.proofs.Texts.{spells}
 use Rattle.fs_write.specs.Canonical.{canonical}
 use Rattle.fs_write.specs.CanonicalLines.{with_canonical_lines}
 use Rattle.fs_write.proofs.Again.{only_lines}
-use Rattle.fs_write_laws.proofs.Unlined.{same_machine, same_law}
-use Rattle.hls_program_laws.specs.Programs.{Program}
-use Rattle.hls_program_laws.specs.Compiled.{parts_of}
-use Rattle.hls_program_laws.specs.ProgramMeaning.{DoesAs}
+use Rattle.fs_write.proofs.Unlined.{same_machine, same_law}
+use Rattle.hls_program_parts.specs.Programs.{Program}
+use Rattle.hls_program_parts.specs.Compiled.{parts_of}
+use Rattle.hls_program_parts.specs.ProgramMeaning.{DoesAs}
 use Rattle.fsmd_synthesis_answers.specs.ProgramAnswers.{IsCompiledText}
 
 of_parts : (program : Program) (text : List ℕ) → BreaksNoRule (parts_of program) → DoesAs program (machine_of (parts_of program))

@@ -6,11 +6,11 @@ use Rattle.fs_model.specs.Source.{Source}
 use Rattle.fs_ast.specs.MachineOfParts.{machine_of}
 use Rattle.fs_grammar.specs.Grammar.{at_start, reading}
 use Rattle.fs_lex.specs.Scan.{tokens_of}
-use Rattle.fs_text_laws.proofs.Texts.{spells}
+use Rattle.fs_lex.proofs.Texts.{spells}
 use Rattle.fs_write.specs.Canonical.{canonical}
 use Rattle.fs_write.specs.CanonicalLines.{with_canonical_lines}
 use Rattle.fs_write.proofs.Again.{only_lines}
-use Rattle.fs_write_laws.proofs.Unlined.{same_machine, same_law}
+use Rattle.fs_write.proofs.Unlined.{same_machine, same_law}
 use Rattle.hls_bind.specs.Results.{IsYes}
 use Rattle.fsmd_synthesis_answers.specs.BindingAnswers.{Binding, IsBoundText}
 

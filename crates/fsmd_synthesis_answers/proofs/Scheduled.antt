@@ -7,12 +7,12 @@ use Rattle.fs_model.specs.Runs.{SameBehaviour}
 use Rattle.fs_model.specs.Source.{Source}
 use Rattle.fs_ast.specs.MachineOfParts.{machine_of}
 use Rattle.fs_ast.specs.Rules.{BreaksNoRule}
-use Rattle.fs_text_laws.specs.MachineTexts.{TextSpells}
+use Rattle.fs_lex.specs.MachineTexts.{TextSpells}
 use Rattle.fs_write.specs.Canonical.{canonical}
 use Rattle.fs_write.specs.CanonicalLines.{with_canonical_lines, without_lines}
 use Rattle.fs_write.proofs.Again.{only_lines}
-use Rattle.fs_write_laws.specs.CommentLines.{lines_moved}
-use Rattle.fs_write_laws.proofs.Unlined.{same_machine, same_law, moved_same}
+use Rattle.fs_write.specs.CommentLines.{lines_moved}
+use Rattle.fs_write.proofs.Unlined.{same_machine, same_law, moved_same}
 use Rattle.hls_unit_counts.specs.Counts.{Units}
 use Rattle.hls_sched.specs.Over.{over_in}
 use Rattle.hls_line_schedules.specs.Schedules.{IsWithin, schedule_of}

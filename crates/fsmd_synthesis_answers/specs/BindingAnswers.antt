@@ -6,9 +6,9 @@ use Rattle.fs_model.specs.VariableNames.{variable_name}
 use Rattle.fs_ast.specs.MachineOfParts.{machine_of}
 use Rattle.fs_ast.specs.Rules.{BreaksNoRule}
 use Rattle.fs_ast.specs.StoredBranches.{state_name_of}
-use Rattle.fs_text_laws.specs.MachineTexts.{TextSpells}
+use Rattle.fs_lex.specs.MachineTexts.{TextSpells}
 use Rattle.fs_write.specs.Canonical.{canonical}
-use Rattle.hls_binding_laws.specs.Conflicts.{Conflict, IsFirstConflict}
+use Rattle.hls_bind.specs.Conflicts.{Conflict, IsFirstConflict}
 use Rattle.hls_bind.specs.Results.{IsYes}
 use Rattle.fsmd_synthesis_answers.specs.declared.bindings.BindingAnswer.{BindingAnswer}
 use Rattle.fsmd_synthesis_answers.specs.declared.bindings.BindingAnswer.TheVariants.{Bound, Lost}

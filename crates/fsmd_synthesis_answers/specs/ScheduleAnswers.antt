@@ -7,7 +7,7 @@ use Rattle.fs_model.specs.Source.{Source}
 use Rattle.fs_ast.specs.MachineOfParts.{machine_of}
 use Rattle.fs_ast.specs.Rules.{BreaksNoRule}
 use Rattle.fs_ast.specs.StoredBranches.{state_name_of}
-use Rattle.fs_text_laws.specs.MachineTexts.{TextSpells}
+use Rattle.fs_lex.specs.MachineTexts.{TextSpells}
 use Rattle.fs_write.specs.Canonical.{canonical}
 use Rattle.hls_unit_counts.specs.Counts.{Units}
 use Rattle.hls_sched.specs.Over.{over_in}

@@ -2,14 +2,14 @@
 
 ghost use Rattle.std.specs.Prelude.{◌≡◌, ◌++◌, cond, codes, decimal, IfOk, string_bytes};
 ghost use Rattle.fs_model.specs.View.{source_of};
-ghost use Rattle.hls_binding_laws.specs.Bindings.{IsBindingOf};
+ghost use Rattle.hls_bind.specs.Bindings.{IsBindingOf};
 ghost use Rattle.hls_bind.specs.Results.{IsBuiltOf};
 ghost use Rattle.fsmd_synthesis_answers.specs.BindingAnswers.{conflict_text, IsRightOf};
 
 use fs_ast::machine::Machine;
 use fs_cut::cover::Point;
+use fs_cut::path_text::point_text;
 use fs_model::parts::{Parts, StateId, VarId};
-use fs_path_text::paths::point_text;
 use fs_write::write_parts;
 use fsmd_replies::variables::variable_name;
 use hls_bind::{Binding, Bound, bind};

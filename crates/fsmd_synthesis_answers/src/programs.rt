@@ -2,8 +2,8 @@
 
 ghost use Rattle.std.specs.Prelude.{IsTrue, IfOk};
 ghost use Rattle.std.specs.Result.{IfErr};
-ghost use Rattle.hls_program_laws.specs.Compiled.{parts_of};
-ghost use Rattle.hls_program_laws.specs.WellFormedPrograms.{is_well_formed_program};
+ghost use Rattle.hls_program_parts.specs.Compiled.{parts_of};
+ghost use Rattle.hls_program_parts.specs.WellFormedPrograms.{is_well_formed_program};
 ghost use Rattle.hls_program_parts.specs.View.{program_of};
 ghost use Rattle.hls_lang.specs.Refusals.{IsRefusalOf};
 ghost use Rattle.fsmd_synthesis_answers.specs.ProgramAnswers.{IsCompiledText};
@@ -12,7 +12,7 @@ use fs_write::write_parts;
 use hls_lang::compile::{Compiled, compile};
 use hls_lang::fault::LangError;
 use hls_lang::program::Program;
-use hls_program_laws::parts_of_programs_are_well_formed;
+use hls_program_parts::laws::parts_of_programs_are_well_formed;
 use std::alloc::Global;
 
 /// The canonical text of the parts to which a well-formed program is compiled, which spells a machine that does what the program

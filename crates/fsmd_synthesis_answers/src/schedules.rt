@@ -5,10 +5,10 @@ ghost use Rattle.std.specs.List.{flat_map};
 ghost use Rattle.std.specs.Result.{OnOk, IfErr};
 ghost use Rattle.fs_model.specs.View.{source_of};
 ghost use Rattle.fs_model.specs.WellFormed.{is_well_formed};
-ghost use Rattle.fs_text_laws.specs.MachineTexts.{TextSpells};
+ghost use Rattle.fs_lex.specs.MachineTexts.{TextSpells};
 ghost use Rattle.fs_write.specs.Canonical.{canonical};
 ghost use Rattle.fs_write.specs.CanonicalLines.{with_canonical_lines};
-ghost use Rattle.fs_write_laws.specs.CommentLines.{lines_moved};
+ghost use Rattle.fs_write.specs.CommentLines.{lines_moved};
 ghost use Rattle.hls_unit_counts.specs.Counts.{units_in};
 ghost use Rattle.hls_bind.specs.Results.{IsBuiltOf};
 ghost use Rattle.hls_sched.specs.Reports.{report_of, IsNotScheduled};
@@ -16,8 +16,8 @@ ghost use Rattle.fsmd_synthesis_answers.specs.ScheduleAnswers.{report_text, IsSc
 
 use fs_ast::machine::Machine;
 use fs_cut::cover::Point;
+use fs_cut::path_text::point_text;
 use fs_model::parts::Parts;
-use fs_path_text::paths::point_text;
 use fs_write::write_parts;
 use hls_sched::{LineReport, SchedError, Scheduled, schedule};
 use hls_unit_counts::Units;

@@ -9,10 +9,10 @@ use Rattle.fs_model.specs.Runs.{Inputs}
 use Rattle.fs_model.specs.Source.{Source}
 use Rattle.fs_ast.specs.MachineOfParts.{machine_of}
 use Rattle.fs_write.specs.Canonical.{canonical}
-use Rattle.fs_path_text.specs.PathTexts.{paths_text}
+use Rattle.fs_cut.specs.PathTexts.{paths_text}
 use Rattle.cert_bisimulation.specs.Tables.{Node}
 use Rattle.sym_facts.specs.Facts.{Fact}
-use Rattle.hls_program_laws.specs.Programs.{Program}
+use Rattle.hls_program_parts.specs.Programs.{Program}
 use Rattle.hls_unit_counts.specs.Counts.{Units}
 use Rattle.fsmd_commands.specs.BindingAnswers.{Binding}
 use Rattle.fsmd_replies.specs.declared.answer.Operand.{Operand}

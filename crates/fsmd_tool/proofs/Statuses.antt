@@ -18,7 +18,7 @@ use Rattle.fsmd_commands.specs.Readings.{FileContent, Unreadable}
 use Rattle.fsmd_commands.specs.Unread.{IsUnread, Failed, Long}
 use Rattle.fsmd_commands.specs.JsonKeys.{RefusesKeys, UnreadKeys, ByJson, ByKey}
 use Rattle.fsmd_commands.specs.Refusals.{RefusesMachine, Unread, ByText, ByRule, RefusesPair, RefusesCertificate, UnreadCertificate, ByCertificate}
-use Rattle.hls_program_laws.specs.Programs.{Program}
+use Rattle.hls_program_parts.specs.Programs.{Program}
 use Rattle.fsmd_commands.specs.ProgramFiles.{RefusesProgram, UnreadProgram, ProgramByText, ProgramByRule, IsOfProgram}
 use Rattle.fsmd_commands.specs.ScheduleFiles.{IsOfSchedule, IsOver, InRows}
 use Rattle.fsmd_commands.specs.BindingAnswers.{Binding}

@@ -6,7 +6,7 @@ use Rattle.fsmd_words.specs.AskedWords.{Asked, Compile, Schedule, Bind}
 use Rattle.fs_model.specs.Source.{Source}
 use Rattle.fs_ast.specs.MachineOfParts.{machine_of}
 use Rattle.hls_unit_counts.specs.Counts.{Units}
-use Rattle.hls_program_laws.specs.Programs.{Program}
+use Rattle.hls_program_parts.specs.Programs.{Program}
 use Rattle.fsmd_replies.specs.declared.answer.Status.TheVariants as statuses
 use Rattle.fsmd_replies.specs.declared.answer.Answer.{Answer}
 use Rattle.fsmd_replies.specs.declared.answer.Answer.TheVariants.{Text}

@@ -18,7 +18,7 @@ use Rattle.fsmd_commands.specs.SearchTables.{machines}
 use Rattle.fsmd_commands.specs.Certificates.{IsCertificate}
 use Rattle.fsmd_commands.specs.PairAnswers.{ShowsSame, IsCounterexample, IsUndecided}
 use Rattle.fsmd_replies.specs.AskedFiles.{operand, files_of, cert_of, step_limit, shrink_limit}
-use Rattle.hls_program_laws.specs.Programs.{Program}
+use Rattle.hls_program_parts.specs.Programs.{Program}
 use Rattle.hls_unit_counts.specs.Counts.{Units}
 use Rattle.fsmd_commands.specs.ProgramAnswers.{IsCompiledText}
 use Rattle.fsmd_commands.specs.ScheduleAnswers.{IsScheduleText}

@@ -19,8 +19,8 @@ use Rattle.fs_model.specs.Machines.{Fsmd}
 use Rattle.fs_model.specs.Source.{Source}
 use Rattle.fs_rules.specs.MachineOfParts.{machine_of}
 use Rattle.fs_write.specs.Canonical.{canonical}
-use Rattle.hls_binding_laws.specs.Bindings.{AreRegisters, bound_parts}
-use Rattle.hls_binding_laws.specs.Conflicts.{Conflict, IsTwice, IsFirstConflict, conflict_is_before}
+use Rattle.hls_bind.specs.Bindings.{AreRegisters, bound_parts}
+use Rattle.hls_bind.specs.Conflicts.{Conflict, IsTwice, IsFirstConflict, conflict_is_before}
 use Rattle.hls_bind.specs.declared.faults.Fault.{Fault}
 use Rattle.base_json_files.proofs.Once.{one_value}
 use Rattle.hls_bind.specs.BindingMembers.{GivenBy, GivesBinding, HasFaultyBinding, binding_file_fault, binding_from}

@@ -7,8 +7,8 @@ use Rattle.fs_model.specs.Source.{Source}
 use Rattle.fs_model.specs.Runs.{Inputs}
 use Rattle.fs_rules.specs.MachineOfParts.{machine_of}
 use Rattle.fs_write.specs.Canonical.{canonical}
-use Rattle.fs_path_text.specs.PathTexts.{paths_text}
-use Rattle.hls_program_laws.specs.Programs.{Program}
+use Rattle.fs_cut.specs.PathTexts.{paths_text}
+use Rattle.hls_program_parts.specs.Programs.{Program}
 use Rattle.hls_unit_counts.specs.Counts.{Units}
 use Rattle.fsmd_synthesis_answers.specs.BindingAnswers.{Binding}
 use Rattle.cert_bisimulation.specs.Tables.{Node}

@@ -4,8 +4,8 @@ use Rattle.fs_model.specs.Limits.{most_text_bytes}
 use Rattle.fs_grammar.specs.declared.fault.TextFault.{TextFault}
 use Rattle.fs_rules.specs.declared.check.CheckFault.{CheckFault}
 use Rattle.fs_rules.specs.Rules.{BreaksNoRule, IsFirstBroken}
-use Rattle.hls_program_laws.specs.Programs.{Program}
-use Rattle.hls_program_laws.specs.Compiled.{parts_of}
+use Rattle.hls_program_parts.specs.Programs.{Program}
+use Rattle.hls_program_parts.specs.Compiled.{parts_of}
 use Rattle.hls_program_grammar.proofs.Texts.{one_program, one_fault, not_both}
 use Rattle.fsmd_replies.specs.declared.answer.Operand.{Operand}
 use Rattle.fsmd_replies.specs.declared.answer.Answer.{Answer}

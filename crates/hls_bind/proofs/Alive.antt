@@ -16,8 +16,8 @@ use Rattle.fs_variable_sets.specs.declared.VariableSet.{VariableSet}
 use Rattle.fs_variable_sets.specs.Sets.{has_variable}
 use Rattle.fs_variable_sets.specs.declared.flows.Flow.{Flow}
 use Rattle.fs_variable_sets.specs.Flows.{IsInside, IsLiveIn, reading, passing, IsExact}
-use Rattle.hls_binding_laws.specs.Liveness.{read_by, reads, writes, PassesUnwritten, IsLive}
-use Rattle.hls_binding_laws.proofs.Lives.{live_reads, live_passes}
+use Rattle.hls_bind.specs.Liveness.{read_by, reads, writes, PassesUnwritten, IsLive}
+use Rattle.hls_bind.proofs.Lives.{live_reads, live_passes}
 use Rattle.hls_bind.specs.BranchFlows.{Transfer, transfer_of, transfer_by, transfers_at, transfers_below}
 use Rattle.hls_bind.specs.Live.{HasLive}
 use Rattle.hls_bind.proofs.Listed.{listed, members}

@@ -12,8 +12,8 @@ use Rattle.fs_model.specs.declared.parts.VarInfo.{VarInfo}
 use Rattle.fs_model.specs.Words.{is_name}
 use Rattle.fs_ast.specs.MachineOfParts.{names_of}
 use Rattle.fs_ast.specs.SoundParts.{names_differ}
-use Rattle.hls_binding_laws.specs.Bindings.{register, is_rising, is_scalar_local, IsBindingOf}
-use Rattle.hls_binding_laws.proofs.Looks.{place_own}
+use Rattle.hls_bind.specs.Bindings.{register, is_rising, is_scalar_local, IsBindingOf}
+use Rattle.hls_bind.proofs.Looks.{place_own}
 use Rattle.hls_bind.specs.declared.faults.Fault.{Fault}
 use Rattle.hls_bind.specs.declared.faults.Fault.TheVariants as faults
 use Rattle.hls_bind.specs.BindingMembers.{is_taken, names_local, register_fault, fault_of_binding, first_binding_fault, register_given, entry_at, binding_from}

@@ -1,3 +1,16 @@
+mod Renaming
+pub mod Over
+mod Effects
+pub mod Lives
+pub mod Looks
+pub mod Variables
+pub mod Bound
+pub mod Renamed
+pub mod Formed
+pub mod Lawful
+pub mod Twice
+pub mod Names
+pub mod Whole
 pub mod Listed
 pub mod Alive
 pub mod Losses

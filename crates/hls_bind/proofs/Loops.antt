@@ -18,8 +18,8 @@ use Rattle.fs_cut.proofs.Loops.{target_is_in, count_is}
 use Rattle.fs_ast.specs.MachineOfParts.{names_of, variables_of}
 use Rattle.fs_model.specs.Source.{Source, Declaration, SourceState}
 use Rattle.fs_model.specs.PartFolds.{scalars, uses_in_literal}
-use Rattle.hls_binding_laws.specs.Liveness.{read_by, read_by_assignment}
-use Rattle.hls_binding_laws.specs.Bindings.{bound_name, remaining_declarations, of_registers, state_renamed, bound_parts}
+use Rattle.hls_bind.specs.Liveness.{read_by, read_by_assignment}
+use Rattle.hls_bind.specs.Bindings.{bound_name, remaining_declarations, of_registers, state_renamed, bound_parts}
 use Rattle.fs_variable_sets.specs.Sets.{also_all}
 use Rattle.fs_variable_sets.proofs.Members.{also_joined}
 use Rattle.hls_bind.specs.BindingMembers.{register_given, entry_at, binding_from}

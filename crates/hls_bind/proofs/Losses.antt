@@ -11,16 +11,16 @@ use Rattle.fs_model.specs.Machines.{Fsmd}
 use Rattle.fs_ast.specs.SoundParts.{IsSound, branch_count, assigned_in}
 use Rattle.fs_cut.specs.Paths.{branch_at, target_of}
 use Rattle.fs_cut.proofs.Branches.{target_in}
-use Rattle.hls_binding_laws.specs.Liveness.{writes, IsLive}
+use Rattle.hls_bind.specs.Liveness.{writes, IsLive}
 use Rattle.std.proofs.lemmas.Option.{slice_get_within}
 use Rattle.std.proofs.lemmas.Bool.{or_cases, or_left, and_from, or_right, false_from_ne_true, not-true, eqb-false, eqb-true, ltb-true}
 use Rattle.fs_model.proofs.Booleans.{and_first, and_second}
 use Rattle.fs_model.proofs.Numbers.{eqb_self}
 use Rattle.fs_model.proofs.Options.{none_from_map}
-use Rattle.hls_binding_laws.specs.Bindings.{register, is_rising, IsBindingOf}
+use Rattle.hls_bind.specs.Bindings.{register, is_rising, IsBindingOf}
 use Rattle.hls_bind.specs.Results.{IsVerdict}
-use Rattle.hls_binding_laws.specs.Conflicts.{Conflict, IsShared, IsTwice, IsConflict, conflict_is_before, IsFirstConflict}
-use Rattle.hls_binding_laws.proofs.Variables.{some_there}
+use Rattle.hls_bind.specs.Conflicts.{Conflict, IsShared, IsTwice, IsConflict, conflict_is_before, IsFirstConflict}
+use Rattle.hls_bind.proofs.Variables.{some_there}
 use Rattle.fs_variable_sets.specs.declared.VariableSet.{VariableSet}
 use Rattle.fs_variable_sets.specs.Flows.{has_at}
 use Rattle.hls_bind.specs.Live.{HasLive}

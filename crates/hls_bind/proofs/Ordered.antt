@@ -11,7 +11,7 @@ use Rattle.std.proofs.lemmas.List.Kept.{IsStrictlySortedBy-dedup, Contains-dedup
 use Rattle.std.proofs.lemmas.List.Sorted.{Contains-permutation, IsPermutation-sym}
 use Rattle.std.proofs.lemmas.Bool.{or_right}
 use Rattle.fs_model.proofs.Booleans.{and_first, and_second}
-use Rattle.hls_binding_laws.specs.Bindings.{register, is_rising, AreRegisters}
+use Rattle.hls_bind.specs.Bindings.{register, is_rising, AreRegisters}
 use Rattle.hls_bind.proofs.Losses.{behind, head_entry}
 
 abbrev second : ℕ × List ℕ → List ℕ

@@ -8,10 +8,10 @@ use Rattle.fs_model.specs.WellFormed.{is_well_formed}
 use Rattle.fs_ast.specs.MachineOfParts.{machine_of, variables_of}
 use Rattle.fs_ast.specs.SoundParts.{IsSound}
 use Rattle.fs_ast.specs.Rules.{BreaksNoRule}
-use Rattle.hls_binding_laws.specs.Bindings.{IsBindingOf, bound_parts}
-use Rattle.hls_binding_laws.proofs.Formed.{bound_formed}
-use Rattle.hls_binding_laws.proofs.Whole.{bound_lawful}
-use Rattle.hls_binding_laws.proofs.Renamed.{bound_parts_behave}
+use Rattle.hls_bind.specs.Bindings.{IsBindingOf, bound_parts}
+use Rattle.hls_bind.proofs.Formed.{bound_formed}
+use Rattle.hls_bind.proofs.Whole.{bound_lawful}
+use Rattle.hls_bind.proofs.Renamed.{bound_parts_behave}
 use Rattle.hls_bind.specs.Results.{IsBuiltOf, IsBoundParts, HasNoConflict, IsYes}
 
 module _ (p q : Source) (m : Fsmd) (b : List (ℕ × List ℕ)) (built : IsBuiltOf p m) (binds : IsBindingOf m.variables b) (free : HasNoConflict b m)

@@ -5,8 +5,8 @@ use Rattle.hls_bind.specs.declared.binding.BoundLocal.{BoundLocal}
 use Rattle.hls_bind.specs.declared.conflicts.Pair.{Pair as CodePair}
 use Rattle.hls_bind.specs.declared.conflicts.Conflict.{Conflict as CodeConflict}
 use Rattle.hls_bind.specs.declared.renaming.Registers.{Registers}
-use Rattle.hls_binding_laws.specs.Bindings.{bound_name}
-use Rattle.hls_binding_laws.specs.Conflicts.{Conflict}
+use Rattle.hls_bind.specs.Bindings.{bound_name}
+use Rattle.hls_bind.specs.Conflicts.{Conflict}
 use Rattle.hls_bind.specs.ConflictSearch.{LostPair}
 
 -- the number of a local with the name of its register

@@ -10,7 +10,7 @@ use Rattle.base_json_files.specs.Json.{IsJson, IsNotJson}
 use Rattle.serde_json.specs.Find.{as_str, as_object}
 use Rattle.fs_model.specs.declared.parts.VarInfo.{VarInfo}
 use Rattle.fs_model.specs.Words.{is_name}
-use Rattle.hls_binding_laws.specs.Bindings.{is_scalar_local}
+use Rattle.hls_bind.specs.Bindings.{is_scalar_local}
 use Rattle.hls_bind.specs.declared.faults.Fault.{Fault}
 use Rattle.hls_bind.specs.declared.faults.Fault.TheVariants as faults
 use Rattle.hls_bind.specs.declared.faults.BindError.{BindError}

@@ -5,7 +5,7 @@ use Rattle.fs_model.specs.Trees.{Branch, branches_of}
 use Rattle.fs_ast.specs.SoundParts.{assigned_in}
 use Rattle.fs_variable_sets.specs.Sets.{has_variable, also_all}
 use Rattle.fs_variable_sets.specs.declared.flows.Flow.{Flow}
-use Rattle.hls_binding_laws.specs.Liveness.{read_by}
+use Rattle.hls_bind.specs.Liveness.{read_by}
 
 -- the variables of a list that are numbered below 128
 abbrev pub has_below_128 : List ℕ → ℕ → Bool

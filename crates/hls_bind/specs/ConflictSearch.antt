@@ -8,7 +8,7 @@ use Rattle.fs_ast.specs.SoundParts.{assigned_in, branch_count}
 use Rattle.fs_cut.specs.Paths.{branch_at, target_of}
 use Rattle.fs_variable_sets.specs.declared.VariableSet.{VariableSet}
 use Rattle.fs_variable_sets.specs.Flows.{has_at}
-use Rattle.hls_binding_laws.specs.Conflicts.{Conflict}
+use Rattle.hls_bind.specs.Conflicts.{Conflict}
 use Rattle.hls_bind.specs.BranchFlows.{has_below_128}
 
 -- two locals of which a branch loses the other by writing the first, and whether it writes both

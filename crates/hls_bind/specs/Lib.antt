@@ -1,3 +1,7 @@
+pub mod Liveness
+pub mod Closed
+pub mod Bindings
+pub mod Conflicts
 pub mod BindingEntries
 pub mod BindingMembers
 pub mod BranchFlows

@@ -3,7 +3,7 @@ use Rattle.std.specs.Prelude.{◌≡◌, ℕ, ◌<◌, true, List, length}
 use Rattle.fs_model.specs.Machines.{Fsmd}
 use Rattle.fs_variable_sets.specs.declared.VariableSet.{VariableSet}
 use Rattle.fs_variable_sets.specs.Flows.{has_at}
-use Rattle.hls_binding_laws.specs.Liveness.{IsLive}
+use Rattle.hls_bind.specs.Liveness.{IsLive}
 
 -- the set of each state has the variables below 128 that are live there
 pub record HasLive (m : Fsmd) (sets : List VariableSet) : Type 0 where

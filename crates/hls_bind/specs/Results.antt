@@ -7,8 +7,8 @@ use Rattle.fs_model.specs.View.{source_of}
 use Rattle.fs_model.specs.WellFormed.{is_well_formed}
 use Rattle.fs_ast.specs.MachineOfParts.{machine_of}
 use Rattle.fs_ast.specs.Rules.{BreaksNoRule}
-use Rattle.hls_binding_laws.specs.Bindings.{AreRegisters, bound_parts}
-use Rattle.hls_binding_laws.specs.Conflicts.{Conflict, IsConflict, IsFirstConflict}
+use Rattle.hls_bind.specs.Bindings.{AreRegisters, bound_parts}
+use Rattle.hls_bind.specs.Conflicts.{Conflict, IsConflict, IsFirstConflict}
 use Rattle.hls_bind.specs.declared.outcome.Bound.{Bound}
 use Rattle.hls_bind.specs.declared.outcome.Bound.TheVariants.{Yes, No}
 

@@ -1,7 +1,7 @@
 //! Bindings of locals to registers.
 
 ghost use Rattle.std.specs.Prelude.{◌≡◌, true, map};
-ghost use Rattle.hls_binding_laws.specs.Bindings.{is_rising};
+ghost use Rattle.hls_bind.specs.Bindings.{is_rising};
 ghost use Rattle.hls_bind.specs.BindingEntries.{binding_entry};
 
 use fs_model::name::Name;
@@ -24,7 +24,7 @@ pub struct Binding {
 impl Model for Binding {
     ghost use Rattle.std.specs.Prelude.{◌≡◌, ℕ, List, true, map};
     ghost use Rattle.std.specs.Coded.{coded_list, coded×, coded_ℕ};
-    ghost use Rattle.hls_binding_laws.specs.Bindings.{is_rising};
+    ghost use Rattle.hls_bind.specs.Bindings.{is_rising};
     ghost use Rattle.hls_bind.specs.BindingEntries.{binding_entry};
 
     ghost Value = { List (ℕ × List ℕ) };

@@ -4,8 +4,8 @@ ghost use Rattle.std.specs.Prelude.{◌≡◌, ◌++◌, true, map, filter, IfOk
 ghost use Rattle.std.specs.Result.{OnOk};
 ghost use Rattle.fs_ast.specs.MachineOfParts.{names_of};
 ghost use Rattle.fs_model.specs.View.{declaration_of};
-ghost use Rattle.hls_binding_laws.specs.Bindings.{is_rising, AreRegisters, stays, declaration_without_bound};
-ghost use Rattle.hls_binding_laws.specs.Bindings.{remaining_declarations, of_registers};
+ghost use Rattle.hls_bind.specs.Bindings.{is_rising, AreRegisters, stays, declaration_without_bound};
+ghost use Rattle.hls_bind.specs.Bindings.{remaining_declarations, of_registers};
 ghost use Rattle.hls_bind.specs.BindingEntries.{binding_entry};
 
 use crate::binding::BoundLocal;

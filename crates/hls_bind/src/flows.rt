@@ -7,7 +7,7 @@ ghost use Rattle.fs_model.specs.View.{term_of, literal_of, shared_literal_of, as
 ghost use Rattle.fs_model.specs.PartFolds.{scalars, uses_in_literal};
 ghost use Rattle.fs_ast.specs.SoundParts.{scalars_in, assigned_in};
 ghost use Rattle.fs_variable_sets.specs.Sets.{has_variable, also_all};
-ghost use Rattle.hls_binding_laws.specs.Liveness.{read_by_assignment};
+ghost use Rattle.hls_bind.specs.Liveness.{read_by_assignment};
 ghost use Rattle.hls_bind.specs.BranchFlows.{has_below_128, transfer_of, transfer_by, transfers_at, transfers_below};
 ghost use Rattle.hls_bind.specs.Live.{HasLive};
 

@@ -4,7 +4,7 @@ ghost use Rattle.std.specs.Prelude.{◌≡◌, ◌++◌, map, IfOk};
 ghost use Rattle.std.specs.Option.{option_map};
 ghost use Rattle.fs_model.specs.View.{source_of, declaration_of};
 ghost use Rattle.fs_ast.specs.MachineOfParts.{machine_of, names_of, variables_of};
-ghost use Rattle.hls_binding_laws.specs.Bindings.{IsBindingOf, remaining_declarations, of_registers, bound_parts};
+ghost use Rattle.hls_bind.specs.Bindings.{IsBindingOf, remaining_declarations, of_registers, bound_parts};
 ghost use Rattle.hls_bind.specs.BindingEntries.{binding_entry, conflict_of};
 ghost use Rattle.hls_bind.specs.Results.{IsBuiltOf, IsBoundParts, HasNoConflict, IsVerdict, IsRight};
 

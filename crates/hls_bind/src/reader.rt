@@ -7,7 +7,7 @@ ghost use Rattle.serde_json.specs.View.{view, members_view};
 ghost use Rattle.serde_json.specs.Find.{as_object, as_str};
 ghost use Rattle.fs_model.specs.Words.{is_name};
 ghost use Rattle.fs_model.specs.Limits.{most_variables};
-ghost use Rattle.hls_binding_laws.specs.Bindings.{is_scalar_local, IsBindingOf};
+ghost use Rattle.hls_bind.specs.Bindings.{is_scalar_local, IsBindingOf};
 ghost use Rattle.hls_bind.specs.BindingEntries.{binding_entry};
 ghost use Rattle.hls_bind.specs.BindingMembers.{is_taken, names_local, register_fault, fault_of_binding, first_binding_fault};
 ghost use Rattle.hls_bind.specs.BindingMembers.{binding_file_fault, register_given, entry_at, binding_from, GivenBy};

@@ -4,7 +4,7 @@ ghost use Rattle.std.specs.Prelude.{◌≡◌, map, option_map, IfOk};
 ghost use Rattle.fs_ast.specs.MachineOfParts.{place_or_end, names_of};
 ghost use Rattle.fs_model.specs.Renamed.{guard_over, assignment_over};
 ghost use Rattle.fs_model.specs.View.{named_guard, named_assignment, source_transition_of, source_state_of};
-ghost use Rattle.hls_binding_laws.specs.Bindings.{register, transition_renamed, state_renamed};
+ghost use Rattle.hls_bind.specs.Bindings.{register, transition_renamed, state_renamed};
 ghost use Rattle.hls_bind.specs.BindingEntries.{binding_entry, name_for};
 
 use crate::binding::BoundLocal;

@@ -10,13 +10,13 @@ use Rattle.fs_rules.specs.MachineOfParts.{machine_of}
 use Rattle.fs_rules.specs.Rules.{Broken, IsFirstBroken, BreaksNoRule}
 use Rattle.fs_rules.proofs.Unbroken.{unbroken}
 use Rattle.fs_ast.proofs.Kept.{all_kept, count_states}
-use Rattle.hls_program_laws.specs.Programs.{Program}
-use Rattle.hls_program_laws.specs.ProgramMeaning.{DoesAs}
-use Rattle.hls_program_laws.specs.Compiled.{count, entry_block, parts_of, state_name, states_of}
-use Rattle.hls_program_laws.specs.WellFormedPrograms.{is_well_formed_program}
-use Rattle.hls_program_laws.proofs.WellFormedParts.{parts_fine}
-use Rattle.hls_program_laws.proofs.Numbers.{length_numbered, length_states}
-use Rattle.hls_program_laws.proofs.Programs.{does_as}
+use Rattle.hls_program_parts.specs.Programs.{Program}
+use Rattle.hls_program_parts.specs.ProgramMeaning.{DoesAs}
+use Rattle.hls_program_parts.specs.Compiled.{count, entry_block, parts_of, state_name, states_of}
+use Rattle.hls_program_parts.specs.WellFormedPrograms.{is_well_formed_program}
+use Rattle.hls_program_parts.proofs.WellFormedParts.{parts_fine}
+use Rattle.hls_program_parts.proofs.Numbers.{length_numbered, length_states}
+use Rattle.hls_program_parts.proofs.Programs.{does_as}
 use Rattle.hls_program_text.specs.declared.fault.LangError.{LangError}
 use Rattle.hls_program_text.specs.declared.fault.LangError.TheVariants.{NoMemory}
 use Rattle.hls_lang.specs.Refusals.{IsRefusalOf}

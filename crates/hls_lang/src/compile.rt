@@ -6,9 +6,9 @@ ghost use Rattle.fs_model.specs.View.{source_of};
 ghost use Rattle.fs_rules.specs.MachineOfParts.{machine_of};
 ghost use Rattle.fs_rules.specs.Rules.{Broken, BreaksNoRule};
 ghost use Rattle.fs_rules.specs.declared.check.CheckFault.{CheckFault};
-ghost use Rattle.hls_program_laws.specs.Compiled.{parts_of};
-ghost use Rattle.hls_program_laws.specs.ProgramMeaning.{DoesAs};
-ghost use Rattle.hls_program_laws.specs.WellFormedPrograms.{is_well_formed_program};
+ghost use Rattle.hls_program_parts.specs.Compiled.{parts_of};
+ghost use Rattle.hls_program_parts.specs.ProgramMeaning.{DoesAs};
+ghost use Rattle.hls_program_parts.specs.WellFormedPrograms.{is_well_formed_program};
 ghost use Rattle.hls_program_parts.specs.View.{program_of};
 ghost use Rattle.hls_lang.specs.Refusals.{IsNoMemory, IsRefusalOf};
 

@@ -2,7 +2,7 @@
 use Rattle.std.proofs.Common.{◌≡◌}
 use Rattle.hls_unit_counts.specs.declared.units.Unit.{Unit as Kind}
 use Rattle.hls_unit_counts.specs.declared.units.Unit.TheVariants.{Add, Mul, Div, Mem}
-use Rattle.hls_line_rows.specs.ItemUnits.{Units}
+use Rattle.hls_line_filling.specs.ItemUnits.{Units}
 use Rattle.hls_line_filling.specs.declared.uses.Uses.{Uses}
 use Rattle.hls_line_filling.specs.Profiles.{units_of_uses}
 

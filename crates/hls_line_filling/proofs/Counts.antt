@@ -11,11 +11,12 @@ use Rattle.fs_model.proofs.Booleans.{and_first, and_second}
 use Rattle.hls_line_filling.specs.declared.profiles.Profile.{Profile}
 use Rattle.hls_line_filling.specs.declared.effects.Edge.{Edge}
 use Rattle.hls_line_filling.specs.declared.effects.Edge.TheVariants.{Apart, Weak, Strict}
-use Rattle.hls_line_rows.specs.ItemUnits.{Units, none_used, suffice}
-use Rattle.hls_line_rows.specs.Filling.{ItemGraph, Rows, place_item, is_before, is_by, leaves_row_open, is_ready, more_units, may_stand, next_item, row_filled}
-use Rattle.hls_line_rows.specs.Filling.{all_placed}
-use Rattle.hls_line_rows.specs.Filling.{filled_from}
-use Rattle.hls_line_rows.proofs.Fills.{all_range, in_all, is_none_of, highest_passes}
+use Rattle.hls_line_filling.specs.ItemUnits.{Units, none_used, suffice}
+use Rattle.hls_line_filling.specs.Filling.{ItemGraph, Rows, place_item, is_before, is_by, leaves_row_open, is_ready, more_units, may_stand, next_item}
+use Rattle.hls_line_filling.specs.Filling.{row_filled}
+use Rattle.hls_line_filling.specs.Filling.{all_placed}
+use Rattle.hls_line_filling.specs.Filling.{filled_from}
+use Rattle.hls_line_filling.proofs.Fills.{all_range, in_all, is_none_of, highest_passes}
 use Rattle.hls_line_filling.specs.Profiles.{edge_at, strict_in, weak_in, graph_in}
 use Rattle.hls_line_filling.specs.WaitingItems.{rows_in, AreReady, AreWaiting, AreLow, AreReleased, waits_below, holds_back, same_edge}
 

@@ -4,11 +4,11 @@ use Rattle.std.specs.Prelude.{not, ◌&&◌, ◌||◌, nat_lt, cond, slice_get}
 use Rattle.std.specs.List.{slice_index_or}
 use Rattle.fs_model.proofs.Booleans.{and_false, or_false}
 use Rattle.fs_rules.specs.SoundParts.{assigned_in, occurs}
-use Rattle.hls_line_rows.specs.Items.{Item, reads_of_item, changes, stored_in, emits, has_common_number, is_strict, is_weak}
-use Rattle.hls_line_rows.specs.ItemUnits.{used_by}
-use Rattle.hls_line_rows.specs.Heights.{heights}
-use Rattle.hls_line_rows.specs.Filling.{graph_of}
-use Rattle.hls_line_rows.proofs.Exchange.{meet_nothing}
+use Rattle.hls_line_filling.specs.Items.{Item, reads_of_item, changes, stored_in, emits, has_common_number, is_strict, is_weak}
+use Rattle.hls_line_filling.specs.ItemUnits.{used_by}
+use Rattle.hls_line_filling.specs.Heights.{heights}
+use Rattle.hls_line_filling.specs.Filling.{graph_of}
+use Rattle.hls_line_filling.proofs.Exchange.{meet_nothing}
 use Rattle.hls_line_filling.specs.declared.effects.Effects.{Effects}
 use Rattle.hls_line_filling.specs.declared.effects.Edge.TheVariants.{Apart, Weak, Strict}
 use Rattle.hls_line_filling.specs.declared.profiles.Profile.{Profile}

@@ -5,9 +5,9 @@ use Rattle.std.specs.List.{slice_index_or}
 use Rattle.std.proofs.lemmas.Bool.Decides.{nat_tests}
 use Rattle.std.proofs.Math.ListN.{set}
 use Rattle.std.proofs.lemmas.List.{get_or-set_same, get_or-set_other}
-use Rattle.hls_line_rows.specs.Items.{Item}
-use Rattle.hls_line_rows.specs.Heights.{strict_edges_through, height_over, heights}
-use Rattle.hls_line_rows.proofs.Lists.{heights_fall}
+use Rattle.hls_line_filling.specs.Items.{Item}
+use Rattle.hls_line_filling.specs.Heights.{strict_edges_through, height_over, heights}
+use Rattle.hls_line_filling.proofs.Lists.{heights_fall}
 use Rattle.hls_line_filling.specs.declared.effects.Effects.{Effects}
 use Rattle.hls_line_filling.specs.declared.effects.Edge.{Edge}
 use Rattle.hls_line_filling.specs.declared.effects.Edge.TheVariants.{Apart, Weak, Strict}

@@ -1,3 +1,14 @@
+pub mod Exchange
+pub mod Rows
+pub mod Once
+pub mod Emits
+pub mod Chains
+pub mod Fills
+pub mod Placings
+pub mod Lists
+pub mod Tight
+pub mod GreatestWalks
+pub mod ListScheduled
 pub mod Counts
 pub mod ByKind
 pub mod Turns

@@ -4,10 +4,10 @@ use Rattle.std.specs.Prelude.{cond, slice_get}
 use Rattle.std.specs.List.{slice_index_or}
 use Rattle.std.proofs.lemmas.Option.{slice_get_within}
 use Rattle.fs_model.proofs.Lists.{element_at}
-use Rattle.hls_line_rows.specs.Items.{Item, is_strict}
-use Rattle.hls_line_rows.specs.ItemUnits.{Units}
-use Rattle.hls_line_rows.specs.Heights.{strict_edges_through, heights, greatest, chain_of}
-use Rattle.hls_line_rows.specs.Filling.{graph_of, filling_of}
+use Rattle.hls_line_filling.specs.Items.{Item, is_strict}
+use Rattle.hls_line_filling.specs.ItemUnits.{Units}
+use Rattle.hls_line_filling.specs.Heights.{strict_edges_through, heights, greatest, chain_of}
+use Rattle.hls_line_filling.specs.Filling.{graph_of, filling_of}
 use Rattle.hls_line_filling.specs.declared.effects.Effects.{Effects}
 use Rattle.hls_line_filling.specs.declared.uses.Uses.{Uses}
 use Rattle.hls_line_filling.specs.declared.profiles.Profile.{Profile}

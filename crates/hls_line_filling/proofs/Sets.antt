@@ -7,7 +7,7 @@ use Rattle.std.proofs.lemmas.Bool.Decides.{nat_tests}
 use Rattle.fs_model.proofs.Booleans.{or_true}
 use Rattle.fs_model.specs.Terms.{Assign, ArrayWrite, Emit}
 use Rattle.fs_rules.specs.SoundParts.{assigned_in, occurs}
-use Rattle.hls_line_rows.specs.Items.{Item, read_in, reads_of_item, changes, stored_in, emits, has_common_number}
+use Rattle.hls_line_filling.specs.Items.{Item, read_in, reads_of_item, changes, stored_in, emits, has_common_number}
 use Rattle.fs_variable_sets.specs.declared.VariableSet.{VariableSet}
 use Rattle.fs_variable_sets.specs.Sets.{has_variable, also_all, sets_meet}
 use Rattle.fs_variable_sets.proofs.Members.{in_all, some_met, met_by}

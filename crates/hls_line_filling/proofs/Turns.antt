@@ -6,7 +6,7 @@ use Rattle.std.proofs.lemmas.Bool.Decides.{nat_tests}
 use Rattle.hls_line_filling.specs.declared.profiles.Profile.{Profile}
 use Rattle.hls_line_filling.specs.declared.effects.Edge.{Edge}
 use Rattle.hls_line_filling.specs.declared.effects.Edge.TheVariants.{Apart, Weak, Strict}
-use Rattle.hls_line_rows.specs.Filling.{ItemGraph, Rows, is_before, is_by, is_in, leaves_row_open}
+use Rattle.hls_line_filling.specs.Filling.{ItemGraph, Rows, is_before, is_by, is_in, leaves_row_open}
 use Rattle.hls_line_filling.specs.Profiles.{edge_at, strict_in, weak_in, graph_in}
 use Rattle.hls_line_filling.specs.WaitingItems.{AreWaiting, AreReleased, AreTurned, AreLow, waits_below, waits_turned, holds_back, same_edge}
 

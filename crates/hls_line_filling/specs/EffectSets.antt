@@ -1,7 +1,7 @@
 -- The effects of items as sets of variables, and the edges between items.
 use Rattle.std.specs.Prelude.{ℕ, Bool, true, false, ◌&&◌, ◌||◌, cond, [], ◌∷◌}
 use Rattle.fs_model.specs.Terms.{Assignment, Assign, ArrayWrite, Emit}
-use Rattle.hls_line_rows.specs.Items.{Item, read_in}
+use Rattle.hls_line_filling.specs.Items.{Item, read_in}
 use Rattle.fs_variable_sets.specs.Sets.{has_variable, also, also_all, sets_meet}
 use Rattle.hls_line_filling.specs.declared.effects.Effects.{Effects}
 use Rattle.hls_line_filling.specs.declared.effects.Edge.{Edge}

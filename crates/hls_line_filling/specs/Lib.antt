@@ -1,3 +1,10 @@
+pub mod Items
+pub mod Placings
+pub mod ItemUnits
+pub mod Heights
+pub mod Filling
+pub mod Walks
+pub mod ListSchedules
 pub mod EffectSets
 pub mod Profiles
 pub mod KnownHeights

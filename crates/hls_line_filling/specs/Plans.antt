@@ -1,9 +1,9 @@
 -- The plan of a line, and what it is made from.
 use Rattle.std.specs.Prelude.{◌≡◌, ℕ, ◌<◌, List, [], length, Some, slice_get}
 use Rattle.std.specs.List.{slice_index_or}
-use Rattle.hls_line_rows.specs.Items.{Item}
-use Rattle.hls_line_rows.specs.ItemUnits.{used_by}
-use Rattle.hls_line_rows.specs.Filling.{Filled}
+use Rattle.hls_line_filling.specs.Items.{Item}
+use Rattle.hls_line_filling.specs.ItemUnits.{used_by}
+use Rattle.hls_line_filling.specs.Filling.{Filled}
 use Rattle.hls_line_filling.specs.declared.effects.Effects.{Effects}
 use Rattle.hls_line_filling.specs.declared.uses.Uses.{Uses}
 use Rattle.hls_line_filling.specs.declared.profiles.Profile.{Profile}

@@ -3,11 +3,11 @@ use Rattle.std.specs.Prelude.{◌≡◌, ℕ, zero, suc, ◌-◌, ◌^◌, nat_l
 use Rattle.std.specs.Prelude.{Some, None, slice_get}
 use Rattle.std.specs.List.{list_all, slice_index_or}
 use Rattle.hls_unit_counts.specs.declared.units.Unit.TheVariants.{Add, Mul, Div, Mem}
-use Rattle.hls_line_rows.specs.ItemUnits.{Units, none_used, used_by}
-use Rattle.hls_line_rows.specs.Heights.{heights}
-use Rattle.hls_line_rows.specs.Filling.{ItemGraph}
+use Rattle.hls_line_filling.specs.ItemUnits.{Units, none_used, used_by}
+use Rattle.hls_line_filling.specs.Heights.{heights}
+use Rattle.hls_line_filling.specs.Filling.{ItemGraph}
 use Rattle.fs_rules.specs.SoundParts.{assigned_in}
-use Rattle.hls_line_rows.specs.Items.{Item, reads_of_item, stored_in}
+use Rattle.hls_line_filling.specs.Items.{Item, reads_of_item, stored_in}
 use Rattle.hls_line_filling.specs.declared.effects.Effects.{Effects}
 use Rattle.hls_line_filling.specs.declared.effects.Edge.{Edge}
 use Rattle.hls_line_filling.specs.declared.effects.Edge.TheVariants.{Apart, Weak, Strict}

@@ -2,7 +2,7 @@
 use Rattle.std.specs.Prelude.{◌≡◌, ℕ, zero, suc, ◌+◌, ◌<◌, ◌≤◌, ◌==◌, nat_lt, Bool, true, false, ◌&&◌, cond, List, length, Option}
 use Rattle.std.specs.Prelude.{Some, None}
 use Rattle.std.specs.List.{slice_index_or}
-use Rattle.hls_line_rows.specs.Filling.{ItemGraph, Rows, leaves_row_open, is_ready}
+use Rattle.hls_line_filling.specs.Filling.{ItemGraph, Rows, leaves_row_open, is_ready}
 use Rattle.hls_line_filling.specs.declared.effects.Edge.{Edge}
 use Rattle.hls_line_filling.specs.declared.effects.Edge.TheVariants.{Apart, Weak, Strict}
 use Rattle.hls_line_filling.specs.declared.profiles.Profile.{Profile}

@@ -2,7 +2,7 @@
 
 ghost use Rattle.std.specs.Prelude.{◌≡◌, map};
 ghost use Rattle.fs_model.specs.View.{term_of, assignment_of};
-ghost use Rattle.hls_line_rows.specs.Items.{read_in};
+ghost use Rattle.hls_line_filling.specs.Items.{read_in};
 ghost use Rattle.fs_variable_sets.specs.Sets.{has_variable, also_all};
 ghost use Rattle.hls_line_filling.specs.EffectSets.{sets_of, none_changed, sets_after, sets_from, edge_between};
 

@@ -1,9 +1,9 @@
 //! Which item is placed next.
 
 ghost use Rattle.std.specs.Prelude.{◌≡◌, ◌<◌, ℕ, suc, cond, true, None, length, slice_get};
-ghost use Rattle.hls_line_rows.specs.Filling.{may_stand, higher_of, next_item, place_item, more_units, row_filled};
-ghost use Rattle.hls_line_rows.specs.ItemUnits.{suffice, none_used};
-ghost use Rattle.hls_line_rows.specs.ItemUnits.{units_in};
+ghost use Rattle.hls_line_filling.specs.Filling.{may_stand, higher_of, next_item, place_item, more_units, row_filled};
+ghost use Rattle.hls_line_filling.specs.ItemUnits.{suffice, none_used};
+ghost use Rattle.hls_line_filling.specs.ItemUnits.{units_in};
 ghost use Rattle.hls_line_filling.specs.Profiles.{units_of_uses, profile_units, graph_in};
 ghost use Rattle.hls_line_filling.specs.WaitingItems.{rows_in, AreReady, IsBelow, AreWaiting, AreLow};
 

@@ -2,7 +2,7 @@
 
 ghost use Rattle.std.specs.Prelude.{◌≡◌, ◌+◌, ◌-◌, ◌<◌, ◌≤◌, max, length, slice_get, IfOk};
 ghost use Rattle.std.specs.List.{slice_index_or};
-ghost use Rattle.hls_line_rows.specs.Heights.{greatest};
+ghost use Rattle.hls_line_filling.specs.Heights.{greatest};
 ghost use Rattle.hls_line_filling.specs.Profiles.{through_edge, edge_of_effects, height_upto};
 ghost use Rattle.hls_line_filling.specs.KnownHeights.{AreLowHeights, AreHeights};
 

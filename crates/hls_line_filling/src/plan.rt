@@ -1,10 +1,10 @@
 //! The rows of a line, from what its items read, change and use.
 
 ghost use Rattle.std.specs.Prelude.{◌≡◌, ◌≤◌, length, List, IfOk};
-ghost use Rattle.hls_line_rows.specs.Items.{Item};
-ghost use Rattle.hls_line_rows.specs.ItemUnits.{units_in};
-ghost use Rattle.hls_line_rows.specs.Heights.{chain_of};
-ghost use Rattle.hls_line_rows.specs.Filling.{graph_of, filling_of};
+ghost use Rattle.hls_line_filling.specs.Items.{Item};
+ghost use Rattle.hls_line_filling.specs.ItemUnits.{units_in};
+ghost use Rattle.hls_line_filling.specs.Heights.{chain_of};
+ghost use Rattle.hls_line_filling.specs.Filling.{graph_of, filling_of};
 ghost use Rattle.hls_line_filling.specs.Plans.{AreCountedOf, AreJoined, filled_in};
 
 use crate::effects::Effects;

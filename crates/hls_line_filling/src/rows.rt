@@ -1,8 +1,8 @@
 //! All rows, one after another.
 
 ghost use Rattle.std.specs.Prelude.{◌≡◌, ◌<◌, ◌≤◌, ℕ, suc, cond, true, None, length, IfOk};
-ghost use Rattle.hls_line_rows.specs.Filling.{all_placed, filled_from, filling_of};
-ghost use Rattle.hls_line_rows.specs.ItemUnits.{units_in};
+ghost use Rattle.hls_line_filling.specs.Filling.{all_placed, filled_from, filling_of};
+ghost use Rattle.hls_line_filling.specs.ItemUnits.{units_in};
 ghost use Rattle.hls_line_filling.specs.Profiles.{graph_in};
 ghost use Rattle.hls_line_filling.specs.WaitingItems.{rows_in, none_placed, AreWaiting, AreLow};
 

@@ -1,7 +1,7 @@
 //! The turn from a row to the next.
 
 ghost use Rattle.std.specs.Prelude.{◌≡◌, ◌<◌, suc, length};
-ghost use Rattle.hls_line_rows.specs.Filling.{is_in};
+ghost use Rattle.hls_line_filling.specs.Filling.{is_in};
 ghost use Rattle.hls_line_filling.specs.Profiles.{graph_in};
 ghost use Rattle.hls_line_filling.specs.WaitingItems.{rows_in, AreWaiting, AreTurned, AreLow};
 

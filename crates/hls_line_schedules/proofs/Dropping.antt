@@ -13,7 +13,7 @@ use Rattle.fs_model.specs.Runs.{SameBehaviour}
 use Rattle.fs_model.specs.Trees.{Tree, Empty, Leaf, Node, Branch, tree_of_guard, tree_of_condition, tree_of_transitions, leaves, negated_literal}
 use Rattle.fs_model.proofs.Behaviour.{transitive}
 use Rattle.fs_ast.specs.SoundParts.{IsSound, ends_open, occurs}
-use Rattle.hls_line_rows.specs.Items.{Item}
+use Rattle.hls_line_filling.specs.Items.{Item}
 use Rattle.hls_line_schedules.specs.StraightLines.{all_states, is_straight, straight_line_at, exit_of, is_inner, is_first_of_line, firsts}
 use Rattle.hls_line_schedules.specs.RowMachines.{Move, after_row, moves, all_moves, move_transition, machine_with_rows, KeepsStores}
 use Rattle.hls_line_schedules.specs.MachineSelections.{IsClosedUnderTargets}

@@ -13,7 +13,7 @@ use Rattle.fs_model.specs.Trees.{Tree, Leaf, tree_of_guard, tree_of_condition, t
 use Rattle.fs_ast.specs.SoundParts.{IsSound, occurs, ends_open, is_cutpoint, branch_count, reaches_cutpoint, first_transition_target}
 use Rattle.fs_ast.specs.Rules.{after_steps, IsEndless}
 use Rattle.fs_cut.proofs.Branches.{first_target}
-use Rattle.hls_line_rows.specs.Items.{Item}
+use Rattle.hls_line_filling.specs.Items.{Item}
 use Rattle.hls_line_schedules.specs.StraightLines.{all_states, is_straight, follows, next_state, exit_from, straight_line_at, exit_of, is_inner}
 use Rattle.hls_line_schedules.specs.StraightLines.{is_first_of_line, firsts}
 use Rattle.hls_line_schedules.specs.RowMachines.{Move, after_row, moves, state_at, machine_with_rows, KeepsStores}

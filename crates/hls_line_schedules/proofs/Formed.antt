@@ -9,8 +9,8 @@ use Rattle.fs_model.specs.Source.{SourceTransition, SourceState, Source}
 use Rattle.fs_model.specs.Machines.{Fsmd}
 use Rattle.fs_model.specs.WellFormed.{is_well_formed_condition, is_well_formed_assignment, is_well_formed_transition, is_well_formed_state}
 use Rattle.fs_model.specs.WellFormed.{is_well_formed_declaration, is_well_formed}
-use Rattle.hls_line_rows.specs.ItemUnits.{Units}
-use Rattle.hls_line_rows.specs.Filling.{graph_of, filling_of}
+use Rattle.hls_line_filling.specs.ItemUnits.{Units}
+use Rattle.hls_line_filling.specs.Filling.{graph_of, filling_of}
 use Rattle.hls_line_schedules.specs.StraightLines.{all_states, is_straight, straight_line_at, exit_of, firsts, items_at}
 use Rattle.hls_line_schedules.specs.RowMachines.{MoveOver, moves}
 use Rattle.hls_line_schedules.proofs.Among.{Among, joined_from}

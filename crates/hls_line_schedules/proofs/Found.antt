@@ -14,7 +14,7 @@ use Rattle.hls_line_schedules.specs.StraightLines.{is_first_of_line, firsts}
 use Rattle.hls_line_schedules.specs.RowMachines.{MoveOver, after_row, moves, all_moves}
 use Rattle.hls_line_schedules.proofs.Among.{Among, passes_test, was_among, range_within, joined_from}
 use Rattle.hls_line_schedules.proofs.Trails.{next_in, follows_on, Station, leaves_line}
-use Rattle.hls_line_rows.specs.ItemUnits.{Units}
+use Rattle.hls_line_filling.specs.ItemUnits.{Units}
 use Rattle.hls_line_schedules.specs.SourceRows.{named_rows, named_moves, RowEffect, first_row_effect}
 use Rattle.hls_line_schedules.specs.Sources.{states_by, source_by_rows, scheduled_source}
 use Rattle.hls_line_schedules.proofs.Lists.{flat_same}

@@ -24,13 +24,13 @@ use Rattle.fs_ast.proofs.Kept.{no_state, get_mapped}
 use Rattle.fs_ast_laws.proofs.Repeats.{kept_differ}
 use Rattle.fs_ast_laws.proofs.Faultless.{IsFaultless, of_sound}
 use Rattle.fs_ast_laws.proofs.Kept.{KeepsRules, lawful_where}
-use Rattle.hls_line_rows.specs.Items.{Item}
-use Rattle.hls_line_rows.specs.Placings.{is_valid, join_assignments, row_at}
-use Rattle.hls_line_rows.proofs.Once.{assigns_once}
-use Rattle.hls_line_rows.proofs.Emits.{emits_few}
-use Rattle.hls_line_rows.specs.ItemUnits.{Units}
-use Rattle.hls_line_rows.specs.Filling.{graph_of, filling_of, placed_by}
-use Rattle.hls_line_rows.proofs.Lists.{placed_valid}
+use Rattle.hls_line_filling.specs.Items.{Item}
+use Rattle.hls_line_filling.specs.Placings.{is_valid, join_assignments, row_at}
+use Rattle.hls_line_filling.proofs.Once.{assigns_once}
+use Rattle.hls_line_filling.proofs.Emits.{emits_few}
+use Rattle.hls_line_filling.specs.ItemUnits.{Units}
+use Rattle.hls_line_filling.specs.Filling.{graph_of, filling_of, placed_by}
+use Rattle.hls_line_filling.proofs.Lists.{placed_valid}
 use Rattle.hls_line_schedules.specs.StraightLines.{all_states, straight_line_at, exit_of, is_first_of_line, firsts, item_of, items_at}
 use Rattle.hls_line_schedules.specs.RowMachines.{Move, moves, all_moves, move_transition, transitions_by, state_at, machine_with_rows, KeepsStores}
 use Rattle.hls_line_schedules.specs.MachineSelections.{selected_place, transition_renumbered, IsClosedUnderTargets}

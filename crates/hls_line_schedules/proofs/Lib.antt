@@ -1,3 +1,6 @@
+pub mod EachLeaf
+pub mod Fitting
+pub mod Counting
 pub mod Paces
 pub mod Selecting
 pub mod Among

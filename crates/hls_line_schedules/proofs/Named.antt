@@ -10,9 +10,9 @@ use Rattle.fs_model.specs.Source.{SourceTransition, Source}
 use Rattle.fs_model.specs.Machines.{State, Fsmd, transitions_of}
 use Rattle.fs_ast.specs.MachineOfParts.{place_or_end, variables_of, names_of, state_names, transition_spelled, state_spelled, machine_of}
 use Rattle.fs_ast.specs.SoundParts.{IsSound}
-use Rattle.hls_line_rows.specs.Placings.{PlacedOver, join_assignments, row_at, rows_from, rows_of}
-use Rattle.hls_line_rows.specs.ItemUnits.{Units}
-use Rattle.hls_line_rows.specs.Filling.{Rows, Filled, row_or, placed_from, placed_by, graph_of, filling_of}
+use Rattle.hls_line_filling.specs.Placings.{PlacedOver, join_assignments, row_at, rows_from, rows_of}
+use Rattle.hls_line_filling.specs.ItemUnits.{Units}
+use Rattle.hls_line_filling.specs.Filling.{Rows, Filled, row_or, placed_from, placed_by, graph_of, filling_of}
 use Rattle.hls_line_schedules.specs.StraightLines.{straight_line_at, exit_of, firsts, item_of, items_at}
 use Rattle.hls_line_schedules.specs.RowMachines.{MoveOver, after_row, moves, all_moves, state_at}
 use Rattle.hls_line_schedules.proofs.Among.{Among}

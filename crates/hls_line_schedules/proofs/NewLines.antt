@@ -17,7 +17,7 @@ use Rattle.fs_model.specs.Trees.{Tree, Empty, Leaf, Node, Branch, tree_of_guard,
 use Rattle.fs_ast.specs.SoundParts.{IsSound, occurs, is_cutpoint, branch_count, reaches_cutpoint, first_transition_target}
 use Rattle.fs_cut.specs.Paths.{target_of}
 use Rattle.fs_cut.proofs.Branches.{target_in, some_branch, first_target, few}
-use Rattle.hls_line_rows.specs.Items.{Item}
+use Rattle.hls_line_filling.specs.Items.{Item}
 use Rattle.hls_line_schedules.specs.StraightLines.{all_states, sources, is_only, is_straight, follows, next_state, line_from, exit_from, straight_line_at}
 use Rattle.hls_line_schedules.specs.StraightLines.{exit_of, is_inner, is_first_of_line}
 use Rattle.hls_line_schedules.specs.RowMachines.{Move, after_row, moves, all_moves, move_transition, transitions_by, machine_with_rows, state_at, KeepsStores}

@@ -6,8 +6,8 @@ use Rattle.std.proofs.lemmas.List.Folds.{list_all-append}
 use Rattle.std.proofs.lemmas.Bool.{and_from}
 use Rattle.fs_model.proofs.Booleans.{and_first, and_second}
 use Rattle.fs_model.specs.Terms.{Assignment}
-use Rattle.hls_line_rows.specs.Placings.{PlacedOver, join_assignments, row_at}
-use Rattle.hls_line_rows.specs.Filling.{Rows, Filled, placed_from, placed_by}
+use Rattle.hls_line_filling.specs.Placings.{PlacedOver, join_assignments, row_at}
+use Rattle.hls_line_filling.specs.Filling.{Rows, Filled, placed_from, placed_by}
 use Rattle.hls_line_schedules.proofs.Among.{Among}
 
 module _ {X : Type 0} (T : X → Bool) where

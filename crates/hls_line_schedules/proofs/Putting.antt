@@ -6,7 +6,7 @@ use Rattle.std.specs.Option.{option_or}
 use Rattle.std.specs.List.{slice_index_or}
 use Rattle.std.proofs.lemmas.Bool.Decides.{nat_tests}
 use Rattle.std.proofs.Math.ListN.{drop_of_length-le}
-use Rattle.hls_line_rows.specs.Placings.{PlacedOver, join_assignments, row_at, rows_from, rows_of}
+use Rattle.hls_line_filling.specs.Placings.{PlacedOver, join_assignments, row_at, rows_from, rows_of}
 use Rattle.hls_line_schedules.specs.RowMachines.{MoveOver, after_row, moves}
 use Rattle.hls_line_schedules.specs.SourceRows.{RowEffect, first_row_effect}
 

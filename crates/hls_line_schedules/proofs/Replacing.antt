@@ -15,7 +15,7 @@ use Rattle.fs_ast.specs.SoundParts.{IsSound, branch_count, is_cutpoint}
 use Rattle.fs_cut.specs.Paths.{target_of, store_after}
 use Rattle.fs_cut.specs.Cuts.{branch_taken}
 use Rattle.fs_cut.proofs.Branches.{target_in, takes_branch, only_branch, step_taken, step_at}
-use Rattle.hls_line_rows.specs.Items.{Item, store_after_items}
+use Rattle.hls_line_filling.specs.Items.{Item, store_after_items}
 use Rattle.hls_line_schedules.specs.StraightLines.{all_states, is_straight, follows, next_state, line_from, exit_from, straight_line_at, exit_of, is_inner}
 use Rattle.hls_line_schedules.specs.StraightLines.{is_first_of_line, firsts, item_of, items_at}
 use Rattle.hls_line_schedules.specs.RowMachines.{Move, after_row, moves, all_moves, move_transition, transitions_by, state_at, machine_with_rows, KeepsStores}

@@ -13,20 +13,20 @@ use Rattle.fs_ast.specs.SoundParts.{IsSound, is_cutpoint}
 use Rattle.fs_cut.specs.Paths.{branch_at}
 use Rattle.fs_ast.proofs.OneBranch.{only_transition}
 use Rattle.fs_cut.proofs.Branches.{some_branch, few}
-use Rattle.hls_line_rows.specs.Items.{Item, store_after_items}
-use Rattle.hls_line_rows.specs.Placings.{Placed, rows_from}
-use Rattle.hls_line_rows.proofs.Rows.{rows_keep_the_store}
+use Rattle.hls_line_filling.specs.Items.{Item, store_after_items}
+use Rattle.hls_line_filling.specs.Placings.{Placed, rows_from}
+use Rattle.hls_line_filling.proofs.Rows.{rows_keep_the_store}
 use Rattle.hls_line_schedules.specs.StraightLines.{is_straight, next_state, line_from, straight_line_at, is_inner, is_first_of_line, item_of, items_at, follows}
 use Rattle.hls_line_schedules.specs.RowMachines.{KeepsStores}
 use Rattle.hls_line_schedules.proofs.Trails.{next_in, follows_on}
 use Rattle.hls_line_schedules.proofs.Dropping.{scheduled_behaves}
-use Rattle.hls_line_rows.specs.ItemUnits.{Units, none_used, used_by, suffice}
-use Rattle.hls_line_rows.specs.Heights.{chain_of, heights}
-use Rattle.hls_line_rows.specs.Filling.{graph_of, filling_of, EachItemFits, used_by_all, placed_by}
-use Rattle.hls_line_rows.proofs.Chains.{no_shorter}
-use Rattle.hls_line_rows.proofs.Placings.{is_filled}
-use Rattle.hls_line_rows.proofs.Lists.{same_items, placed_valid, placed_below, below_chain}
-use Rattle.hls_line_rows.proofs.Tight.{length_is_chain}
+use Rattle.hls_line_filling.specs.ItemUnits.{Units, none_used, used_by, suffice}
+use Rattle.hls_line_filling.specs.Heights.{chain_of, heights}
+use Rattle.hls_line_filling.specs.Filling.{graph_of, filling_of, EachItemFits, used_by_all, placed_by}
+use Rattle.hls_line_filling.proofs.Chains.{no_shorter}
+use Rattle.hls_line_filling.proofs.Placings.{is_filled}
+use Rattle.hls_line_filling.proofs.Lists.{same_items, placed_valid, placed_below, below_chain}
+use Rattle.hls_line_filling.proofs.Tight.{length_is_chain}
 use Rattle.hls_line_schedules.specs.Schedules.{IsWithin, rows_by, schedule_of}
 
 length_rows : (n k : ℕ) (ps : List Placed) → length (rows_from k n ps) ≡ n

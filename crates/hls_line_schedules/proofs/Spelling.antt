@@ -19,14 +19,14 @@ use Rattle.fs_model.specs.Machines.{State, Fsmd, transitions_of}
 use Rattle.fs_ast.specs.MachineOfParts.{place_or_end, variables_of, state_names, transition_spelled, state_spelled, machine_of}
 use Rattle.fs_ast.specs.SoundParts.{IsSound, names_differ}
 use Rattle.fs_ast_laws.proofs.Repeats.{is_listed}
-use Rattle.hls_line_rows.specs.Items.{Item}
+use Rattle.hls_line_filling.specs.Items.{Item}
 use Rattle.hls_line_schedules.specs.StraightLines.{all_states, is_straight}
 use Rattle.hls_line_schedules.specs.RowMachines.{Move, MoveOver, all_moves, move_transition, transitions_by, state_at, machine_with_rows}
 use Rattle.hls_line_schedules.specs.MachineSelections.{selected_place, transition_renumbered}
 use Rattle.hls_line_schedules.specs.ScheduledMachines.{is_kept, kept_states}
 use Rattle.hls_line_schedules.proofs.Among.{Among, was_among, range_within, any_of}
 use Rattle.hls_line_schedules.proofs.Trails.{member}
-use Rattle.hls_line_rows.specs.ItemUnits.{Units}
+use Rattle.hls_line_filling.specs.ItemUnits.{Units}
 use Rattle.hls_line_schedules.specs.Schedules.{rows_by, schedule_of}
 use Rattle.hls_line_schedules.specs.SourceRows.{source_state, named_moves, RowEffect, first_row_effect}
 use Rattle.hls_line_schedules.specs.Sources.{state_with_row, state_by, states_by, scheduled_source}

@@ -6,19 +6,19 @@ use Rattle.std.specs.List.{slice_index_or}
 use Rattle.fs_model.specs.Terms.{Assignment, Transition}
 use Rattle.fs_model.specs.Machines.{State, Fsmd, transitions_of}
 use Rattle.fs_ast.specs.SoundParts.{IsSound}
-use Rattle.hls_line_rows.specs.Items.{Item}
-use Rattle.hls_line_rows.specs.Placings.{PlacedOver, Placed, join_assignments, row_at, rows_from}
+use Rattle.hls_line_filling.specs.Items.{Item}
+use Rattle.hls_line_filling.specs.Placings.{PlacedOver, Placed, join_assignments, row_at, rows_from}
 use Rattle.hls_line_schedules.specs.StraightLines.{all_states, straight_line_at, exit_of, is_first_of_line, firsts, items_at}
 use Rattle.hls_line_schedules.specs.RowMachines.{MoveOver, Move, moves, all_moves, move_transition, transitions_by, state_at, machine_with_rows}
 use Rattle.hls_line_schedules.specs.MachineSelections.{transition_renumbered}
 use Rattle.hls_line_schedules.specs.ScheduledMachines.{kept_states}
 use Rattle.hls_line_schedules.proofs.Among.{Among, joined_from, passes_test, was_among, range_within}
 use Rattle.hls_unit_counts.specs.declared.units.Unit.{Unit as Kind}
-use Rattle.hls_line_rows.specs.ItemUnits.{Units, none_used, used_by, suffice}
-use Rattle.hls_line_rows.specs.Filling.{ItemGraph, graph_of, Rows, is_in, is_before, filling_of, used_below, used_in, EachItemFits, row_or, placed_from}
-use Rattle.hls_line_rows.specs.Filling.{placed_by}
-use Rattle.hls_line_rows.specs.Filling.{new_rows}
-use Rattle.hls_line_rows.proofs.Placings.{suffices, does_suffice, is_filled}
+use Rattle.hls_line_filling.specs.ItemUnits.{Units, none_used, used_by, suffice}
+use Rattle.hls_line_filling.specs.Filling.{ItemGraph, graph_of, Rows, is_in, is_before, filling_of, used_below, used_in, EachItemFits, row_or, placed_from}
+use Rattle.hls_line_filling.specs.Filling.{placed_by}
+use Rattle.hls_line_filling.specs.Filling.{new_rows}
+use Rattle.hls_line_filling.proofs.Placings.{suffices, does_suffice, is_filled}
 use Rattle.hls_line_schedules.specs.Schedules.{IsWithin, rows_by, schedule_of}
 use Rattle.hls_line_schedules.proofs.Schedules.{each_fits}
 

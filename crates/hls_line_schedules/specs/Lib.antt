@@ -1,3 +1,5 @@
+pub mod Over
+pub mod Counted
 pub mod StraightLines
 pub mod RowMachines
 pub mod MachineSelections

@@ -4,7 +4,7 @@ use Rattle.std.specs.List.{slice_index_or, flat_map}
 use Rattle.fs_model.specs.Terms.{Assignment, Transition}
 use Rattle.fs_model.specs.Machines.{State, Fsmd, transitions_of}
 use Rattle.fs_model.specs.Stores.{Store}
-use Rattle.hls_line_rows.specs.Items.{Item, store_after_items}
+use Rattle.hls_line_filling.specs.Items.{Item, store_after_items}
 use Rattle.hls_line_schedules.specs.StraightLines.{all_states, is_first_of_line, firsts, straight_line_at, exit_of, items_at}
 
 -- a state whose one transition has no guard. X tells variables apart: numbers of a machine, or names of a text

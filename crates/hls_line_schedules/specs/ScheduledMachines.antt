@@ -2,7 +2,7 @@
 use Rattle.std.specs.Prelude.{ℕ, ◌==◌, Bool, not, ◌||◌, List, filter}
 use Rattle.std.specs.List.{list_any}
 use Rattle.fs_model.specs.Machines.{Fsmd}
-use Rattle.hls_line_rows.specs.Items.{Item}
+use Rattle.hls_line_filling.specs.Items.{Item}
 use Rattle.hls_line_schedules.specs.StraightLines.{all_states, is_straight}
 use Rattle.hls_line_schedules.specs.RowMachines.{all_moves, machine_with_rows}
 use Rattle.hls_line_schedules.specs.MachineSelections.{machine_of_states}

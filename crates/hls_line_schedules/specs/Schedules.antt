@@ -2,12 +2,12 @@
 use Rattle.std.specs.Prelude.{◌≡◌, ℕ, true, List, Some, slice_get}
 use Rattle.fs_model.specs.Terms.{Transition}
 use Rattle.fs_model.specs.Machines.{Fsmd, transitions_of}
-use Rattle.hls_line_rows.specs.Items.{Item}
+use Rattle.hls_line_filling.specs.Items.{Item}
 use Rattle.hls_line_schedules.specs.StraightLines.{items_at}
 use Rattle.hls_line_schedules.specs.MachineSelections.{selected_place}
 use Rattle.hls_line_schedules.specs.ScheduledMachines.{kept_states, scheduled_machine}
-use Rattle.hls_line_rows.specs.ItemUnits.{Units, none_used, used_by, suffice}
-use Rattle.hls_line_rows.specs.Filling.{new_rows}
+use Rattle.hls_line_filling.specs.ItemUnits.{Units, none_used, used_by, suffice}
+use Rattle.hls_line_filling.specs.Filling.{new_rows}
 
 -- no transition uses more than the units
 abbrev pub IsWithin : Units → Fsmd → Type 0

@@ -4,9 +4,9 @@ use Rattle.std.specs.List.{slice_index_or}
 use Rattle.fs_model.specs.Terms.{Assignment}
 use Rattle.fs_model.specs.Source.{SourceTransition, SourceState, Source}
 use Rattle.fs_model.specs.Machines.{Fsmd}
-use Rattle.hls_line_rows.specs.Placings.{PlacedOver, join_assignments, row_at, rows_of}
-use Rattle.hls_line_rows.specs.ItemUnits.{Units}
-use Rattle.hls_line_rows.specs.Filling.{Filled, graph_of, filling_of, placed_by}
+use Rattle.hls_line_filling.specs.Placings.{PlacedOver, join_assignments, row_at, rows_of}
+use Rattle.hls_line_filling.specs.ItemUnits.{Units}
+use Rattle.hls_line_filling.specs.Filling.{Filled, graph_of, filling_of, placed_by}
 use Rattle.hls_line_schedules.specs.StraightLines.{straight_line_at, items_at}
 use Rattle.hls_line_schedules.specs.RowMachines.{MoveOver, all_moves}
 

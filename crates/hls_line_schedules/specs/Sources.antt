@@ -4,7 +4,7 @@ use Rattle.std.specs.List.{flat_map}
 use Rattle.fs_model.specs.Source.{SourceState, Source}
 use Rattle.fs_model.specs.Machines.{Fsmd}
 use Rattle.hls_line_schedules.specs.StraightLines.{all_states, is_straight}
-use Rattle.hls_line_rows.specs.ItemUnits.{Units}
+use Rattle.hls_line_filling.specs.ItemUnits.{Units}
 use Rattle.hls_line_schedules.specs.SourceRows.{source_state, named_moves, RowEffect, first_row_effect}
 
 -- a state with a row for its one transition, which stands at the line of the state

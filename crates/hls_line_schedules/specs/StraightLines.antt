@@ -6,7 +6,7 @@ use Rattle.fs_model.specs.Machines.{Fsmd, transitions_of}
 use Rattle.fs_model.specs.Trees.{branches_of}
 use Rattle.fs_ast.specs.SoundParts.{is_cutpoint}
 use Rattle.fs_cut.specs.Paths.{branch_at, target_of}
-use Rattle.hls_line_rows.specs.Items.{Item}
+use Rattle.hls_line_filling.specs.Items.{Item}
 
 -- the numbers of a machine's states, in order
 abbrev pub all_states : Fsmd → List ℕ

@@ -5,7 +5,7 @@ ghost use Rattle.fs_model.specs.Machines.{Fsmd};
 ghost use Rattle.fs_model.specs.Runs.{SameBehaviour};
 ghost use Rattle.fs_ast.specs.SoundParts.{IsSound};
 ghost use Rattle.fs_ast.specs.Rules.{IsEndless};
-ghost use Rattle.hls_line_rows.specs.Items.{Item};
+ghost use Rattle.hls_line_filling.specs.Items.{Item};
 ghost use Rattle.hls_line_schedules.specs.StraightLines.{is_straight, follows, straight_line_at, is_first_of_line, StandsInLine};
 ghost use Rattle.hls_line_schedules.specs.MachineSelections.{machine_of_states, selected_place, IsClosedUnderTargets};
 ghost use Rattle.hls_line_schedules.specs.ScheduledMachines.{kept_states, scheduled_machine};

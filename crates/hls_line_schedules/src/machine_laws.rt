@@ -5,9 +5,9 @@ ghost use Rattle.fs_model.specs.Machines.{Fsmd};
 ghost use Rattle.fs_model.specs.Runs.{SameBehaviour};
 ghost use Rattle.fs_ast.specs.SoundParts.{IsSound};
 ghost use Rattle.hls_line_schedules.specs.StraightLines.{is_first_of_line, straight_line_at, items_at};
-ghost use Rattle.hls_line_rows.specs.ItemUnits.{Units, none_used, suffice};
-ghost use Rattle.hls_line_rows.specs.Heights.{chain_of};
-ghost use Rattle.hls_line_rows.specs.Filling.{graph_of, used_by_all};
+ghost use Rattle.hls_line_filling.specs.ItemUnits.{Units, none_used, suffice};
+ghost use Rattle.hls_line_filling.specs.Heights.{chain_of};
+ghost use Rattle.hls_line_filling.specs.Filling.{graph_of, used_by_all};
 ghost use Rattle.hls_line_schedules.specs.Schedules.{IsWithin, rows_by, schedule_of};
 
 /// A machine each of whose transitions is within the units behaves as it did when its lines are scheduled under these.

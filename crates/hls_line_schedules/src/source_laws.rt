@@ -7,7 +7,7 @@ ghost use Rattle.fs_model.specs.WellFormed.{is_well_formed};
 ghost use Rattle.fs_ast.specs.MachineOfParts.{machine_of};
 ghost use Rattle.fs_ast.specs.SoundParts.{IsSound};
 ghost use Rattle.fs_ast.specs.Rules.{BreaksNoRule};
-ghost use Rattle.hls_line_rows.specs.ItemUnits.{Units};
+ghost use Rattle.hls_line_filling.specs.ItemUnits.{Units};
 ghost use Rattle.hls_line_schedules.specs.Schedules.{IsWithin, schedule_of};
 ghost use Rattle.hls_line_schedules.specs.SourceRows.{named_moves, RowEffect, first_row_effect};
 ghost use Rattle.hls_line_schedules.specs.Sources.{source_by_rows, scheduled_source};

@@ -9,18 +9,18 @@ use Rattle.fs_grammar.specs.declared.format.Format.TheVariants.{One}
 use Rattle.fs_grammar.specs.declared.token.TokenKind.TheVariants.{Prog, If as IfWord, While as WhileWord, Declare, Name, Number, Semicolon, Equals, OpenBracket}
 use Rattle.fs_grammar.specs.declared.token.TokenKind.TheVariants.{CloseBracket, OpenBrace, CloseBrace}
 use Rattle.fs_grammar.specs.Grammar.{Destination, scalar, element, destination_assignment}
-use Rattle.fs_grammar_laws.specs.Spelling.{Word, at, number, factor, product, IsSum, IsDestination, scalar_name, element_at, IsAssignment, assign}
-use Rattle.fs_grammar_laws.specs.Spelling.{no_declarations, more_declarations}
-use Rattle.fs_grammar_laws.specs.Beginnings as rules
-use Rattle.fs_grammar_laws.proofs.Reached.{Cut}
-use Rattle.fs_grammar_laws.proofs.Alternatives.{completed}
-use Rattle.fs_phrase_laws.specs.Expressions.{rule_of}
-use Rattle.fs_phrase_laws.proofs.Beginning.{leads as expression_begins}
+use Rattle.fs_grammar.specs.Spelling.{Word, at, number, factor, product, IsSum, IsDestination, scalar_name, element_at, IsAssignment, assign}
+use Rattle.fs_grammar.specs.Spelling.{no_declarations, more_declarations}
+use Rattle.fs_grammar.specs.Beginnings as rules
+use Rattle.fs_grammar.proofs.Reached.{Cut}
+use Rattle.fs_grammar.proofs.Alternatives.{completed}
+use Rattle.fs_phrase_text.specs.Expressions.{rule_of}
+use Rattle.fs_phrase_text.proofs.Beginning.{leads as expression_begins}
 use Rattle.fs_phrase_text.specs.Declaring.{Declaring}
 use Rattle.fs_phrase_text.specs.Declaring as declaring
-use Rattle.fs_phrase_laws.specs.Declarations.{of_role}
-use Rattle.fs_phrase_laws.proofs.SoundDeclarations.{leads as declaration_begins}
-use Rattle.hls_program_laws.specs.Programs.{End, Do, If, While, Program, join_blocks}
+use Rattle.fs_phrase_text.specs.Declarations.{of_role}
+use Rattle.fs_phrase_text.proofs.SoundDeclarations.{leads as declaration_begins}
+use Rattle.hls_program_parts.specs.Programs.{End, Do, If, While, Program, join_blocks}
 use Rattle.hls_program_grammar.specs.ProgramGrammar.{Named, Open, outermost, in_yes, in_no, in_body, Hole, for_if, for_while, for_index, for_value}
 use Rattle.hls_program_grammar.specs.ProgramGrammar.{ProgramParseState, at_prog, after_prog, at_declaration, in_declaration, at_block, at_statement, after_name}
 use Rattle.hls_program_grammar.specs.ProgramGrammar.{at_equals, inside, after, after_yes, at_no, at_end, with_declaration}

@@ -10,20 +10,20 @@ use Rattle.fs_grammar.specs.declared.token.TokenKind.{TokenKind}
 use Rattle.fs_grammar.specs.declared.token.TokenKind.TheVariants.{Else, Declare, Semicolon, Equals, CloseBracket, OpenBrace, CloseBrace}
 use Rattle.fs_grammar.specs.declared.token.TokenKind.TheVariants as kinds
 use Rattle.fs_grammar.specs.Grammar.{Destination, destination_assignment}
-use Rattle.fs_grammar_laws.specs.Spelling.{Word, at, IsGuard, IsDestination, scalar_name, element_at, IsAssignment, assign, IsKind, scalars, arrays}
-use Rattle.fs_grammar_laws.specs.Spelling.{IsDeclaration, declaration, AreDeclarations, no_declarations, more_declarations}
-use Rattle.fs_grammar_laws.specs.WordWalks.{and_then}
+use Rattle.fs_grammar.specs.Spelling.{Word, at, IsGuard, IsDestination, scalar_name, element_at, IsAssignment, assign, IsKind, scalars, arrays}
+use Rattle.fs_grammar.specs.Spelling.{IsDeclaration, declaration, AreDeclarations, no_declarations, more_declarations}
+use Rattle.fs_grammar.specs.WordWalks.{and_then}
 use Rattle.fs_expression_text.specs.Inside.{Inside, Whole, whole_sum, whole_guard, whole, at_sum, at_guard, sum_alone, guard_alone}
 use Rattle.fs_expression_text.specs.Inside as inner
-use Rattle.fs_phrase_laws.specs.Expressions.{Expression, a_sum, a_guard, expression_start, SpellsExpression}
-use Rattle.fs_phrase_laws.proofs.SoundExpressions.{walk as walk_inside}
-use Rattle.fs_phrase_laws.proofs.CompleteExpressions.{complete as complete_expression}
+use Rattle.fs_phrase_text.specs.Expressions.{Expression, a_sum, a_guard, expression_start, SpellsExpression}
+use Rattle.fs_phrase_text.proofs.SoundExpressions.{walk as walk_inside}
+use Rattle.fs_phrase_text.proofs.CompleteExpressions.{complete as complete_expression}
 use Rattle.fs_phrase_text.specs.Declaring.{Lead}
 use Rattle.fs_phrase_text.specs.Declaring as declaring
-use Rattle.fs_phrase_laws.specs.Declarations.{of_role}
-use Rattle.fs_phrase_laws.proofs.SoundDeclarations.{walk as walk_declaring}
-use Rattle.fs_phrase_laws.proofs.CompleteDeclarations.{complete as complete_declaration}
-use Rattle.hls_program_laws.specs.Programs.{Block, End, Do, If, While, Program, join_blocks}
+use Rattle.fs_phrase_text.specs.Declarations.{of_role}
+use Rattle.fs_phrase_text.proofs.SoundDeclarations.{walk as walk_declaring}
+use Rattle.fs_phrase_text.proofs.CompleteDeclarations.{complete as complete_declaration}
+use Rattle.hls_program_parts.specs.Programs.{Block, End, Do, If, While, Program, join_blocks}
 use Rattle.hls_program_grammar.specs.ProgramGrammar.{Named, Open, outermost, in_yes, in_no, in_body, Hole, for_if, for_while, for_index, for_value}
 use Rattle.hls_program_grammar.specs.ProgramGrammar.{ProgramParseState, at_prog, at_declaration, in_declaration, at_block, at_statement, inside, after}
 use Rattle.hls_program_grammar.specs.ProgramGrammar.{after_yes, at_no, at_end, with_declaration, close_block, step_inside, step_declaring, program_step}

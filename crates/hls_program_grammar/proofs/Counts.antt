@@ -8,10 +8,10 @@ use Rattle.fs_grammar.specs.declared.token.TokenKind.{TokenKind}
 use Rattle.fs_grammar.specs.declared.token.TokenKind.TheVariants.{Equals, CloseParen, CloseBracket, CloseBrace, Plus, Minus, Star, Slash, Percent, AndAnd, OrOr}
 use Rattle.fs_grammar.specs.declared.token.TokenKind.TheVariants.{Relation}
 use Rattle.fs_grammar.specs.Operators.{is_operator}
-use Rattle.fs_grammar_laws.specs.Spelling as grammar
-use Rattle.fs_grammar_laws.specs.Spelling.{Word, at, IsFactor, IsProduct, IsSum, IsUnit, IsConjunction, IsGuard, IsAssignment}
-use Rattle.fs_text_laws.proofs.Operators.{operators_of_unit, operators_of_conjunction, operators_of_factor, operators_of_product, bracket_less-left}
-use Rattle.fs_text_laws.proofs.Operators.{bracket_less, at_most_one}
+use Rattle.fs_grammar.specs.Spelling as grammar
+use Rattle.fs_grammar.specs.Spelling.{Word, at, IsFactor, IsProduct, IsSum, IsUnit, IsConjunction, IsGuard, IsAssignment}
+use Rattle.fs_lex.proofs.Operators.{operators_of_unit, operators_of_conjunction, operators_of_factor, operators_of_product, bracket_less-left}
+use Rattle.fs_lex.proofs.Operators.{bracket_less, at_most_one}
 use Rattle.hls_program_grammar.specs.ProgramLimits.{word_operator_count, token_kind_of}
 
 pub count_append : (a b : List Word) → word_operator_count (a ++ b) ≡ word_operator_count a + word_operator_count b

@@ -4,11 +4,11 @@ use Rattle.std.specs.Prelude.{true, IfSome}
 use Rattle.std.proofs.lemmas.Bool.{ltb-true}
 use Rattle.fs_grammar.specs.declared.token.TokenKind.{TokenKind}
 use Rattle.fs_grammar.specs.declared.token.TokenKind.TheVariants.{If as IfWord, Else, While as WhileWord, OpenBrace}
-use Rattle.fs_grammar_laws.specs.Spelling.{Word, at}
+use Rattle.fs_grammar.specs.Spelling.{Word, at}
 use Rattle.fs_expression_text.specs.Inside.{whole_guard, at_guard, guard_alone}
-use Rattle.fs_phrase_laws.specs.Expressions.{a_guard}
-use Rattle.hls_program_laws.specs.Programs.{End}
-use Rattle.hls_program_laws.specs.WellFormedPrograms.{most_depth}
+use Rattle.fs_phrase_text.specs.Expressions.{a_guard}
+use Rattle.hls_program_parts.specs.Programs.{End}
+use Rattle.hls_program_parts.specs.WellFormedPrograms.{most_depth}
 use Rattle.hls_program_grammar.specs.ProgramGrammar as machine
 use Rattle.hls_program_grammar.specs.ProgramGrammar.{Named, Open, depth_of, in_yes, in_no, in_body, for_if, for_while, ProgramParseState, at_prog, at_block}
 use Rattle.hls_program_grammar.specs.ProgramGrammar.{at_statement, inside, after, is_deep, program_step}

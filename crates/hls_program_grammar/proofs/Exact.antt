@@ -13,12 +13,12 @@ use Rattle.fs_grammar.specs.declared.token.TokenKind.{TokenKind}
 use Rattle.fs_grammar.specs.declared.token.TokenKind.TheVariants.{Bad, End}
 use Rattle.fs_grammar.specs.declared.token.Token.{Token}
 use Rattle.fs_grammar.specs.Tokens.{fault_of, fault_at}
-use Rattle.fs_grammar_laws.specs.Spelling.{Word, at}
-use Rattle.fs_grammar_laws.specs.WordWalks.{words, and_then}
-use Rattle.fs_grammar_laws.specs.Faults.{word_of, IsPlain, AreEndedTokens}
-use Rattle.fs_grammar_laws.proofs.Exact.{words_append}
-use Rattle.fs_text_laws.proofs.Read.{counts_few}
-use Rattle.hls_program_laws.specs.Programs.{Program}
+use Rattle.fs_grammar.specs.Spelling.{Word, at}
+use Rattle.fs_grammar.specs.WordWalks.{words, and_then}
+use Rattle.fs_grammar.specs.Faults.{word_of, IsPlain, AreEndedTokens}
+use Rattle.fs_grammar.proofs.Exact.{words_append}
+use Rattle.fs_lex.proofs.Read.{counts_few}
+use Rattle.hls_program_parts.specs.Programs.{Program}
 use Rattle.hls_program_grammar.specs.Marks.{opens_relation, is_counted, starts_anew, operators_up_to, is_past_program_limit}
 use Rattle.hls_program_grammar.specs.ProgramGrammar.{ProgramParseState, at_prog, at_end, is_deep, program_step, finish_program, stop_program}
 use Rattle.hls_program_grammar.specs.ProgramGrammar.{take_program_token, program_reading}

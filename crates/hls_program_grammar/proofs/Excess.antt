@@ -10,18 +10,18 @@ use Rattle.fs_grammar.specs.declared.token.TokenKind.{TokenKind}
 use Rattle.fs_grammar.specs.declared.token.TokenKind.TheVariants.{Prog, If as IfWord, Else, While as WhileWord, Declare, Array, Name, Number, Comma, Semicolon}
 use Rattle.fs_grammar.specs.declared.token.TokenKind.TheVariants.{Equals, OpenBracket, CloseBracket, OpenBrace, CloseBrace}
 use Rattle.fs_grammar.specs.Grammar.{element, destination_assignment}
-use Rattle.fs_grammar_laws.specs.Spelling.{Word, at, number, factor, product, IsGuard, IsSum, element_at, IsAssignment, assign}
-use Rattle.fs_grammar_laws.specs.Beginnings as rules
-use Rattle.fs_grammar_laws.proofs.Reached.{Cut}
-use Rattle.fs_grammar_laws.proofs.Alternatives.{completed}
+use Rattle.fs_grammar.specs.Spelling.{Word, at, number, factor, product, IsGuard, IsSum, element_at, IsAssignment, assign}
+use Rattle.fs_grammar.specs.Beginnings as rules
+use Rattle.fs_grammar.proofs.Reached.{Cut}
+use Rattle.fs_grammar.proofs.Alternatives.{completed}
 use Rattle.fs_expression_text.specs.Inside.{Inside, Whole, whole_guard, whole}
 use Rattle.fs_expression_text.specs.Inside as inner
-use Rattle.fs_phrase_laws.specs.Expressions.{rule_of, SpellsExpression}
-use Rattle.fs_phrase_laws.proofs.SoundExpressions.{sound as sound_expression}
-use Rattle.fs_phrase_laws.proofs.Beginning.{leads as expression_begins}
+use Rattle.fs_phrase_text.specs.Expressions.{rule_of, SpellsExpression}
+use Rattle.fs_phrase_text.proofs.SoundExpressions.{sound as sound_expression}
+use Rattle.fs_phrase_text.proofs.Beginning.{leads as expression_begins}
 use Rattle.fs_phrase_text.specs.Declaring.{Declaring}
 use Rattle.fs_phrase_text.specs.Declaring as declaring
-use Rattle.hls_program_laws.specs.Programs.{End, If, join_blocks}
+use Rattle.hls_program_parts.specs.Programs.{End, If, join_blocks}
 use Rattle.hls_program_grammar.specs.Marks.{is_counted, is_past_program_limit}
 use Rattle.hls_program_grammar.specs.ProgramGrammar.{Named, Open, depth_of, Hole, for_if, for_while, for_index, for_value, ProgramParseState, at_prog}
 use Rattle.hls_program_grammar.specs.ProgramGrammar.{after_prog, at_declaration, in_declaration, at_block, at_statement, after_name, at_equals, inside, after}

@@ -1,7 +1,7 @@
 -- Words spell one program at most.
 use Rattle.std.proofs.Common.{◌≡◌, List, Option, Some}
-use Rattle.fs_grammar_laws.specs.Spelling.{Word}
-use Rattle.hls_program_laws.specs.Programs.{Program}
+use Rattle.fs_grammar.specs.Spelling.{Word}
+use Rattle.hls_program_parts.specs.Programs.{Program}
 use Rattle.hls_program_grammar.specs.ProgramGrammar.{ProgramParseState, at_prog, at_end}
 use Rattle.hls_program_grammar.specs.ProgramSpelling.{IsProgram}
 use Rattle.hls_program_grammar.proofs.Walks.{walk}

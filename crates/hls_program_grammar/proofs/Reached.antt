@@ -6,14 +6,14 @@ use Rattle.fs_model.specs.Source.{Declaration}
 use Rattle.fs_grammar.specs.declared.format.Format.TheVariants.{One}
 use Rattle.fs_grammar.specs.declared.token.TokenKind.TheVariants.{Prog, If, Else, While, Declare, Name, Semicolon, Equals, OpenBracket, OpenBrace}
 use Rattle.fs_grammar.specs.Grammar.{Destination}
-use Rattle.fs_grammar_laws.specs.Spelling.{Word, at, IsGuard, IsDestination, AreDeclarations}
-use Rattle.fs_grammar_laws.proofs.Reached.{Cut, Is}
+use Rattle.fs_grammar.specs.Spelling.{Word, at, IsGuard, IsDestination, AreDeclarations}
+use Rattle.fs_grammar.proofs.Reached.{Cut, Is}
 use Rattle.fs_expression_text.specs.Inside.{Inside}
-use Rattle.fs_phrase_laws.specs.Expressions.{Expression, a_sum, a_guard, expression_start}
-use Rattle.fs_phrase_laws.proofs.SoundExpressions.{walk as walk_inside}
+use Rattle.fs_phrase_text.specs.Expressions.{Expression, a_sum, a_guard, expression_start}
+use Rattle.fs_phrase_text.proofs.SoundExpressions.{walk as walk_inside}
 use Rattle.fs_phrase_text.specs.Declaring.{Declaring}
 use Rattle.fs_phrase_text.specs.Declaring as declaring
-use Rattle.fs_phrase_laws.proofs.SoundDeclarations.{walk as walk_declaring}
+use Rattle.fs_phrase_text.proofs.SoundDeclarations.{walk as walk_declaring}
 use Rattle.hls_program_grammar.specs.ProgramGrammar as machine
 use Rattle.hls_program_grammar.specs.ProgramGrammar.{Named, Open, Hole, for_if, for_while, for_index, for_value, ProgramParseState, at_prog, after_prog}
 use Rattle.hls_program_grammar.specs.ProgramGrammar.{at_declaration, in_declaration, at_block, at_statement, after_name, at_equals, after, after_yes, at_no}

@@ -9,21 +9,21 @@ use Rattle.fs_grammar.specs.declared.token.TokenKind.{TokenKind}
 use Rattle.fs_grammar.specs.declared.token.TokenKind.TheVariants.{Prog, If as IfWord, Else, While as WhileWord, Declare, Name, Semicolon, Equals, OpenBracket}
 use Rattle.fs_grammar.specs.declared.token.TokenKind.TheVariants.{CloseBracket, OpenBrace, CloseBrace}
 use Rattle.fs_grammar.specs.Grammar.{scalar, destination_assignment}
-use Rattle.fs_grammar_laws.specs.Spelling.{Word, at, scalar_name, element_at, assign, no_declarations, more_declarations}
-use Rattle.fs_grammar_laws.specs.WordWalks.{and_then}
-use Rattle.fs_grammar_laws.proofs.Reached.{Cut, Is}
-use Rattle.fs_grammar_laws.proofs.Sound.{snoc}
+use Rattle.fs_grammar.specs.Spelling.{Word, at, scalar_name, element_at, assign, no_declarations, more_declarations}
+use Rattle.fs_grammar.specs.WordWalks.{and_then}
+use Rattle.fs_grammar.proofs.Reached.{Cut, Is}
+use Rattle.fs_grammar.proofs.Sound.{snoc}
 use Rattle.fs_expression_text.specs.Inside.{Inside, Whole, whole_sum, whole_guard, whole}
 use Rattle.fs_expression_text.specs.Inside as inner
-use Rattle.fs_phrase_laws.specs.Expressions.{expression_start, SpellsExpression}
-use Rattle.fs_phrase_laws.proofs.SoundExpressions.{sound as sound_expression}
-use Rattle.fs_phrase_laws.proofs.Beginning.{walk_append as walk_append_inside}
+use Rattle.fs_phrase_text.specs.Expressions.{expression_start, SpellsExpression}
+use Rattle.fs_phrase_text.proofs.SoundExpressions.{sound as sound_expression}
+use Rattle.fs_phrase_text.proofs.Beginning.{walk_append as walk_append_inside}
 use Rattle.fs_phrase_text.specs.Declaring.{Declaring, Lead}
 use Rattle.fs_phrase_text.specs.Declaring as declaring
-use Rattle.fs_phrase_laws.specs.Declarations.{of_role}
-use Rattle.fs_phrase_laws.proofs.SoundDeclarations.{walk as walk_declaring, sound as sound_declaration}
-use Rattle.fs_phrase_laws.proofs.CompleteDeclarations.{walk_append as walk_append_declaring}
-use Rattle.hls_program_laws.specs.Programs.{End, Do, If, While, Program, join_blocks}
+use Rattle.fs_phrase_text.specs.Declarations.{of_role}
+use Rattle.fs_phrase_text.proofs.SoundDeclarations.{walk as walk_declaring, sound as sound_declaration}
+use Rattle.fs_phrase_text.proofs.CompleteDeclarations.{walk_append as walk_append_declaring}
+use Rattle.hls_program_parts.specs.Programs.{End, Do, If, While, Program, join_blocks}
 use Rattle.hls_program_grammar.specs.ProgramGrammar.{Named, Open, Hole, for_if, for_while, for_index, for_value, ProgramParseState, at_prog, after_prog}
 use Rattle.hls_program_grammar.specs.ProgramGrammar.{at_declaration, in_declaration, at_block, at_statement, after_name, at_equals, inside, after, after_yes}
 use Rattle.hls_program_grammar.specs.ProgramGrammar.{at_no, at_end, close_block, step_statement, step_after, step_inside, step_declaring, program_step}

@@ -4,7 +4,7 @@ use Rattle.fs_model.specs.Terms.{Term, Variable, Negative, Guard, Test, Not, And
 use Rattle.fs_grammar.specs.declared.token.Flaw.{Flaw}
 use Rattle.fs_grammar.specs.declared.token.TokenKind.{TokenKind}
 use Rattle.fs_grammar.specs.declared.token.TokenKind.TheVariants.{Bad, End}
-use Rattle.fs_grammar_laws.specs.Faults.{IsLast}
+use Rattle.fs_grammar.specs.Faults.{IsLast}
 use Rattle.fs_expression_text.specs.TermOperators.{product_term, sum_term}
 use Rattle.fs_expression_text.specs.Inside.{UnitContext, ConjunctionContext, GuardContext, FactorContext, ProductContext, SumContext, Inside, negates}
 use Rattle.fs_expression_text.specs.Inside.{first_of_all, and_after, first_of_any, or_after, first_factor, next_factor, negative, first_product, next_product}

@@ -10,10 +10,10 @@ use Rattle.fs_grammar.specs.declared.token.TokenKind.TheVariants.{CloseBracket, 
 use Rattle.fs_grammar.specs.declared.token.TokenKind.TheVariants.{Relation}
 use Rattle.fs_grammar.specs.Operators.{is_operator}
 use Rattle.fs_grammar.specs.Grammar.{Destination}
-use Rattle.fs_grammar_laws.specs.Spelling as grammar
-use Rattle.fs_grammar_laws.specs.Spelling.{Word, at, IsFactor, IsProduct, IsSum, IsUnit, IsConjunction, IsGuard, IsDestination, IsAssignment, IsDeclaration}
-use Rattle.fs_grammar_laws.specs.Spelling.{AreDeclarations}
-use Rattle.hls_program_laws.specs.Programs.{Block}
+use Rattle.fs_grammar.specs.Spelling as grammar
+use Rattle.fs_grammar.specs.Spelling.{Word, at, IsFactor, IsProduct, IsSum, IsUnit, IsConjunction, IsGuard, IsDestination, IsAssignment, IsDeclaration}
+use Rattle.fs_grammar.specs.Spelling.{AreDeclarations}
+use Rattle.hls_program_parts.specs.Programs.{Block}
 use Rattle.hls_program_grammar.specs.Marks.{opens_relation, is_counted, starts_anew, operators_up_to, is_past_program_limit}
 use Rattle.hls_program_grammar.specs.ProgramSpelling.{IsStatement, assigns, chooses, chooses_else, repeats, IsBlock, block, AreStatements, no_statements}
 use Rattle.hls_program_grammar.specs.ProgramSpelling.{more_statements}

@@ -8,15 +8,15 @@ use Rattle.fs_grammar.specs.declared.fault.TextKind.TheVariants.{BadByte}
 use Rattle.fs_grammar.specs.declared.token.TokenKind.{TokenKind}
 use Rattle.fs_grammar.specs.declared.token.TokenKind.TheVariants.{Bad, End}
 use Rattle.fs_grammar.specs.declared.token.Token.{Token}
-use Rattle.fs_grammar_laws.specs.Spelling.{Word}
-use Rattle.fs_grammar_laws.specs.WordWalks.{words}
-use Rattle.fs_grammar_laws.specs.Faults.{word_of, IsLast, AreEndedTokens}
+use Rattle.fs_grammar.specs.Spelling.{Word}
+use Rattle.fs_grammar.specs.WordWalks.{words}
+use Rattle.fs_grammar.specs.Faults.{word_of, IsLast, AreEndedTokens}
 use Rattle.fs_lex.specs.Scan.{tokens_of}
-use Rattle.fs_text_laws.specs.Tokenization.{AreTokens, kind_and_place}
-use Rattle.fs_text_laws.proofs.Tokenized.{tokenized}
-use Rattle.fs_text_laws.proofs.Unique.{one_list}
-use Rattle.fs_text_laws.proofs.Ended.{tokens_ended}
-use Rattle.hls_program_laws.specs.Programs.{Program}
+use Rattle.fs_lex.specs.Tokenization.{AreTokens, kind_and_place}
+use Rattle.fs_lex.proofs.Tokenized.{tokenized}
+use Rattle.fs_lex.proofs.Unique.{one_list}
+use Rattle.fs_lex.proofs.Ended.{tokens_ended}
+use Rattle.hls_program_parts.specs.Programs.{Program}
 use Rattle.hls_program_grammar.specs.ProgramKeywords.{program_kind}
 use Rattle.hls_program_grammar.specs.Marks.{opens_relation, operators_up_to, marked_token, mark_tokens, program_tokens}
 use Rattle.hls_program_grammar.specs.ProgramGrammar.{at_prog, program_reading}

@@ -1,8 +1,8 @@
 -- Where words lead in a program, word by word.
 use Rattle.std.proofs.Common.{◌≡◌, ℕ, List, [], ◌∷◌, ◌++◌, Option, Some, None, refl, ◌∙◌}
 use Rattle.fs_grammar.specs.declared.token.TokenKind.{TokenKind}
-use Rattle.fs_grammar_laws.specs.Spelling.{Word, at}
-use Rattle.fs_grammar_laws.specs.WordWalks.{and_then}
+use Rattle.fs_grammar.specs.Spelling.{Word, at}
+use Rattle.fs_grammar.specs.WordWalks.{and_then}
 use Rattle.hls_program_grammar.specs.ProgramGrammar.{ProgramParseState, program_step}
 
 -- where words lead from a parse state, or none where one of them cannot follow

@@ -18,17 +18,17 @@ use Rattle.fs_grammar.specs.declared.token.TokenKind.TheVariants.{Prog, If as If
 use Rattle.fs_grammar.specs.declared.token.TokenKind.TheVariants.{CloseParen, CloseBracket, OpenBrace, CloseBrace, Plus, Minus, Star, Slash, Percent, AndAnd}
 use Rattle.fs_grammar.specs.declared.token.TokenKind.TheVariants.{OrOr, Relation}
 use Rattle.fs_grammar.specs.declared.token.Token.{Token}
-use Rattle.fs_grammar_laws.specs.Spelling as grammar
-use Rattle.fs_grammar_laws.specs.Spelling.{Word, at, IsFactor, IsProduct, IsSum, IsUnit, IsConjunction, IsGuard, IsAssignment, AreNames, IsKind, IsDeclaration}
-use Rattle.fs_grammar_laws.specs.Spelling.{AreDeclarations}
-use Rattle.fs_grammar_laws.specs.WordWalks.{words}
-use Rattle.fs_grammar_laws.proofs.Inside.{front}
+use Rattle.fs_grammar.specs.Spelling as grammar
+use Rattle.fs_grammar.specs.Spelling.{Word, at, IsFactor, IsProduct, IsSum, IsUnit, IsConjunction, IsGuard, IsAssignment, AreNames, IsKind, IsDeclaration}
+use Rattle.fs_grammar.specs.Spelling.{AreDeclarations}
+use Rattle.fs_grammar.specs.WordWalks.{words}
+use Rattle.fs_grammar.proofs.Inside.{front}
 use Rattle.fs_lex.specs.Scan.{operators_up_to_token as counted_by_scan, tokens_of}
-use Rattle.fs_text_laws.specs.Kinds.{IsProper}
-use Rattle.fs_text_laws.proofs.Counted.{AreCounted, tokens_counted}
-use Rattle.hls_program_laws.specs.Programs.{Block, End, Do, If, While, Program}
-use Rattle.hls_program_laws.specs.WellFormedPrograms.{most_depth, is_free, is_program_term, has_program_terms, assigns_program_terms, is_program_guard}
-use Rattle.hls_program_laws.specs.WellFormedPrograms.{is_program_assignment, is_program_declaration, depth, is_well_formed_program}
+use Rattle.fs_lex.specs.Kinds.{IsProper}
+use Rattle.fs_lex.proofs.Counted.{AreCounted, tokens_counted}
+use Rattle.hls_program_parts.specs.Programs.{Block, End, Do, If, While, Program}
+use Rattle.hls_program_parts.specs.WellFormedPrograms.{most_depth, is_free, is_program_term, has_program_terms, assigns_program_terms, is_program_guard}
+use Rattle.hls_program_parts.specs.WellFormedPrograms.{is_program_assignment, is_program_declaration, depth, is_well_formed_program}
 use Rattle.hls_program_parts.proofs.Fits.{fits, fits_joined, fits_if, fits_while}
 use Rattle.hls_program_grammar.specs.ProgramKeywords.{word_or_name, program_kind}
 use Rattle.hls_program_grammar.specs.Marks.{opens_relation, operators_up_to, mark_tokens, program_tokens}

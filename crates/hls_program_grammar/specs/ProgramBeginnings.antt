@@ -4,8 +4,8 @@ use Rattle.fs_model.specs.Terms.{Guard, Assignment}
 use Rattle.fs_model.specs.Source.{Declaration}
 use Rattle.fs_grammar.specs.declared.format.Format.TheVariants.{One}
 use Rattle.fs_grammar.specs.declared.token.TokenKind.TheVariants.{Prog, If, Else, While, Semicolon, OpenBrace}
-use Rattle.fs_grammar_laws.specs.Spelling.{Word, at, IsGuard, IsAssignment, AreDeclarations}
-use Rattle.hls_program_laws.specs.Programs.{Block, Program}
+use Rattle.fs_grammar.specs.Spelling.{Word, at, IsGuard, IsAssignment, AreDeclarations}
+use Rattle.hls_program_parts.specs.Programs.{Block, Program}
 use Rattle.hls_program_grammar.specs.ProgramSpelling.{IsBlock, AreStatements, IsProgram}
 
 -- Words that begin a program: with more words behind them they spell one.

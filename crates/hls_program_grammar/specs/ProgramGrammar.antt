@@ -11,8 +11,8 @@ use Rattle.fs_grammar.specs.declared.token.TokenKind.TheVariants as kinds
 use Rattle.fs_grammar.specs.declared.token.Token.{Token}
 use Rattle.fs_grammar.specs.Tokens.{refusal, fault_at}
 use Rattle.fs_grammar.specs.Grammar.{Destination, scalar, element, destination_assignment}
-use Rattle.hls_program_laws.specs.Programs.{Block, End, Do, If, While, Program, join_blocks}
-use Rattle.hls_program_laws.specs.WellFormedPrograms.{most_depth}
+use Rattle.hls_program_parts.specs.Programs.{Block, End, Do, If, While, Program, join_blocks}
+use Rattle.hls_program_parts.specs.WellFormedPrograms.{most_depth}
 use Rattle.fs_expression_text.specs.Inside.{Inside, Whole, whole_sum, whole_guard, whole, at_sum, at_guard, sum_alone}
 use Rattle.fs_expression_text.specs.Inside.{guard_alone}
 use Rattle.fs_expression_text.specs.Inside as inner

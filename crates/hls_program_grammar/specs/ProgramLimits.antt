@@ -10,11 +10,11 @@ use Rattle.fs_grammar.specs.declared.token.TokenKind.{TokenKind}
 use Rattle.fs_grammar.specs.declared.token.TokenKind.TheVariants.{OpenBrace, Bad, End}
 use Rattle.fs_grammar.specs.declared.token.Token.{Token}
 use Rattle.fs_grammar.specs.Operators.{is_operator}
-use Rattle.fs_grammar_laws.specs.Spelling.{Word, at}
-use Rattle.fs_grammar_laws.specs.WordWalks.{words}
-use Rattle.fs_grammar_laws.specs.Faults.{word_of, IsPlain}
-use Rattle.hls_program_laws.specs.Programs.{Program}
-use Rattle.hls_program_laws.specs.WellFormedPrograms.{most_depth}
+use Rattle.fs_grammar.specs.Spelling.{Word, at}
+use Rattle.fs_grammar.specs.WordWalks.{words}
+use Rattle.fs_grammar.specs.Faults.{word_of, IsPlain}
+use Rattle.hls_program_parts.specs.Programs.{Program}
+use Rattle.hls_program_parts.specs.WellFormedPrograms.{most_depth}
 use Rattle.hls_program_grammar.specs.ProgramSpelling.{IsProgram}
 use Rattle.hls_program_grammar.specs.ProgramBeginnings.{BeginsProgram, OpensBlock, IsInProgramExpression}
 

@@ -6,8 +6,8 @@ use Rattle.fs_model.specs.Source.{Declaration}
 use Rattle.fs_grammar.specs.declared.format.Format.TheVariants.{One}
 use Rattle.fs_grammar.specs.declared.token.TokenKind.TheVariants.{Prog, Else, Semicolon, OpenBrace, CloseBrace}
 use Rattle.fs_grammar.specs.declared.token.TokenKind.TheVariants as kinds
-use Rattle.fs_grammar_laws.specs.Spelling.{Word, at, IsGuard, IsAssignment, AreDeclarations}
-use Rattle.hls_program_laws.specs.Programs.{Block, End, Do, If, While, Program, join_blocks}
+use Rattle.fs_grammar.specs.Spelling.{Word, at, IsGuard, IsAssignment, AreDeclarations}
+use Rattle.hls_program_parts.specs.Programs.{Block, End, Do, If, While, Program, join_blocks}
 
 -- the line of the first word
 abbrev pub first_line : List Word → ℕ

@@ -3,8 +3,8 @@
 use Rattle.std.specs.Prelude.{ℕ, false, List, [], map}
 use Rattle.fs_grammar.specs.declared.fault.TextFault.{TextFault}
 use Rattle.fs_grammar.specs.declared.token.Token.{Token}
-use Rattle.fs_text_laws.specs.Tokenization.{AreTokens}
-use Rattle.hls_program_laws.specs.Programs.{Program}
+use Rattle.fs_lex.specs.Tokenization.{AreTokens}
+use Rattle.hls_program_parts.specs.Programs.{Program}
 use Rattle.hls_program_grammar.specs.ProgramKeywords.{program_kind}
 use Rattle.hls_program_grammar.specs.ProgramLimits.{TokensSpellProgram, TokensStopProgram}
 

@@ -16,10 +16,10 @@
 
 ghost use Rattle.std.specs.Prelude.{◌≡◌, ◌⊎◌, ◌↔◌, ℕ, List, Ok, Err, IsTrue};
 ghost use Rattle.fs_grammar.specs.declared.fault.TextFault.{TextFault};
-ghost use Rattle.fs_grammar_laws.specs.Spelling.{Word};
+ghost use Rattle.fs_grammar.specs.Spelling.{Word};
 ghost use Rattle.fs_lex.specs.Scan.{tokens_of};
-ghost use Rattle.hls_program_laws.specs.Programs.{Program};
-ghost use Rattle.hls_program_laws.specs.WellFormedPrograms.{is_well_formed_program};
+ghost use Rattle.hls_program_parts.specs.Programs.{Program};
+ghost use Rattle.hls_program_parts.specs.WellFormedPrograms.{is_well_formed_program};
 ghost use Rattle.hls_program_grammar.specs.ProgramGrammar.{at_prog, program_reading};
 ghost use Rattle.hls_program_grammar.specs.Marks.{program_tokens};
 ghost use Rattle.hls_program_grammar.specs.ProgramSpelling.{IsProgram};

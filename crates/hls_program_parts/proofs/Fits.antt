@@ -4,8 +4,8 @@ use Rattle.std.specs.Prelude.{◌&&◌, nat_le, max}
 use Rattle.std.proofs.lemmas.Bool.Decides.{nat_tests}
 use Rattle.fs_model.proofs.Booleans.{and_swap}
 use Rattle.fs_model.specs.Terms.{Guard}
-use Rattle.hls_program_laws.specs.Programs.{Block, End, Do, If, While, join_blocks}
-use Rattle.hls_program_laws.specs.WellFormedPrograms.{is_program_guard, is_program_block, depth}
+use Rattle.hls_program_parts.specs.Programs.{Block, End, Do, If, While, join_blocks}
+use Rattle.hls_program_parts.specs.WellFormedPrograms.{is_program_guard, is_program_block, depth}
 
 -- parts of a program, nested at most so many deep
 abbrev pub fits : ℕ → Block (List ℕ) → Bool

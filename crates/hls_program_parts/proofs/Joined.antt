@@ -4,10 +4,10 @@ use Rattle.std.specs.Prelude.{min}
 use Rattle.std.proofs.Math.Nat.{min-eq_left}
 use Rattle.std.proofs.lemmas.List.{map-append, nil_from_length}
 use Rattle.fs_model.specs.Terms.{Guard, Transition}
-use Rattle.hls_program_laws.specs.Programs.{Block, End, Do, If, While, join_blocks}
-use Rattle.hls_program_laws.specs.Compiled.{count, first, always, where_holds, states_of, state_name, named_state, numbered_states}
+use Rattle.hls_program_parts.specs.Programs.{Block, End, Do, If, While, join_blocks}
+use Rattle.hls_program_parts.specs.Compiled.{count, first, always, where_holds, states_of, state_name, named_state, numbered_states}
 use Rattle.fs_model.specs.Source.{SourceState}
-use Rattle.hls_program_laws.proofs.Numbers.{length_states}
+use Rattle.hls_program_parts.proofs.Numbers.{length_states}
 use Rattle.hls_program_parts.specs.declared.program.Stmt.{Stmt}
 use Rattle.hls_program_parts.specs.View.{block_of_statement, block_of}
 

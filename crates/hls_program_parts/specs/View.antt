@@ -1,8 +1,8 @@
 -- The plain data that programs stand for.
 use Rattle.std.specs.Prelude.{ℕ, List, [], ◌∷◌, map}
 use Rattle.fs_model.specs.View.{named_guard, named_assignment, declaration_of}
-use Rattle.hls_program_laws.specs.Programs as plain
-use Rattle.hls_program_laws.specs.Programs.{Block, End, Do, If, While, join_blocks}
+use Rattle.hls_program_parts.specs.Programs as plain
+use Rattle.hls_program_parts.specs.Programs.{Block, End, Do, If, While, join_blocks}
 use Rattle.hls_program_parts.specs.declared.program.Program.{Program}
 use Rattle.hls_program_parts.specs.declared.program.Stmt.{Stmt}
 use Rattle.hls_program_parts.specs.declared.program.Stmt.TheOpen.{Stmt-F}

@@ -1,7 +1,7 @@
 //! How many statements there are.
 
 ghost use Rattle.std.specs.Prelude.{◌≡◌, min};
-ghost use Rattle.hls_program_laws.specs.Compiled.{count, first};
+ghost use Rattle.hls_program_parts.specs.Compiled.{count, first};
 ghost use Rattle.hls_program_parts.specs.View.{block_of_statement, block_of};
 
 use crate::program::Stmt;

@@ -2,7 +2,7 @@
 
 ghost use Rattle.std.specs.Prelude.{◌≡◌, ◌∷◌, map, IfOk};
 ghost use Rattle.fs_model.specs.View.{declaration_of, source_of, source_state_of};
-ghost use Rattle.hls_program_laws.specs.Compiled.{entry_block, numbered_states, parts_of, state_name, states_of};
+ghost use Rattle.hls_program_parts.specs.Compiled.{entry_block, numbered_states, parts_of, state_name, states_of};
 ghost use Rattle.hls_program_parts.specs.View.{block_of, program_of};
 
 use crate::counts::{count, first};

@@ -2,7 +2,7 @@
 
 ghost use Rattle.std.specs.Prelude.{◌≡◌, ◌<◌, ◌+◌, ◌^◌, ◌++◌, ◌∷◌, [], map, IfOk, OnOk};
 ghost use Rattle.fs_model.specs.View.{named_assignment, source_state_of};
-ghost use Rattle.hls_program_laws.specs.Compiled.{count, numbered_states, state_name, states_of};
+ghost use Rattle.hls_program_parts.specs.Compiled.{count, numbered_states, state_name, states_of};
 ghost use Rattle.hls_program_parts.specs.View.{block_of_statement, block_of};
 
 use crate::counts::{count, first, size};

@@ -2,7 +2,7 @@
 
 ghost use Rattle.std.specs.Prelude.{◌≡◌, ◌∷◌, [], map, IfOk, string_bytes};
 ghost use Rattle.fs_model.specs.View.{named_assignment, named_guard, source_state_of, source_transition_of};
-ghost use Rattle.hls_program_laws.specs.Compiled.{always, named_state, state_name, where_holds};
+ghost use Rattle.hls_program_parts.specs.Compiled.{always, named_state, state_name, where_holds};
 
 use fs_model::assignment_copies::copied_guard;
 use fs_model::name::{Name, NoMemory};

@@ -3,9 +3,9 @@
 ghost use Rattle.std.specs.Prelude.{◌≡◌, ◌&&◌, nat_le, map};
 ghost use Rattle.std.specs.List.{list_all};
 ghost use Rattle.fs_model.specs.View.{declaration_of, named_assignment, named_guard, named_term};
-ghost use Rattle.hls_program_laws.specs.WellFormedPrograms.{assigns_program_terms, depth, has_program_terms, is_free};
-ghost use Rattle.hls_program_laws.specs.WellFormedPrograms.{is_program_assignment, is_program_block, is_program_declaration};
-ghost use Rattle.hls_program_laws.specs.WellFormedPrograms.{is_program_guard, is_program_term, is_well_formed_program};
+ghost use Rattle.hls_program_parts.specs.WellFormedPrograms.{assigns_program_terms, depth, has_program_terms, is_free};
+ghost use Rattle.hls_program_parts.specs.WellFormedPrograms.{is_program_assignment, is_program_block, is_program_declaration};
+ghost use Rattle.hls_program_parts.specs.WellFormedPrograms.{is_program_guard, is_program_term, is_well_formed_program};
 ghost use Rattle.hls_program_parts.specs.View.{block_of_statement, block_of, program_of};
 
 use crate::program::{Program, Stmt};

@@ -1,7 +1,7 @@
 -- Sums, guards and declarations in programs read as they do by themselves.
 use Rattle.std.proofs.Common.{◌≡◌, ℕ, List, [], ◌∷◌, Option, Some, None, Result, Ok, Err, refl, ◌∙◌}
 use Rattle.std.specs.Prelude.{IfOk}
-use Rattle.fs_phrase_laws.proofs.Called.{guard_stops, sum_stops}
+use Rattle.fs_phrase_text.proofs.Called.{guard_stops, sum_stops}
 use Rattle.fs_model.specs.Terms.{Term, Guard}
 use Rattle.fs_model.specs.Source.{Declaration}
 use Rattle.fs_grammar.specs.declared.fault.TextFault.{TextFault}

@@ -16,8 +16,8 @@ use Rattle.fs_grammar.specs.PartEnds.{IsNoIndex, EndsName, name_in}
 use Rattle.fs_grammar.specs.Grammar.{scalar}
 use Rattle.fs_expression_text.specs.Inside.{whole_guard, at_sum, at_guard, sum_alone, guard_alone}
 use Rattle.fs_phrase_text.specs.Declaring as declaring
-use Rattle.hls_program_laws.specs.Programs.{End, If, join_blocks}
-use Rattle.hls_program_laws.specs.WellFormedPrograms.{most_depth}
+use Rattle.hls_program_parts.specs.Programs.{End, If, join_blocks}
+use Rattle.hls_program_parts.specs.WellFormedPrograms.{most_depth}
 use Rattle.hls_program_parts.specs.declared.program.Stmt.{Stmt}
 use Rattle.hls_program_parts.specs.View.{block_of_statement, block_of}
 use Rattle.hls_program_grammar.specs.ProgramGrammar.{Named, Open, outermost, in_yes, in_no, in_body, depth_of, for_if, for_while, for_index, ProgramParseState}

@@ -9,8 +9,8 @@ use Rattle.fs_grammar.specs.declared.token.TokenKind.TheVariants.{If, While, Dec
 use Rattle.fs_grammar.specs.declared.token.Token.{Token}
 use Rattle.fs_grammar.specs.Tokens.{kind_at, tokens_after, refusal, fault_at, ◌>>=◌}
 use Rattle.fs_grammar.specs.Grammar.{Destination, scalar, element}
-use Rattle.hls_program_laws.specs.Programs.{Program}
-use Rattle.hls_program_laws.specs.WellFormedPrograms.{most_depth}
+use Rattle.hls_program_parts.specs.Programs.{Program}
+use Rattle.hls_program_parts.specs.WellFormedPrograms.{most_depth}
 use Rattle.hls_program_grammar.specs.ProgramGrammar.{Open, depth_of, at_block, program_reading}
 
 abbrev pub role_in : Option TokenKind → Option Role

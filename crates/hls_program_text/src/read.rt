@@ -5,7 +5,7 @@ ghost use Rattle.std.specs.Result.{IfErr};
 ghost use Rattle.fs_model.specs.Limits.{most_text_bytes};
 ghost use Rattle.fs_grammar.specs.Tokens.{Gives};
 ghost use Rattle.fs_lex.specs.Scan.{tokens_of};
-ghost use Rattle.hls_program_laws.specs.WellFormedPrograms.{is_well_formed_program};
+ghost use Rattle.hls_program_parts.specs.WellFormedPrograms.{is_well_formed_program};
 ghost use Rattle.hls_program_parts.specs.View.{program_of};
 ghost use Rattle.hls_program_grammar.specs.Marks as marks;
 ghost use Rattle.hls_program_grammar.specs.ProgramGrammar.{program_reading, at_prog};

@@ -13,9 +13,9 @@ use Rattle.hls_line_schedules.specs.RowMachines.{MoveOver}
 use Rattle.hls_line_schedules.proofs.Among.{range_within}
 use Rattle.hls_line_schedules.proofs.Trails.{member}
 use Rattle.hls_line_schedules.proofs.NewLines.{has_rows, is_first, name_kept}
-use Rattle.hls_line_rows.specs.ItemUnits.{Units}
-use Rattle.hls_line_rows.specs.Heights.{chain_of}
-use Rattle.hls_line_rows.proofs.Chains.{no_shorter}
+use Rattle.hls_line_filling.specs.ItemUnits.{Units}
+use Rattle.hls_line_filling.specs.Heights.{chain_of}
+use Rattle.hls_line_filling.proofs.Chains.{no_shorter}
 use Rattle.hls_line_schedules.specs.Schedules.{IsWithin, rows_by, schedule_of}
 use Rattle.hls_line_schedules.proofs.Schedules.{no_longer, at_least_chain, chain_where_ample, keeps_stores, behaves}
 use Rattle.hls_line_schedules.proofs.Within.{stays_within}

@@ -11,8 +11,8 @@ use Rattle.fs_model.specs.declared.parts.StateId.{StateId}
 use Rattle.fs_model.specs.Terms.{Assignment}
 use Rattle.fs_model.specs.Source.{Source}
 use Rattle.fs_ast.proofs.Turns.{flat_push}
-use Rattle.hls_line_rows.specs.Placings.{PlacedOver, join_assignments, row_at, rows_from}
-use Rattle.hls_line_rows.specs.Filling.{Rows, Filled, is_before, is_in, row_or, placed_from}
+use Rattle.hls_line_filling.specs.Placings.{PlacedOver, join_assignments, row_at, rows_from}
+use Rattle.hls_line_filling.specs.Filling.{Rows, Filled, is_before, is_in, row_or, placed_from}
 use Rattle.hls_line_schedules.specs.RowMachines.{MoveOver, after_row, moves}
 use Rattle.hls_line_schedules.specs.SourceRows.{named_item, placed_in_line}
 use Rattle.hls_sched.specs.declared.moves.Move.{Move}

@@ -3,7 +3,7 @@ use Rattle.std.specs.Prelude.{◌≡◌, ℕ, ◌<◌, ◌≤◌, true, List, ma
 use Rattle.std.specs.List.{All}
 use Rattle.fs_model.specs.Machines.{Fsmd}
 use Rattle.fs_model.specs.Source.{Source}
-use Rattle.hls_line_rows.specs.ItemUnits.{Units}
+use Rattle.hls_line_filling.specs.ItemUnits.{Units}
 use Rattle.hls_line_schedules.specs.StraightLines.{is_first_of_line, straight_line_at, exit_of}
 use Rattle.hls_line_schedules.specs.RowMachines.{MoveOver, moves}
 use Rattle.hls_sched.specs.declared.lines.Line.{Line}

@@ -4,7 +4,7 @@ use Rattle.std.specs.List.{All, flat_map}
 use Rattle.fs_model.specs.declared.parts.StateId.{StateId}
 use Rattle.fs_model.specs.Terms.{Assignment}
 use Rattle.fs_model.specs.Source.{Source}
-use Rattle.hls_line_rows.specs.Filling.{Filled, is_before}
+use Rattle.hls_line_filling.specs.Filling.{Filled, is_before}
 use Rattle.hls_line_schedules.specs.RowMachines.{MoveOver}
 use Rattle.hls_line_filling.specs.declared.plan.Plan.{Plan}
 use Rattle.hls_line_filling.specs.WaitingItems.{rows_in}

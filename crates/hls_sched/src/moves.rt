@@ -4,7 +4,7 @@ ghost use Rattle.std.specs.Prelude.{◌≡◌, ℕ, ◌<◌, ◌≤◌, ◌++◌
 ghost use Rattle.std.specs.List.{All};
 ghost use Rattle.std.specs.Result.{OnOk};
 ghost use Rattle.fs_model.specs.Source.{Source};
-ghost use Rattle.hls_line_rows.specs.Filling.{is_in};
+ghost use Rattle.hls_line_filling.specs.Filling.{is_in};
 ghost use Rattle.hls_line_schedules.specs.RowMachines.{moves};
 ghost use Rattle.hls_line_filling.specs.Plans.{filled_in};
 ghost use Rattle.hls_line_filling.specs.WaitingItems.{rows_in};

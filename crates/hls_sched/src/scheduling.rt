@@ -9,11 +9,11 @@ ghost use Rattle.fs_model.specs.View.{source_of};
 ghost use Rattle.fs_model.specs.WellFormed.{is_well_formed};
 ghost use Rattle.fs_ast.specs.MachineOfParts.{machine_of};
 ghost use Rattle.fs_ast.specs.Rules.{BreaksNoRule};
-ghost use Rattle.hls_line_rows.specs.ItemUnits.{units_in};
+ghost use Rattle.hls_line_filling.specs.ItemUnits.{units_in};
 ghost use Rattle.hls_line_schedules.specs.Schedules.{IsWithin, schedule_of};
 ghost use Rattle.hls_line_schedules.specs.SourceRows.{named_moves};
 ghost use Rattle.hls_line_schedules.specs.Sources.{scheduled_source};
-ghost use Rattle.hls_unit_limits.specs.Over.{over_in};
+ghost use Rattle.hls_line_schedules.specs.Over.{over_in};
 ghost use Rattle.hls_sched.specs.RowMoves.{move_of, IsMoveAmong};
 ghost use Rattle.hls_sched.specs.CodeLines.{IsLineFrom, moves_from};
 ghost use Rattle.hls_sched.specs.Reports.{report_of, report_at, reports, KeepsLengths, IsNotScheduled};
@@ -28,12 +28,12 @@ use fs_ast::machine::Machine;
 use fs_ast_laws::lawful_machines::build_lawful;
 use fs_model::name::NoMemory;
 use fs_model::parts::{Parts, StateId};
+use hls_line_schedules::over::over_in;
 use hls_line_schedules::source_laws::{
     a_scheduled_text_is_lawful, a_scheduled_text_spells_the_schedule,
 };
+use hls_line_schedules::unit_laws::machines_within_the_units;
 use hls_unit_counts::{Unit, Units};
-use hls_unit_limits::laws::machines_within_the_units;
-use hls_unit_limits::over::over_in;
 use std::alloc::Global;
 
 /// A line: its first state, its length, how many rows it has now, and its chain.

@@ -11,7 +11,7 @@ use Rattle.cert_bisimulation.specs.declared.mode.Mode.TheVariants.{Both, Left, R
 use Rattle.cert_bisimulation.specs.Tables.{Node}
 use Rattle.sym_paths.specs.Execution.{end_of}
 use Rattle.sym_facts.specs.Facts.{Fact}
-use Rattle.fs_path_text.specs.PathTexts.{named_path}
+use Rattle.fs_cut.specs.PathTexts.{named_path}
 use Rattle.cert_writer.specs.WrittenCertificates.{mode_written}
 use Rattle.search_tables.specs.SearchTables.{MachinePair}
 use Rattle.show_fact_text.specs.PointTexts.{points_text}

@@ -10,8 +10,8 @@ ghost use Rattle.show_certificate_lines.specs.Demands.{right_demands, both_deman
 use cert_model::cert::Node;
 use fs_ast::machine::Machine;
 use fs_cut::cover::Path;
+use fs_cut::path_text::write_named_path;
 use fs_model::parts::VarInfo;
-use fs_path_text::paths::write_named_path;
 use nf_terms::stop::NoMemory;
 use show_fact_text::points::{end_of, write_points};
 use std::alloc::Global;

@@ -1,7 +1,7 @@
 -- The texts of points.
 use Rattle.std.specs.Prelude.{ℕ, List, ◌++◌, codes}
 use Rattle.fs_cut.specs.Paths.{Point}
-use Rattle.fs_path_text.specs.PathTexts.{point_text}
+use Rattle.fs_cut.specs.PathTexts.{point_text}
 use Rattle.search_tables.specs.SearchTables.{MachinePair}
 
 abbrev pub points_text : MachinePair → (left right : Point) → List ℕ

@@ -8,7 +8,7 @@ ghost use Rattle.show_fact_text.specs.PointTexts.{points_text};
 
 use fs_ast::machine::Machine;
 use fs_cut::cover::{Path, Point};
-use fs_path_text::paths::point_text;
+use fs_cut::path_text::point_text;
 use nf_terms::stop::NoMemory;
 
 /// Adds two points. The one refusal is out of memory.

@@ -7,8 +7,8 @@ ghost use Rattle.show_machine_pictures.specs.Pictures.{state_lines, start_lines,
 use crate::branches::write_branches;
 use fs_ast::machine::Machine;
 use fs_cut::cover::Point;
+use fs_cut::path_text::point_text;
 use fs_model::parts::StateId;
-use fs_path_text::paths::point_text;
 use show_dot_text::graphs::{Look, graph_text, write_edge, write_node};
 use std::alloc::{AllocError, Global};
 

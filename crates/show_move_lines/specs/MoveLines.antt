@@ -8,7 +8,7 @@ use Rattle.sym_paths.specs.Execution.{Post}
 use Rattle.sym_facts.specs.Facts.{Fact}
 use Rattle.sym_facts.specs.Entailment.{Missing}
 use Rattle.sym_facts.specs.Starts.{start_fact}
-use Rattle.fs_path_text.specs.PathTexts.{named_path}
+use Rattle.fs_cut.specs.PathTexts.{named_path}
 use Rattle.search_tables.specs.declared.moves.Move.{Move}
 use Rattle.search_tables.specs.SearchTables.{MachinePair, SearchNode, Table, first_table, positions_of}
 use Rattle.fsmd_replies.specs.ObstacleTexts.{text_of_lookup, both_sides, side_text}

@@ -13,7 +13,7 @@ use crate::sides::{Sides, left_path, right_path};
 use crate::turn::Turn;
 use fs_ast::machine::Machine;
 use fs_cut::cover::{Path, Point};
-use fs_path_text::paths::write_named_path;
+use fs_cut::path_text::write_named_path;
 use nf_terms::stop::NoMemory;
 use search_tables::moves::Move;
 use search_tables::nodes::TableNode;

@@ -1,6 +1,6 @@
 use Rattle.std.proofs.Common.{◌≡◌}
 use Rattle.fs_model.specs.Machines.{Fsmd}
-use Rattle.fs_path_text.specs.PathTexts.{paths_text}
+use Rattle.fs_cut.specs.PathTexts.{paths_text}
 use Rattle.fsmd_replies.specs.declared.answer.Answer.TheVariants.{Text}
 use Rattle.fsmd_answers.specs.MachineFiles.{SpellsMachine}
 use Rattle.fsmd_answers.specs.Refusals.{RefusesMachine}

@@ -1,6 +1,6 @@
 use Rattle.std.proofs.Common.{◌∙◌, ◌++◌, ℕ, List, map, ap}
 use Rattle.std.specs.List.{flat_map}
-use Rattle.fs_text_laws.proofs.Texts.{spells}
+use Rattle.fs_lex.proofs.Texts.{spells}
 use Rattle.hls_sched.specs.declared.scheduling.LineReport.{LineReport}
 use Rattle.hls_sched.specs.Reports.{report_of}
 use Rattle.fsmd_synthesis_answers.specs.ScheduleAnswers.{report_text}

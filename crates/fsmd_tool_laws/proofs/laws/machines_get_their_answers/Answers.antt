@@ -1,6 +1,6 @@
 use Rattle.std.specs.Prelude.{◌≡◌, ◌+◌, is_some}
 use Rattle.fs_write.specs.Canonical.{canonical}
-use Rattle.fs_path_text.specs.PathTexts.{paths_text}
+use Rattle.fs_cut.specs.PathTexts.{paths_text}
 use Rattle.fsmd_replies.specs.declared.answer.Answer.TheVariants.{Text}
 use Rattle.fsmd_replies.specs.AskedFiles.{cert_of, step_limit}
 use Rattle.fsmd_tool.specs.ComparisonAnswers.{IsOfPair, IsOfLoops}

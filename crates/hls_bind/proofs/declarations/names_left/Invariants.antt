@@ -1,7 +1,7 @@
 use Rattle.std.proofs.Common.{◌≡◌, take}
 use Rattle.std.specs.Prelude.{map, filter}
 use Rattle.fs_ast.specs.MachineOfParts.{names_of}
-use Rattle.hls_binding_laws.specs.Bindings.{stays}
+use Rattle.hls_bind.specs.Bindings.{stays}
 use Rattle.hls_bind.specs.BindingEntries.{binding_entry}
 use Rattle.hls_bind.proofs.declarations.names_left.Given as goal
 

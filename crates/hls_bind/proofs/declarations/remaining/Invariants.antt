@@ -1,7 +1,7 @@
 use Rattle.std.proofs.Common.{◌≡◌, take}
 use Rattle.std.specs.Prelude.{map}
 use Rattle.fs_ast.specs.MachineOfParts.{names_of}
-use Rattle.hls_binding_laws.specs.Bindings.{remaining_declarations}
+use Rattle.hls_bind.specs.Bindings.{remaining_declarations}
 use Rattle.hls_bind.specs.BindingEntries.{binding_entry}
 use Rattle.fs_model.specs.View.{declaration_of}
 use Rattle.hls_bind.proofs.declarations.remaining.Given as goal

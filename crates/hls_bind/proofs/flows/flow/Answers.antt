@@ -3,7 +3,7 @@ use Rattle.std.specs.List.{flat_map}
 use Rattle.fs_model.specs.View.{shared_literal_of, assignment_of, branch_of}
 use Rattle.fs_model.specs.PartFolds.{scalars, uses_in_literal}
 use Rattle.fs_variable_sets.specs.Sets.{has_variable, also_all}
-use Rattle.hls_binding_laws.specs.Liveness.{read_by_assignment}
+use Rattle.hls_bind.specs.Liveness.{read_by_assignment}
 use Rattle.hls_bind.specs.BranchFlows.{has_below_128}
 use Rattle.hls_bind.proofs.Loops.{transfer_is}
 use Rattle.hls_bind.proofs.flows.flow.Goals as goal

@@ -1,6 +1,6 @@
 use Rattle.fs_model.specs.View.{assignment_of}
 use Rattle.fs_variable_sets.specs.Sets.{has_variable}
-use Rattle.hls_binding_laws.specs.Liveness.{read_by_assignment}
+use Rattle.hls_bind.specs.Liveness.{read_by_assignment}
 use Rattle.hls_bind.proofs.Loops.{read_more}
 use Rattle.hls_bind.proofs.flows.with_assignments.Goals as goal
 

@@ -2,7 +2,7 @@ use Rattle.std.proofs.Common.{◌≡◌, drop}
 use Rattle.std.specs.Prelude.{map}
 use Rattle.std.specs.List.{flat_map}
 use Rattle.fs_model.specs.View.{assignment_of}
-use Rattle.hls_binding_laws.specs.Liveness.{read_by_assignment}
+use Rattle.hls_bind.specs.Liveness.{read_by_assignment}
 use Rattle.fs_variable_sets.specs.Sets.{has_variable, also_all}
 use Rattle.hls_bind.proofs.flows.with_assignments.Given as goal
 

@@ -1,6 +1,6 @@
 use Rattle.std.proofs.Common.{◌∙◌, ap, map}
 use Rattle.fs_model.specs.View.{source_of, source_state_of}
-use Rattle.hls_binding_laws.specs.Bindings.{state_renamed}
+use Rattle.hls_bind.specs.Bindings.{state_renamed}
 use Rattle.hls_bind.specs.BindingEntries.{binding_entry, name_for}
 use Rattle.hls_bind.proofs.Loops.{parts_are}
 use Rattle.hls_bind.proofs.outcome.parts_with.Goals as goal

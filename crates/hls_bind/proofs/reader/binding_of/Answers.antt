@@ -1,6 +1,6 @@
 use Rattle.std.proofs.Common.{◌∙◌, ap, sym, subst, ℕ, List}
 use Rattle.serde_json.specs.View.{members_view}
-use Rattle.hls_binding_laws.specs.Bindings.{is_rising, IsBindingOf}
+use Rattle.hls_bind.specs.Bindings.{is_rising, IsBindingOf}
 use Rattle.hls_bind.specs.BindingMembers.{binding_from}
 use Rattle.hls_bind.proofs.Given.{rises, binds}
 use Rattle.hls_bind.proofs.reader.binding_of.Goals as goal

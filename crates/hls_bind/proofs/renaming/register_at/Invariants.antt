@@ -1,6 +1,6 @@
 use Rattle.std.proofs.Common.{◌≡◌, drop}
 use Rattle.std.specs.Prelude.{map}
-use Rattle.hls_binding_laws.specs.Bindings.{register}
+use Rattle.hls_bind.specs.Bindings.{register}
 use Rattle.hls_bind.specs.BindingEntries.{binding_entry}
 use Rattle.hls_bind.proofs.renaming.register_at.Given as goal
 

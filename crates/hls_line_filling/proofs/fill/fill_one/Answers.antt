@@ -1,7 +1,7 @@
 use Rattle.std.proofs.Common.{◌≡◌, ◌∙◌, subst, sym, ap, true}
-use Rattle.hls_line_rows.specs.ItemUnits.{Units, suffice}
-use Rattle.hls_line_rows.specs.Filling.{more_units}
-use Rattle.hls_line_rows.specs.ItemUnits.{units_in}
+use Rattle.hls_line_filling.specs.ItemUnits.{Units, suffice}
+use Rattle.hls_line_filling.specs.Filling.{more_units}
+use Rattle.hls_line_filling.specs.ItemUnits.{units_in}
 use Rattle.hls_line_filling.specs.Profiles.{graph_in, units_of_uses}
 use Rattle.hls_line_filling.specs.WaitingItems.{rows_in}
 use Rattle.hls_line_filling.proofs.Counts.{are_ready, item_free, item_fits, row_goes, low_put}

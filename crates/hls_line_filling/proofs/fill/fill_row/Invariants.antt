@@ -1,7 +1,7 @@
 use Rattle.std.proofs.Common.{◌≡◌, length, ◌-◌}
-use Rattle.hls_line_rows.specs.ItemUnits.{none_used}
-use Rattle.hls_line_rows.specs.Filling.{row_filled}
-use Rattle.hls_line_rows.specs.ItemUnits.{units_in}
+use Rattle.hls_line_filling.specs.ItemUnits.{none_used}
+use Rattle.hls_line_filling.specs.Filling.{row_filled}
+use Rattle.hls_line_filling.specs.ItemUnits.{units_in}
 use Rattle.hls_line_filling.specs.Profiles.{graph_in, units_of_uses}
 use Rattle.hls_line_filling.specs.WaitingItems.{rows_in, AreWaiting, AreLow}
 use Rattle.hls_line_filling.proofs.fill.fill_row.Given as goal

@@ -1,6 +1,6 @@
 use Rattle.std.proofs.Common.{◌≡◌, length}
-use Rattle.hls_line_rows.specs.Filling.{highest_number, may_stand}
-use Rattle.hls_line_rows.specs.ItemUnits.{units_in}
+use Rattle.hls_line_filling.specs.Filling.{highest_number, may_stand}
+use Rattle.hls_line_filling.specs.ItemUnits.{units_in}
 use Rattle.hls_line_filling.specs.Profiles.{graph_in, units_of_uses}
 use Rattle.hls_line_filling.specs.WaitingItems.{rows_in, IsBelow}
 use Rattle.hls_line_filling.proofs.fill.next_item.Given as goal

@@ -1,6 +1,6 @@
 use Rattle.std.proofs.Common.{◌≡◌}
 use Rattle.std.specs.Prelude.{max, drop}
-use Rattle.hls_line_rows.specs.Heights.{greatest}
+use Rattle.hls_line_filling.specs.Heights.{greatest}
 use Rattle.hls_line_filling.proofs.heights.chain.Given as goal
 
 abbrev pub invariant-loop-i : goal.invariant-loop-i

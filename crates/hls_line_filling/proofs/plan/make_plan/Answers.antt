@@ -1,7 +1,7 @@
 use Rattle.std.proofs.Common.{ℕ, List, ◌∙◌, sym, ap, subst, length}
-use Rattle.hls_line_rows.specs.ItemUnits.{units_in}
-use Rattle.hls_line_rows.specs.Heights.{greatest}
-use Rattle.hls_line_rows.specs.Filling.{filling_of}
+use Rattle.hls_line_filling.specs.ItemUnits.{units_in}
+use Rattle.hls_line_filling.specs.Heights.{greatest}
+use Rattle.hls_line_filling.specs.Filling.{filling_of}
 use Rattle.hls_line_filling.specs.declared.profiles.Profile.{Profile}
 use Rattle.hls_line_filling.specs.Profiles.{graph_in}
 use Rattle.hls_line_filling.specs.KnownHeights.{AreLowHeights}

@@ -1,6 +1,6 @@
 use Rattle.std.proofs.Common.{◌≡◌, suc, ◌+◌, ◌-◌, ◌∙◌, sym, ap, subst, arith, length}
-use Rattle.hls_line_rows.specs.Filling.{Rows, filled_from}
-use Rattle.hls_line_rows.specs.ItemUnits.{units_in}
+use Rattle.hls_line_filling.specs.Filling.{Rows, filled_from}
+use Rattle.hls_line_filling.specs.ItemUnits.{units_in}
 use Rattle.hls_line_filling.specs.Profiles.{graph_in}
 use Rattle.hls_line_filling.specs.WaitingItems.{rows_in, AreWaiting}
 use Rattle.hls_line_filling.proofs.Counts.{first_low, low_more}

@@ -1,6 +1,6 @@
 use Rattle.std.proofs.Common.{◌≡◌, length, ◌-◌}
-use Rattle.hls_line_rows.specs.Filling.{filled_from, filling_of}
-use Rattle.hls_line_rows.specs.ItemUnits.{units_in}
+use Rattle.hls_line_filling.specs.Filling.{filled_from, filling_of}
+use Rattle.hls_line_filling.specs.ItemUnits.{units_in}
 use Rattle.hls_line_filling.specs.Profiles.{graph_in}
 use Rattle.hls_line_filling.specs.WaitingItems.{rows_in, AreWaiting, AreLow}
 use Rattle.hls_line_filling.proofs.rows.fill.Given as goal

@@ -1,5 +1,5 @@
 use Rattle.std.proofs.Common.{sym}
-use Rattle.hls_line_rows.specs.ItemUnits.{units_in}
+use Rattle.hls_line_filling.specs.ItemUnits.{units_in}
 use Rattle.hls_line_filling.specs.Profiles.{graph_in}
 use Rattle.hls_line_filling.specs.WaitingItems.{rows_in}
 use Rattle.hls_line_filling.proofs.Counts.{next_row, no_row}

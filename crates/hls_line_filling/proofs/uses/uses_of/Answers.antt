@@ -1,6 +1,6 @@
 use Rattle.std.proofs.Common.{map}
 use Rattle.fs_model.specs.View.{assignment_of}
-use Rattle.hls_line_rows.specs.ItemUnits.{used_by}
+use Rattle.hls_line_filling.specs.ItemUnits.{used_by}
 use Rattle.hls_line_filling.specs.Profiles.{capped_count}
 use Rattle.hls_line_filling.proofs.ByKind.{by_kind}
 use Rattle.hls_line_filling.proofs.uses.uses_of.Goals as goal

@@ -1,6 +1,6 @@
 use Rattle.std.proofs.Common.{◌≡◌, ◌+◌, ◌*◌, ◌≤◌, length}
 use Rattle.std.specs.Prelude.{min}
-use Rattle.hls_program_laws.specs.Compiled.{count}
+use Rattle.hls_program_parts.specs.Compiled.{count}
 use Rattle.hls_program_parts.specs.View.{block_of_statement, block_of}
 use Rattle.hls_program_parts.proofs.counts.+counts.Given as goal
 

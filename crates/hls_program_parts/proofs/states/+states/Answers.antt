@@ -1,9 +1,9 @@
 use Rattle.std.proofs.Common.{rules, ◌≡◌, ◌+◌, ◌∷◌, [], ℕ, List, map, ◌-◌, ◌*◌, ◌∙◌, ap}
 use Rattle.std.specs.Prelude.{min}
 use Rattle.fs_model.specs.View.{named_guard, source_state_of}
-use Rattle.hls_program_laws.specs.Compiled.{count}
+use Rattle.hls_program_parts.specs.Compiled.{count}
 use Rattle.hls_program_parts.specs.View.{block_of_statement, block_of}
-use Rattle.hls_program_laws.specs.Programs.{Block}
+use Rattle.hls_program_parts.specs.Programs.{Block}
 use Rattle.hls_program_parts.specs.View.{stmt_step}
 use Rattle.hls_program_parts.specs.declared.program.Stmt.TheOpen as open_tree
 use Rattle.hls_program_parts.specs.declared.program.Stmt.TheFolds.{fold-roll-Stmt}

@@ -1,6 +1,6 @@
 use Rattle.std.proofs.Common.{◌≡◌, ◌+◌, ◌*◌, ◌++◌, ◌≤◌, length, map}
 use Rattle.fs_model.specs.View.{source_state_of}
-use Rattle.hls_program_laws.specs.Compiled.{count, states_of, state_name, numbered_states}
+use Rattle.hls_program_parts.specs.Compiled.{count, states_of, state_name, numbered_states}
 use Rattle.hls_program_parts.specs.View.{block_of_statement, block_of}
 use Rattle.hls_program_parts.proofs.states.+states.Given as goal
 

@@ -1,5 +1,5 @@
 use Rattle.std.proofs.Common.{◌≡◌, ◌+◌, ◌*◌, ◌≤◌, length}
-use Rattle.hls_program_laws.specs.Compiled.{count}
+use Rattle.hls_program_parts.specs.Compiled.{count}
 use Rattle.hls_program_parts.specs.View.{block_of_statement, block_of}
 use Rattle.hls_program_parts.proofs.Fits.{fits}
 use Rattle.hls_program_parts.proofs.well_formed.+blocks.Given as goal

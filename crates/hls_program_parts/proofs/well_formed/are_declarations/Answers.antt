@@ -3,7 +3,7 @@ use Rattle.std.proofs.lemmas.Iterator.{YieldsList-from_slice}
 use Rattle.std.proofs.lemmas.Iterator.Search.{all_from_yields_List}
 use Rattle.std.proofs.lemmas.List.Folds.{list_all-map}
 use Rattle.fs_model.specs.View.{declaration_of}
-use Rattle.hls_program_laws.specs.WellFormedPrograms.{is_program_declaration}
+use Rattle.hls_program_parts.specs.WellFormedPrograms.{is_program_declaration}
 use Rattle.hls_program_parts.proofs.well_formed.are_declarations.Goals as goal
 
 pub returns : goal.returns

@@ -1,6 +1,6 @@
 use Rattle.std.proofs.Common.{◌≡◌, map}
 use Rattle.fs_model.specs.View.{source_of}
-use Rattle.hls_line_rows.specs.ItemUnits.{units_in}
+use Rattle.hls_line_filling.specs.ItemUnits.{units_in}
 use Rattle.hls_line_schedules.specs.SourceRows.{named_moves}
 use Rattle.hls_sched.specs.RowMoves.{move_of}
 use Rattle.hls_sched.proofs.Outcome.{parts_are}

@@ -1,5 +1,5 @@
 use Rattle.std.proofs.Common.{◌≡◌, arith, rules, length}
-use Rattle.hls_line_rows.specs.ItemUnits.{units_in}
+use Rattle.hls_line_filling.specs.ItemUnits.{units_in}
 use Rattle.hls_sched.proofs.Gathered.{report_is}
 use Rattle.hls_sched.proofs.scheduling.schedule_line.Goals as goal
 

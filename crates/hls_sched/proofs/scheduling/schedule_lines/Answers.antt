@@ -1,5 +1,5 @@
 use Rattle.std.proofs.Common.{◌∙◌, ap, map}
-use Rattle.hls_line_rows.specs.ItemUnits.{units_in}
+use Rattle.hls_line_filling.specs.ItemUnits.{units_in}
 use Rattle.fs_model.specs.declared.parts.StateId.{StateId}
 use Rattle.hls_sched.proofs.Gathered.{reports_end}
 use Rattle.hls_sched.proofs.scheduling.schedule_lines.Goals as goal

@@ -1,7 +1,7 @@
 use Rattle.std.proofs.Common.{◌≡◌, take, map, length}
 use Rattle.std.specs.List.{All, flat_map}
 use Rattle.fs_model.specs.Source.{Source}
-use Rattle.hls_line_rows.specs.ItemUnits.{units_in}
+use Rattle.hls_line_filling.specs.ItemUnits.{units_in}
 use Rattle.hls_sched.specs.RowMoves.{move_of, IsMoveAmong}
 use Rattle.hls_sched.specs.CodeLines.{moves_from}
 use Rattle.hls_sched.specs.Reports.{report_of, report_at}

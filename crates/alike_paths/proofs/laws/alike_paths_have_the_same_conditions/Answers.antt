@@ -1,5 +1,0 @@
-use Rattle.alike_paths.proofs.EvenPaths.{same_conditions}
-use Rattle.alike_paths.proofs.laws.alike_paths_have_the_same_conditions.Goals as goal
-
-pub returns : goal.returns
-returns c = λ a b pairs p q v same even. same_conditions a b v even pairs p q same

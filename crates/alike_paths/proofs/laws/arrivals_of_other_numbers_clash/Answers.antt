@@ -1,5 +1,0 @@
-use Rattle.alike_paths.proofs.OtherArrivals.{arrivals_clash}
-use Rattle.alike_paths.proofs.laws.arrivals_of_other_numbers_clash.Goals as goal
-
-pub returns : goal.returns
-returns c = λ a b pairs P Q p q ls v post sound. arrivals_clash a b sound pairs P Q p q ls v post

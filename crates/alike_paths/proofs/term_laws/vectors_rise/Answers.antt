@@ -1,6 +1,0 @@
-use Rattle.alike_paths.proofs.RisenSubstitutions.{substituted_rises, array_rises}
-use Rattle.alike_paths.proofs.RisenPaths.{arrival_rises}
-use Rattle.alike_paths.proofs.term_laws.vectors_rise.Goals as goal
-
-pub returns : goal.returns
-returns c = record { number = substituted_rises; array = array_rises; arrival = arrival_rises }

@@ -1,3 +1,0 @@
-pub mod Risen
-pub mod Evenness
-pub mod Clashes

@@ -1,5 +1,0 @@
-use Rattle.fs_grammar_laws.proofs.Exact.{read_is_spelled}
-use Rattle.fs_grammar_laws.proofs.what_is_read_is_spelled.Goals as goal
-
-pub returns : goal.returns
-returns c = λ s ts e. read_is_spelled s ts e

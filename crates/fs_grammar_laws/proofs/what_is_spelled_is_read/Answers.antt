@@ -1,5 +1,0 @@
-use Rattle.fs_grammar_laws.proofs.Exact.{spelled_is_read}
-use Rattle.fs_grammar_laws.proofs.what_is_spelled_is_read.Goals as goal
-
-pub returns : goal.returns
-returns c = λ s ts h. spelled_is_read s ts h

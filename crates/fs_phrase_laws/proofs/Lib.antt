@@ -1,9 +1,0 @@
-pub mod SoundDeclarations
-pub mod CompleteDeclarations
-pub mod ExactDeclarations
-pub mod Reached
-pub mod SoundExpressions
-pub mod Beginning
-pub mod CompleteExpressions
-pub mod ExactExpressions
-pub mod Called

@@ -1,5 +1,0 @@
-use Rattle.fs_phrase_laws.proofs.ExactDeclarations.{read_stands}
-use Rattle.fs_phrase_laws.proofs.declarations.what_is_read_stands_first.Goals as goal
-
-pub returns : goal.returns
-returns c = λ f o d ts rest i q. read_stands f o d ts rest i q

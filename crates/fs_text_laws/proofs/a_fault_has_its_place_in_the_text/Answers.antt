@@ -1,5 +1,0 @@
-use Rattle.fs_text_laws.proofs.Limit.{fault_stands}
-use Rattle.fs_text_laws.proofs.a_fault_has_its_place_in_the_text.Goals as goal
-
-pub returns : goal.returns
-returns c = fault_stands

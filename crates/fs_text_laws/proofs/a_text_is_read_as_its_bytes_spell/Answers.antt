@@ -1,8 +1,0 @@
-use Rattle.fs_text_laws.proofs.Texts.{spells, reads, stops, refuses}
-use Rattle.fs_text_laws.proofs.a_text_is_read_as_its_bytes_spell.Goals as goal
-
-pub returns-clause-spells : goal.returns-clause-spells
-returns-clause-spells c = λ bytes s. (spells bytes s, reads bytes s)
-
-pub returns-clause-stops : goal.returns-clause-stops
-returns-clause-stops c = λ bytes f. (stops bytes f, refuses bytes f)

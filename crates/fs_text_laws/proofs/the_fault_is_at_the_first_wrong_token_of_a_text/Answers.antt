@@ -1,8 +1,0 @@
-use Rattle.fs_text_laws.proofs.Limit.{fault_found, fault_only}
-use Rattle.fs_text_laws.proofs.the_fault_is_at_the_first_wrong_token_of_a_text.Goals as goal
-
-pub returns-clause-found : goal.returns-clause-found
-returns-clause-found c = fault_found
-
-pub returns-clause-only : goal.returns-clause-only
-returns-clause-only c = fault_only

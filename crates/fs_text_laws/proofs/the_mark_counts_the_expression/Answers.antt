@@ -1,8 +1,0 @@
-use Rattle.fs_text_laws.proofs.Limit.{mark_counts, operators_alone}
-use Rattle.fs_text_laws.proofs.the_mark_counts_the_expression.Goals as goal
-
-pub returns-clause-counts : goal.returns-clause-counts
-returns-clause-counts c = mark_counts
-
-pub returns-clause-alone : goal.returns-clause-alone
-returns-clause-alone c = operators_alone

@@ -1,4 +1,0 @@
-pub mod Unlined
-pub mod MovedWords
-pub mod MovedTokens
-pub mod Gaps

@@ -1,9 +1,0 @@
-use Rattle.hls_binding_laws.proofs.Formed.{bound_formed}
-use Rattle.hls_binding_laws.proofs.Whole.{bound_lawful}
-use Rattle.hls_binding_laws.proofs.registers_keep_the_rules.Goals as goal
-
-pub returns-clause-formed : goal.returns-clause-formed
-returns-clause-formed c = λ p b rs h. bound_formed b rs p h
-
-pub returns-clause-lawful : goal.returns-clause-lawful
-returns-clause-lawful c = λ p b rs sound lawful binds are never. bound_lawful b rs p sound binds are never

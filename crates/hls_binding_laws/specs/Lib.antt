@@ -1,4 +1,0 @@
-pub mod Liveness
-pub mod Closed
-pub mod Bindings
-pub mod Conflicts

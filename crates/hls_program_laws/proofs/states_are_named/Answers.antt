@@ -1,5 +1,0 @@
-use Rattle.hls_program_laws.proofs.StateNames.{is_state_name}
-use Rattle.hls_program_laws.proofs.states_are_named.Goals as goal
-
-pub returns : goal.returns
-returns c = λ n h. is_state_name n h

@@ -1,3 +1,0 @@
-pub mod EachLeaf
-pub mod Fitting
-pub mod Counting
