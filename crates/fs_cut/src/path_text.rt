@@ -7,9 +7,9 @@ ghost use Rattle.fs_cut.specs.Covers.{paths_from, cover_of};
 ghost use Rattle.fs_cut.specs.View.{point_of, path_of};
 ghost use Rattle.fs_cut.specs.PathTexts.{point_text, named_path, path_line, paths_text};
 
+use crate::cover::{Path, Point};
+use crate::make_cover::{point_paths, points};
 use fs_ast::machine::Machine;
-use fs_cut::cover::{Path, Point};
-use fs_cut::make_cover::{point_paths, points};
 use std::alloc::{AllocError, Global};
 
 /// What a point prints as: `start`, the state's name, or `done`. Takes no memory.
