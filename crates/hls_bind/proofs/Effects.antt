@@ -13,7 +13,7 @@ use Rattle.fs_model.specs.Meaning.{value, literal_holds, act, act_all}
 use Rattle.fs_model.specs.Renamed.{term_over, literal_over, assignment_over}
 use Rattle.fs_ast.specs.SoundParts.{scalars_in, arrays_in, arrays_in_assignment, arrays_in_assignments, assigned_in}
 use Rattle.hls_bind.specs.Liveness.{read_by_assignment}
-use Rattle.hls_bind.proofs.Renaming.{Agree}
+use Rattle.hls_bind.proofs.RegisterMachines.{Agree}
 use Rattle.hls_bind.proofs.Over.{has, read_by_literal, in_front, in_back, first_in, Same, value_over, literal_holds_over}
 
 turned : (x y : ℕ) → (x == y) ≡ false → (y == x) ≡ false

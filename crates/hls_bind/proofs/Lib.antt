@@ -1,10 +1,10 @@
-mod Renaming
+mod RegisterMachines
 pub mod Over
 mod Effects
 pub mod Lives
 pub mod Looks
 pub mod Variables
-pub mod Bound
+pub mod BoundRuns
 pub mod Renamed
 pub mod Formed
 pub mod Lawful

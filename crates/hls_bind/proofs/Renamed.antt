@@ -18,10 +18,10 @@ use Rattle.fs_ast.specs.SoundParts.{IsSound, scalar_at, array_at, port_at, has_s
 use Rattle.fs_ast.specs.SoundParts.{arrays_in_guard, scalars_in_condition, arrays_in_condition, scalars_in_assignment, arrays_in_assignment}
 use Rattle.fs_ast.specs.SoundParts.{scalars_in_assignments, arrays_in_assignments}
 use Rattle.fs_ast.specs.MachineOfParts.{place_or_end, names_of, variables_of, state_names, state_spelled, machine_of}
-use Rattle.hls_bind.proofs.Renaming.{state_over, IsBoundBy, NeverClobbers}
+use Rattle.hls_bind.proofs.RegisterMachines.{state_over, IsBoundBy, NeverClobbers}
 use Rattle.hls_bind.specs.Bindings.{register, is_bound, bound_name, transition_renamed, state_renamed, bound_parts, IsBindingOf, AreRegisters}
 use Rattle.hls_bind.specs.Conflicts.{Conflict, IsShared, Clobbers}
-use Rattle.hls_bind.proofs.Bound.{same_behaviour}
+use Rattle.hls_bind.proofs.BoundRuns.{same_behaviour}
 use Rattle.hls_bind.proofs.Looks.{get_place, look_name}
 use Rattle.hls_bind.proofs.Variables.{variables_bound, new, name_at, number_for, inside_is, is_kept, is_register, is_local_of, are_apart}
 use Rattle.hls_bind.proofs.Variables.{shared_register, same_output, bound_is}

@@ -22,7 +22,7 @@ use Rattle.fs_model.specs.Runs.{Content, content, output_from, is_output, is_sca
 use Rattle.fs_model.specs.Runs as runs
 use Rattle.fs_ast.specs.SoundParts.{names_differ}
 use Rattle.fs_ast.specs.MachineOfParts.{place_or_end, names_of, variables_of, declared_by}
-use Rattle.hls_bind.proofs.Renaming.{Agree}
+use Rattle.hls_bind.proofs.RegisterMachines.{Agree}
 use Rattle.hls_bind.specs.Bindings.{is_local, is_scalar_local, register, is_bound, stays, declaration_without_bound, remaining_declarations}
 use Rattle.hls_bind.specs.Bindings.{of_registers, IsBindingOf, AreRegisters}
 use Rattle.hls_bind.proofs.Looks.{look, or_else, get_place, look_name, look_joined, look_none, look_stays, look_goes, place_own, shown, output_is}

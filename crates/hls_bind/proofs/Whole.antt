@@ -28,9 +28,9 @@ use Rattle.fs_ast_laws.proofs.Faultless.{IsFaultless}
 use Rattle.fs_ast_laws.proofs.Kept.{KeepsRules, lawful_where}
 use Rattle.hls_bind.specs.Bindings.{register, is_bound, is_local, is_scalar_local, bound_parts, IsBindingOf, AreRegisters}
 use Rattle.hls_bind.specs.Conflicts.{Conflict, IsShared, IsTwice}
-use Rattle.hls_bind.proofs.Renaming.{state_over}
+use Rattle.hls_bind.proofs.RegisterMachines.{state_over}
 use Rattle.hls_bind.proofs.Over.{over_branches}
-use Rattle.hls_bind.proofs.Bound.{lines_over}
+use Rattle.hls_bind.proofs.BoundRuns.{lines_over}
 use Rattle.hls_bind.proofs.Variables.{is_kept, is_register, is_local_of, are_apart, shared_register, bound_is}
 use Rattle.hls_bind.proofs.Renamed.{is_k, ws, f, k}
 use Rattle.hls_bind.proofs.Lawful.{scalars_over, arrays_over, ports_over, assigned_over, sorts_kept, inputs_kept, still_differ}

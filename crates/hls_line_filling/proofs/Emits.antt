@@ -9,7 +9,7 @@ use Rattle.fs_model.specs.Terms.{Assign, ArrayWrite, Emit}
 use Rattle.fs_rules.specs.SoundParts.{emit_count}
 use Rattle.hls_line_filling.specs.Items.{Item, emits, is_strict, is_weak}
 use Rattle.hls_line_filling.specs.Placings.{Placed, respects_edge, is_valid, join_assignments, row_at}
-use Rattle.hls_line_filling.proofs.Rows.{no_strict}
+use Rattle.hls_line_filling.proofs.IntoRows.{no_strict}
 
 quiet : (a : Item) → emits a ≡ false → emit_count a ≡ 0
 quiet [] h = refl

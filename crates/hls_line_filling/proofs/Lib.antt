@@ -1,5 +1,5 @@
 pub mod Exchange
-pub mod Rows
+pub mod IntoRows
 pub mod Once
 pub mod Emits
 pub mod Chains

@@ -10,7 +10,7 @@ use Rattle.fs_rules.specs.SoundParts.{assigned_in, all_differ, occurs}
 use Rattle.hls_line_filling.specs.Items.{Item, has_common_number, is_strict, is_weak}
 use Rattle.hls_line_filling.specs.Placings.{Placed, respects_edge, is_valid, join_assignments, row_at}
 use Rattle.hls_line_filling.proofs.Exchange.{meet_first, meet_later}
-use Rattle.hls_line_filling.proofs.Rows.{no_strict, meet_both}
+use Rattle.hls_line_filling.proofs.IntoRows.{no_strict, meet_both}
 
 assigned_both : (a b : Item) → assigned_in (a ++ b) ≡ assigned_in a ++ assigned_in b
 assigned_both [] b = refl

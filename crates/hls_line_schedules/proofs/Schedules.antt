@@ -15,7 +15,7 @@ use Rattle.fs_ast.proofs.OneBranch.{only_transition}
 use Rattle.fs_cut.proofs.Branches.{some_branch, few}
 use Rattle.hls_line_filling.specs.Items.{Item, store_after_items}
 use Rattle.hls_line_filling.specs.Placings.{Placed, rows_from}
-use Rattle.hls_line_filling.proofs.Rows.{rows_keep_the_store}
+use Rattle.hls_line_filling.proofs.IntoRows.{rows_keep_the_store}
 use Rattle.hls_line_schedules.specs.StraightLines.{is_straight, next_state, line_from, straight_line_at, is_inner, is_first_of_line, item_of, items_at, follows}
 use Rattle.hls_line_schedules.specs.RowMachines.{KeepsStores}
 use Rattle.hls_line_schedules.proofs.Trails.{next_in, follows_on}

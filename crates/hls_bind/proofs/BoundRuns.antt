@@ -28,7 +28,7 @@ use Rattle.fs_model.specs.Renamed.{transition_over, assignment_over}
 use Rattle.fs_cut.proofs.Branches.{no_branch, test_at, step_at, target_in, taken_is, taken_holds, takes_branch, step_down, step_up}
 use Rattle.hls_bind.specs.Liveness.{reads, writes, read_by, read_by_assignment, IsLive}
 use Rattle.hls_bind.specs.Bindings.{is_local, is_scalar_local}
-use Rattle.hls_bind.proofs.Renaming.{state_over, Agree, IsBoundBy, NeverClobbers}
+use Rattle.hls_bind.proofs.RegisterMachines.{state_over, Agree, IsBoundBy, NeverClobbers}
 use Rattle.hls_bind.proofs.Over.{has, read_by_literal, branch_over, over_branches, in_front, in_back}
 use Rattle.hls_bind.proofs.Effects.{unbound, plain_literal, plain_assignments, literals_over, scalar_after, array_after, port_after}
 
