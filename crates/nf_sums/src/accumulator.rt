@@ -1,6 +1,6 @@
 //! Sums that grow.
 
-ghost use Rattle.std.specs.Prelude.{◌≡◌, ◌+◌, ◌^◌, ◌≤◌, ◌<◌, ◌+ℤ◌, pos, true, map, take, drop, length, unsigned_abs, IfOk};
+ghost use Rattle.std.specs.Prelude.{◌≡◌, ◌+◌, ◌^◌, ◌≤◌, ◌<◌, ◌+ℤ◌, pos, true, map, take, drop, length, unsigned_abs, IfOk, OnOk};
 ghost use Rattle.std.specs.Prelude.{IsTrue};
 ghost use Rattle.std.specs.Ordering.{int_eq};
 ghost use Rattle.nf_terms.specs.NormalTerms.{Zero, Plus, polynomial_of};
@@ -73,31 +73,43 @@ struct Measured {
 
 // A term put at a place.
 #[tactic(auto, using(crate::proofs::Placed::terms_joined))]
+fn insert_term(
+    terms: &mut Vec<(MonoTree, i128)>,
+    place: usize,
+    mono: MonoTree,
+    coefficient: &i128,
+) -> Result<(), NoMemory>
+    requires { place ≤ length terms.old.items }
+    ensures { OnOk result
+        (polynomial_of (map term_in terms.new.items) ≡ raw_sum (polynomial_of (map term_in (take place terms.old.items)))
+        (Plus (monomial_in mono) coefficient.now (polynomial_of (map term_in (drop place terms.old.items))))) }
+{
+    terms.insert(place, (mono, *coefficient))?;
+    Ok(())
+}
+
+// A copy of a term put at a place.
 fn put_at(
     alloc: Global,
-    sum: Measured,
+    sum: &mut Measured,
     place: usize,
     mono: &MonoTree,
     coefficient: &i128,
-) -> Result<Measured, NoMemory>
-    requires within { place ≤ length sum.terms.items }
-    requires small { sum.size + (1 + size_of_monomial (monomial_in mono.now)) ≤ size_limit }
-    requires narrow { sum.weight + unsigned_abs coefficient.now ≤ weight_limit }
-    ensures sum { IfOk result
-        (λ s. polynomial_of (map term_in s.terms.items) ≡ raw_sum (polynomial_of (map term_in (take place sum.terms.items)))
-        (Plus (monomial_in mono.now) coefficient.now (polynomial_of (map term_in (drop place sum.terms.items))))) }
-    ensures size { IfOk result (λ s. s.size ≡ sum.size + (1 + size_of_monomial (monomial_in mono.now))) }
-    ensures weight { IfOk result (λ s. s.weight ≡ sum.weight + unsigned_abs coefficient.now) }
+) -> Result<(), NoMemory>
+    requires within { place ≤ length sum.old.terms.items }
+    requires small { sum.old.size + (1 + size_of_monomial (monomial_in mono.now)) ≤ size_limit }
+    requires narrow { sum.old.weight + unsigned_abs coefficient.now ≤ weight_limit }
+    ensures sum { OnOk result
+        (polynomial_of (map term_in sum.new.terms.items) ≡ raw_sum (polynomial_of (map term_in (take place sum.old.terms.items)))
+        (Plus (monomial_in mono.now) coefficient.now (polynomial_of (map term_in (drop place sum.old.terms.items))))) }
+    ensures size { OnOk result (sum.new.size ≡ sum.old.size + (1 + size_of_monomial (monomial_in mono.now))) }
+    ensures weight { OnOk result (sum.new.weight ≡ sum.old.weight + unsigned_abs coefficient.now) }
 {
-    let mut terms = sum.terms;
-    let size = sum.size + (1 + size_of_mono(mono));
-    let weight = sum.weight + weight_of_term(coefficient);
-    terms.insert(place, (mono.try_clone(alloc)?, *coefficient))?;
-    Ok(Measured {
-        terms,
-        size,
-        weight,
-    })
+    let copy = mono.try_clone(alloc)?;
+    insert_term(&mut sum.terms, place, copy, coefficient)?;
+    sum.size += 1 + size_of_mono(mono);
+    sum.weight += weight_of_term(coefficient);
+    Ok(())
 }
 
 // Two coefficients together.
@@ -170,71 +182,62 @@ fn weight_with(terms: &[(MonoTree, i128)], place: usize, coefficient: &i128, wei
 }
 
 // A coefficient more for the term at a place.
-fn add_at(sum: Measured, place: usize, more: &i128) -> Measured
-    requires within { place < length sum.terms.items }
-    requires measured { IsMeasured (polynomial_of (map term_in sum.terms.items)) sum.size sum.weight }
-    requires narrow { sum.weight + unsigned_abs more.now ≤ weight_limit }
-    ensures sum { polynomial_of (map term_in result.terms.items)
-        ≡ raw_sum (polynomial_of (map term_in (take place sum.terms.items)))
-        (with_more more.now (polynomial_of (map term_in (drop place sum.terms.items)))) }
-    ensures size { result.size ≡ size_of (polynomial_of (map term_in result.terms.items)) }
-    ensures weight { result.weight ≡ weight_of (polynomial_of (map term_in result.terms.items)) }
+fn add_at(sum: &mut Measured, place: usize, more: &i128)
+    requires within { place < length sum.old.terms.items }
+    requires measured { IsMeasured (polynomial_of (map term_in sum.old.terms.items)) sum.old.size sum.old.weight }
+    requires narrow { sum.old.weight + unsigned_abs more.now ≤ weight_limit }
+    ensures sum { polynomial_of (map term_in sum.new.terms.items)
+        ≡ raw_sum (polynomial_of (map term_in (take place sum.old.terms.items)))
+        (with_more more.now (polynomial_of (map term_in (drop place sum.old.terms.items)))) }
+    ensures size { sum.new.size ≡ size_of (polynomial_of (map term_in sum.new.terms.items)) }
+    ensures weight { sum.new.weight ≡ weight_of (polynomial_of (map term_in sum.new.terms.items)) }
 {
     let total = total_at(&sum.terms, place, more);
-    let size = size_with(&sum.terms, place, &total, sum.size);
-    let weight = weight_with(&sum.terms, place, &total, sum.weight);
-    let mut terms = sum.terms;
-    replace_at(&mut terms, place, &total);
-    Measured {
-        terms,
-        size,
-        weight,
-    }
+    sum.size = size_with(&sum.terms, place, &total, sum.size);
+    sum.weight = weight_with(&sum.terms, place, &total, sum.weight);
+    replace_at(&mut sum.terms, place, &total);
 }
 
 // A normal sum and one monomial more.
-fn with_one(
+fn add_term(
     alloc: Global,
-    sum: Measured,
+    sum: &mut Measured,
     mono: &MonoTree,
     coefficient: &i128,
-) -> Result<Measured, NoMemory>
-    requires measured { IsMeasured (polynomial_of (map term_in sum.terms.items)) sum.size sum.weight }
+) -> Result<(), NoMemory>
+    requires measured { IsMeasured (polynomial_of (map term_in sum.old.terms.items)) sum.old.size sum.old.weight }
     requires term { IsNormal (Plus (monomial_in mono.now) coefficient.now Zero) }
-    requires small { sum.size + (1 + size_of_monomial (monomial_in mono.now)) ≤ size_limit }
-    requires narrow { sum.weight + unsigned_abs coefficient.now ≤ weight_limit }
-    ensures sum { IfOk result
-        (λ s. polynomial_of (map term_in s.terms.items) ≡ with_term (monomial_in mono.now) coefficient.now
-        (polynomial_of (map term_in sum.terms.items))) }
-    ensures measured { IfOk result (λ s. IsMeasured (polynomial_of (map term_in s.terms.items)) s.size s.weight) }
+    requires small { sum.old.size + (1 + size_of_monomial (monomial_in mono.now)) ≤ size_limit }
+    requires narrow { sum.old.weight + unsigned_abs coefficient.now ≤ weight_limit }
+    ensures sum { OnOk result
+        (polynomial_of (map term_in sum.new.terms.items) ≡ with_term (monomial_in mono.now) coefficient.now
+        (polynomial_of (map term_in sum.old.terms.items))) }
+    ensures measured { OnOk result (IsMeasured (polynomial_of (map term_in sum.new.terms.items)) sum.new.size sum.new.weight) }
 {
     let place = place_of(&sum.terms, mono);
     if !stands_at(&sum.terms, place, mono) {
-        return Ok(put_at(alloc, sum, place, mono, coefficient)?);
+        put_at(alloc, sum, place, mono, coefficient)?;
+        return Ok(());
     }
-    Ok(add_at(sum, place, coefficient))
+    add_at(sum, place, coefficient);
+    Ok(())
 }
 
 // A normal sum and some monomials more, each put in its place.
-fn with_all(
-    alloc: Global,
-    start: Measured,
-    terms: &[(MonoTree, i128)],
-) -> Result<Measured, NoMemory>
-    requires measured { IsMeasured (polynomial_of (map term_in start.terms.items)) start.size start.weight }
+fn add_all(alloc: Global, sum: &mut Measured, terms: &[(MonoTree, i128)]) -> Result<(), NoMemory>
+    requires measured { IsMeasured (polynomial_of (map term_in sum.old.terms.items)) sum.old.size sum.old.weight }
     requires terms { IsNormal (polynomial_of (map term_in terms.now)) }
-    requires small { start.size + size_of (polynomial_of (map term_in terms.now)) ≤ size_limit }
-    requires narrow { start.weight + weight_of (polynomial_of (map term_in terms.now)) ≤ weight_limit }
-    ensures sum { IfOk result
-        (λ s. polynomial_of (map term_in s.terms.items) ≡ with_terms (polynomial_of (map term_in start.terms.items))
+    requires small { sum.old.size + size_of (polynomial_of (map term_in terms.now)) ≤ size_limit }
+    requires narrow { sum.old.weight + weight_of (polynomial_of (map term_in terms.now)) ≤ weight_limit }
+    ensures sum { OnOk result
+        (polynomial_of (map term_in sum.new.terms.items) ≡ with_terms (polynomial_of (map term_in sum.old.terms.items))
         (polynomial_of (map term_in terms.now))) }
-    ensures measured { IfOk result (λ s. IsMeasured (polynomial_of (map term_in s.terms.items)) s.size s.weight) }
+    ensures measured { OnOk result (IsMeasured (polynomial_of (map term_in sum.new.terms.items)) sum.new.size sum.new.weight) }
 {
-    let mut sum = start;
     for (mono, coefficient) in terms {
-        sum = with_one(alloc, sum, mono, coefficient)?;
+        add_term(alloc, sum, mono, coefficient)?;
     }
-    Ok(sum)
+    Ok(())
 }
 
 /// A normal polynomial that grows: each monomial more is put in its place, and the others are left alone.
@@ -289,9 +292,9 @@ impl Accumulator {
         requires small { size_of self + size_of p.now ≤ size_limit }
         ensures { IfOk result (λ s. IsNormalFormOf s (raw_sum self p.now)) }
     {
-        Ok(Accumulator {
-            sum: with_all(alloc, self.sum, p.monos())?,
-        })
+        let mut sum = self.sum;
+        add_all(alloc, &mut sum, p.monos())?;
+        Ok(Accumulator { sum })
     }
 
     /// The sum with one polynomial more: the normal form of the one raw sum after the other.

@@ -8,5 +8,5 @@ use Rattle.nf_sums.proofs.accumulator.Accumulator.add_terms.Goals as goal
 pub returns : goal.returns
 returns c =
     subst (λ x. IsNormalFormOf x (raw_sum c.args.self c.args.p.now))
-    (sym (c.in_ok-with_all.ensures.sum ∙ (λ k. with_terms (c.self.view_is k) (c.monos.ensures.same k))))
+    (sym (c.in_ok-add_all.ensures.sum ∙ (λ k. with_terms (c.self.view_is k) (c.monos.ensures.same k))))
     (all_more c.args.self c.args.p.now (subst IsNormal c.self.view_is c.self.invariant.normal) c.monos.ensures.normal c.requires.narrow c.requires.small)
