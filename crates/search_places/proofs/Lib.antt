@@ -1,4 +1,3 @@
 pub mod Finding
 pub mod Values
-pub mod Orders
 pub mod Moved

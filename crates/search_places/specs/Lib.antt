@@ -1,6 +1,5 @@
 pub mod Pairs
 pub mod NodeLines
 pub mod NodeChanges
-pub mod ItemOrder
 pub mod View
 pub mod Moves

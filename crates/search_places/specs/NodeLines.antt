@@ -1,12 +1,12 @@
 -- Nodes with what is kept of them, as plain data.
-use Rattle.std.specs.Prelude.{ℕ, List, map, Option, option_map}
+use Rattle.std.specs.Prelude.{List, map, Option, option_map}
 use Rattle.fs_cut.specs.Paths.{Point}
 use Rattle.fs_cut.specs.View.{point_of}
 use Rattle.sym_facts.specs.Facts.{Fact}
 use Rattle.search_tables.specs.declared.moves.Move.{Move}
 use Rattle.search_tables.specs.SearchTables.{SearchNode, Table}
 use Rattle.search_places.specs.declared.pairs.PointPair.{PointPair}
-use Rattle.search_places.specs.declared.entry.Item.{Item}
+use Rattle.search_waiting.specs.declared.item.Item.{Item}
 use Rattle.search_places.specs.declared.entry.Entry.{Entry}
 
 -- a node, the moves of its mode once that is found, and the items that arrive at it
@@ -17,9 +17,6 @@ pub record NodeRecord : Type 0 where
 
 abbrev pub node_with_fact : Point → Point → Fact → SearchNode
 node_with_fact P Q f = record { left = P; right = Q; fact = f }
-
-abbrev pub item : ℕ → ℕ → Item
-item i p = record { node = i; place = p }
 
 abbrev pub record_of_node : PointPair × Entry → NodeRecord
 record_of_node e = record {

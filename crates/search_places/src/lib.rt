@@ -1,11 +1,10 @@
-//! The nodes of a search, each with what is kept of it, and the items that wait.
+//! The nodes of a search, each with what is kept of it.
 //!
-//! Promises: nodes by their points in order of making, and the least item that waits.
+//! Promises: nodes by their points in order of making, and the moves of a node.
 //!
-//! Rules: `specs/NodeLines`, `specs/ItemOrder`, `specs/NodeChanges`.
+//! Rules: `specs/NodeLines`, `specs/NodeChanges`, `specs/Moves`.
 //!
 //! Words:
-//! - item (of a search): a node whose mode is to be found, or a move of it that is to be tried
 //! - line (of a search): a node with what is kept of it
 #![tactic(auto)]
 
@@ -13,4 +12,3 @@ pub mod entry;
 pub mod moves;
 pub mod nodes;
 pub mod pairs;
-pub mod waiting;

@@ -8,13 +8,14 @@ ghost use Rattle.search_places.specs.NodeLines.{node_records, table_of};
 ghost use Rattle.search_places.specs.NodeChanges.{StandsAt, PutsNode, SetsMoves, ListsArrival};
 ghost use Rattle.search_places.specs.View.{standing_in};
 
-use crate::entry::{Entry, Item};
+use crate::entry::Entry;
 use crate::pairs::PointPair;
 use fs_cut::cover::Point;
 use indexmap::IndexMap;
 use nf_terms::stop::NoMemory;
 use search_tables::moves::Move;
 use search_tables::nodes::TableNode;
+use search_waiting::item::Item;
 use std::alloc::Global;
 use sym_facts::fact::Fact;
 

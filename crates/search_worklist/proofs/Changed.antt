@@ -9,12 +9,12 @@ use Rattle.std.specs.BTreeSet.{BTreeSet}
 use Rattle.fs_cut.specs.Paths.{Point}
 use Rattle.sym_facts.specs.Facts.{Fact}
 use Rattle.search_tables.specs.SearchTables.{MachinePair, units}
-use Rattle.search_places.specs.declared.entry.Item.{Item}
+use Rattle.search_waiting.specs.declared.item.Item.{Item}
 use Rattle.search_places.specs.declared.pairs.PointPair.{PointPair}
 use Rattle.search_places.specs.declared.entry.Entry.{Entry}
-use Rattle.search_places.specs.NodeLines.{NodeRecord, node_with_fact, item, node_records, table_of}
+use Rattle.search_places.specs.NodeLines.{NodeRecord, node_with_fact, node_records, table_of}
 use Rattle.search_places.specs.NodeChanges.{fresh, PutsLast, PutsAgain, PutsNode}
-use Rattle.search_places.specs.ItemOrder.{item_cmp, waits, Adds, AddsAll}
+use Rattle.search_waiting.specs.ItemOrder.{item, item_cmp, waits, Adds, AddsAll}
 use Rattle.search_tables.proofs.RankLists.{get_snoc, set_same, set_other, same_or_not}
 use Rattle.search_worklist.specs.NodeUpdates.{put_by, put_fact, number_by, node_number}
 use Rattle.search_worklist.specs.Waiting.{Arrives}

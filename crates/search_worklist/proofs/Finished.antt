@@ -13,10 +13,10 @@ use Rattle.search_tables.specs.declared.moves.Move.{Move}
 use Rattle.search_tables.specs.SearchTables.{MachinePair, SearchNode, units, node_target, PathPair}
 use Rattle.search_tables.specs.Next.{paths_in, move_by}
 use Rattle.search_tables.proofs.Forming.{known_in}
-use Rattle.search_places.specs.declared.entry.Item.{Item}
-use Rattle.search_places.specs.NodeLines.{NodeRecord, item, record_of_node, table_of}
+use Rattle.search_waiting.specs.declared.item.Item.{Item}
+use Rattle.search_places.specs.NodeLines.{NodeRecord, record_of_node, table_of}
 use Rattle.search_places.specs.NodeChanges.{ListsArrival}
-use Rattle.search_places.specs.ItemOrder.{waits, IsLeastWaiting, Drops}
+use Rattle.search_waiting.specs.ItemOrder.{item, waits, IsLeastWaiting, Drops}
 use Rattle.search_tables.proofs.RankLists.{get_snoc, get_map_back, set_same, set_other, same_or_not}
 use Rattle.search_worklist.specs.declared.state.State.{State}
 use Rattle.search_worklist.specs.declared.trial.Trial.{Trial}

@@ -6,9 +6,9 @@ use Rattle.sym_facts.specs.Pairings.{IsFactOf}
 use Rattle.search_tables.specs.SearchTables.{MachinePair, positions_of, Table, units}
 use Rattle.search_tables.specs.Legal.{stuck}
 use Rattle.search_tables.specs.TableInvariants.{IsWellFormed}
-use Rattle.search_places.specs.declared.entry.Item.{Item}
-use Rattle.search_places.specs.NodeLines.{NodeRecord, item, node_records, table_of}
-use Rattle.search_places.specs.ItemOrder.{waits}
+use Rattle.search_waiting.specs.declared.item.Item.{Item}
+use Rattle.search_places.specs.NodeLines.{NodeRecord, node_records, table_of}
+use Rattle.search_waiting.specs.ItemOrder.{item, waits}
 use Rattle.search_worklist.specs.declared.state.State.{State}
 use Rattle.search_places.specs.Moves.{most_moves}
 use Rattle.search_worklist.specs.Waiting.{Arrives, IsWaiting}

@@ -2,8 +2,8 @@
 
 ghost use Rattle.std.specs.Prelude.{◌≡◌, ◌<◌, ◌≢◌, true, None, length, IfNone, IfSome, IfOk, OnOk};
 ghost use Rattle.search_tables.specs.Next.{path_at as one_path};
-ghost use Rattle.search_places.specs.NodeLines.{item as plain_item};
-ghost use Rattle.search_places.specs.ItemOrder.{waits, IsLeastWaiting};
+ghost use Rattle.search_waiting.specs.ItemOrder.{item as plain_item};
+ghost use Rattle.search_waiting.specs.ItemOrder.{waits, IsLeastWaiting};
 ghost use Rattle.search_worklist.specs.States.{lines, table, IsReady, IsMade};
 ghost use Rattle.search_worklist.specs.Turns.{IsNext, IsTurned, IsEndAt, ModeFound, IsMoveAt, NoMoveAt};
 ghost use Rattle.search_worklist.specs.View.{machines_in};
@@ -17,11 +17,11 @@ use cert_bisimulation::mode::Mode;
 use nf_terms::stop::{NfStop, NoMemory};
 use nf_terms::tree::Side;
 use propagate::modes::mode;
-use search_places::entry::Item;
 use search_places::moves::moves;
 use search_places::nodes::{list_arrival, node_at, set_moves};
-use search_places::waiting::{add_moves, least, remove};
 use search_tables::moves::Move;
+use search_waiting::item::Item;
+use search_waiting::waiting::{add_moves, least, remove};
 use std::alloc::Global;
 
 /// What is next in a table.

@@ -1,5 +1,5 @@
 use Rattle.std.proofs.Common.{refl, subst}
-use Rattle.search_places.specs.ItemOrder.{waits}
+use Rattle.search_waiting.specs.ItemOrder.{waits}
 use Rattle.search_places.specs.View.{standing_in}
 use Rattle.search_worklist.specs.States.{lines}
 use Rattle.search_worklist.specs.Turns.{IsEndAt}

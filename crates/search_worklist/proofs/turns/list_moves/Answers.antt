@@ -4,7 +4,7 @@ use Rattle.propagate.specs.Modes.{Found}
 use Rattle.search_tables.specs.Next.{mode_at}
 use Rattle.search_places.specs.NodeLines.{NodeRecord}
 use Rattle.search_places.specs.Moves.{moves_in_mode}
-use Rattle.search_places.specs.ItemOrder.{waits, AddsMoves}
+use Rattle.search_waiting.specs.ItemOrder.{waits, AddsMoves}
 use Rattle.search_places.specs.View.{standing_in}
 use Rattle.search_worklist.specs.States.{lines}
 use Rattle.search_worklist.specs.View.{machines_in}

@@ -1,6 +1,5 @@
 use Rattle.std.proofs.Common.{subst}
-use Rattle.search_places.specs.NodeLines.{item}
-use Rattle.search_places.specs.ItemOrder.{waits}
+use Rattle.search_waiting.specs.ItemOrder.{item, waits}
 use Rattle.search_worklist.specs.declared.ends.End.TheVariants.{Closed}
 use Rattle.search_worklist.specs.SearchEnds.{EndsSo}
 use Rattle.search_worklist.specs.States.{lines}

@@ -1,5 +1,5 @@
 use Rattle.std.proofs.Common.{refl, subst, Ok, Err}
-use Rattle.search_places.specs.ItemOrder.{waits}
+use Rattle.search_waiting.specs.ItemOrder.{waits}
 use Rattle.search_worklist.specs.declared.trial.Trial.TheVariants.{Changes, Exceeds}
 use Rattle.search_worklist.specs.States.{lines}
 use Rattle.search_worklist.specs.Trials.{TriesAt}

@@ -1,7 +1,7 @@
 use Rattle.std.proofs.Common.{◌+◌, ◌≤◌}
 use Rattle.std.specs.BTreeSet.{btree_set_len}
-use Rattle.search_places.specs.ItemOrder.{waits, AddsMoves}
-use Rattle.search_places.proofs.waiting.add_moves.Given as goal
+use Rattle.search_waiting.specs.ItemOrder.{waits, AddsMoves}
+use Rattle.search_waiting.proofs.waiting.add_moves.Given as goal
 
 abbrev pub invariant-loop-number : goal.invariant-loop-number
 invariant-loop-number l = record {

@@ -3,8 +3,10 @@ use Rattle.std.specs.Prelude.{◌≡◌, ◌≢◌, ℕ, suc, ◌<◌, Bool, tru
 use Rattle.std.specs.declared.cmp.Ordering.{Ordering}
 use Rattle.std.specs.Ordering.{nat_cmp, ordering_then}
 use Rattle.std.specs.BTreeSet.{BTreeSet, contains}
-use Rattle.search_places.specs.declared.entry.Item.{Item}
-use Rattle.search_places.specs.NodeLines.{item}
+use Rattle.search_waiting.specs.declared.item.Item.{Item}
+
+abbrev pub item : ℕ → ℕ → Item
+item i p = record { node = i; place = p }
 
 -- by node, and then by place: the node itself comes before its moves
 abbrev pub item_cmp : Item → Item → Ordering

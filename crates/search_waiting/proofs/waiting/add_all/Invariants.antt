@@ -1,6 +1,6 @@
 use Rattle.std.proofs.Common.{take}
-use Rattle.search_places.specs.ItemOrder.{waits, AddsAll}
-use Rattle.search_places.proofs.waiting.add_all.Given as goal
+use Rattle.search_waiting.specs.ItemOrder.{waits, AddsAll}
+use Rattle.search_waiting.proofs.waiting.add_all.Given as goal
 
 abbrev pub invariant-loop-item : goal.invariant-loop-item
 invariant-loop-item l = AddsAll (waits l.initial.waiting) (waits l.waiting) (take l.item-index l.items)

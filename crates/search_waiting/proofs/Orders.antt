@@ -5,12 +5,10 @@ use Rattle.std.proofs.lemmas.Bool.Decides.{nat_tests}
 use Rattle.std.specs.declared.cmp.Ordering.{Ordering}
 use Rattle.std.specs.declared.cmp.Ordering.TheVariants.{Less, Equal, Greater}
 use Rattle.std.specs.Ordering.{nat_cmp, ordering_then, is_gt, is_eq}
-use Rattle.std.proofs.lemmas.Bool.{false_from_ne_true}
+use Rattle.std.proofs.lemmas.Bool.{cases_lt, false_from_ne_true}
 use Rattle.fs_model.proofs.Orderings.{is_eq-true}
-use Rattle.search_places.specs.declared.entry.Item.{Item}
-use Rattle.search_places.specs.NodeLines.{item}
-use Rattle.search_places.specs.ItemOrder.{item_cmp, IsLeastWaiting, Adds, Drops, AddsMoves}
-use Rattle.search_tables.proofs.RankLists.{same_or_not}
+use Rattle.search_waiting.specs.declared.item.Item.{Item}
+use Rattle.search_waiting.specs.ItemOrder.{item, item_cmp, IsLeastWaiting, Adds, Drops, AddsMoves}
 
 cmp_greater : (x y : ℕ) → y < x → nat_cmp x y ≡ Greater
 cmp_greater x y h = grind (arith, nat_tests)
@@ -82,9 +80,9 @@ adds_none f i = record { stay = λ y t. t; fresh = λ p lt. absurd (omega arith)
 pub adds_more : (f g h : Item → Bool) (i n : ℕ) (x : Item) → x ≡ item i (n + 1) → AddsMoves f g i n → Adds g h x → AddsMoves f h i (n + 1)
 adds_more f g h i n x e a b = record {
   stay = λ y t. b.stay y (a.stay y t);
-  fresh = λ p lt. elim (same_or_not p n) [
-    | inl s ↦ (let e' : x ≡ item i (suc p) = e ∙ ap (item i) (let z : n + 1 ≡ suc p = omega arith in z) in subst (λ y. h y ≡ true) e' b.fresh)
-    | inr d ↦ b.stay (item i (suc p)) (a.fresh p (omega arith))
+  fresh = λ p lt. elim (cases_lt p n) [
+    | inl earlier ↦ b.stay (item i (suc p)) (a.fresh p earlier)
+    | inr later ↦ (let e' : x ≡ item i (suc p) = e ∙ ap (item i) (let z : n + 1 ≡ suc p = omega arith in z) in subst (λ y. h y ≡ true) e' b.fresh)
   ];
   only = λ y t. elim (b.only y t) [
     | inl s ↦ a.only y s

@@ -2,10 +2,10 @@
 
 ghost use Rattle.std.specs.Prelude.{◌≡◌, ◌+◌, ◌≤◌, ◌<◌, true, false, IfNone, IfSome, OnOk};
 ghost use Rattle.std.specs.BTreeSet.{btree_set_len};
-ghost use Rattle.search_places.specs.declared.entry.Item.{Item as PlainItem};
-ghost use Rattle.search_places.specs.ItemOrder.{waits, IsLeastWaiting, Adds, AddsMoves, AddsAll, Drops};
+ghost use Rattle.search_waiting.specs.declared.item.Item.{Item as PlainItem};
+ghost use Rattle.search_waiting.specs.ItemOrder.{waits, IsLeastWaiting, Adds, AddsMoves, AddsAll, Drops};
 
-use crate::entry::Item;
+use crate::item::Item;
 use nf_terms::stop::NoMemory;
 use std::collections::BTreeSet;
 
