@@ -5,7 +5,6 @@ use Rattle.nf_terms.specs.NormalTerms.{Monomial, polynomial_of, Plus}
 use Rattle.nf_terms.specs.View.{term_in, monomial_in}
 use Rattle.nf_terms.specs.RawSums.{raw_negation}
 use Rattle.nf_terms.specs.declared.tree.MonoTree.{MonoTree}
-use Rattle.nf_sums.proofs.Turns.{weight_at}
 
 -- a term with the negation of its coefficient
 abbrev pub opposite : MonoTree × ℤ → Monomial × ℤ
@@ -20,5 +19,3 @@ pub negated_all : (l out : List (MonoTree × ℤ)) (i : ℕ) → map term_in out
 negated_all l out i e h =
     let f : map term_in out ++ [] ≡ map opposite l = subst (λ d. map term_in out ++ map opposite d ≡ map opposite l) (drop_all i l h) e in
     ap polynomial_of (sym (append-nil (map term_in out)) ∙ f) ∙ negation_of l
-
-pub ruleset negations = (weight_at)

@@ -8,7 +8,7 @@ use Rattle.std.specs.Ordering.{is_lt, is_eq, int_eq, ordering_reverse}
 use Rattle.std.proofs.lemmas.Bool.{and_from}
 use Rattle.nf_terms.proofs.Booleans.{and_first, and_second, by_test}
 use Rattle.nf_terms.proofs.Orderings.{is_eq-true, is_lt-true}
-use Rattle.nf_terms.specs.NormalTerms.{Monomial, Polynomial, Zero, Plus}
+use Rattle.nf_terms.specs.NormalTerms.{Monomial, Polynomial, Zero, Plus, polynomial_of}
 use Rattle.nf_terms.specs.View.{monomial_in}
 use Rattle.nf_terms.specs.Order.{cmp_monomial}
 use Rattle.nf_terms.specs.Comparison.{monomials_total}
@@ -21,7 +21,7 @@ use Rattle.nf_sums.proofs.Partings.{ordered_term}
 use Rattle.nf_sums.specs.RawSumForms.{with_term, plus, by_order}
 use Rattle.nf_sums.specs.Accumulators.{stand_before, begins_behind, begins_with, coefficient_of, with_first, with_more, IsMeasured}
 use Rattle.nf_sums.proofs.Terms.{terms_in, size-sum, weight-sum}
-use Rattle.nf_sums.proofs.Turns.{weight_at}
+use Rattle.nf_sums.proofs.Turns.{next, weight_at}
 use Rattle.nf_sums.proofs.Grown.{all_more}
 
 -- ---- where a monomial has its place
@@ -49,6 +49,10 @@ before_step m (y ∷ z ∷ l) (suc k) x o h e g =
 pub before_more : (m : Monomial) (l : List (MonoTree × ℤ)) (k : ℕ) (x : MonoTree × ℤ) → ordered (terms_in l) ≡ true → k < length l → x ≡ get_or l k x
     → is_lt (cmp_monomial (monomial_in x.0) m) ≡ true → stand_before m (terms_in (take (k + 1) l)) ≡ true
 before_more m l k x o h e g = subst (λ n. stand_before m (terms_in (take n l)) ≡ true) (sym (add-one k)) (before_step m l k x o h e g)
+
+pub behind_here : (m : Monomial) (l : List (MonoTree × ℤ)) (k : ℕ) (x : MonoTree × ℤ) → k < length l → x ≡ get_or l k x
+    → is_lt (cmp_monomial (monomial_in x.0) m) ≡ false → begins_behind m (terms_in (drop k l)) ≡ true
+behind_here m l k x h e g = ap (λ ts. begins_behind m (polynomial_of ts)) (next l k x h e) ∙ ap not g
 
 -- ---- a monomial put there
 greater_of : (m n : Monomial) → is_lt (cmp_monomial n m) ≡ true → cmp_monomial m n ≡ Greater

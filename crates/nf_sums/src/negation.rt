@@ -28,7 +28,6 @@ pub fn push_negated(
 }
 
 /// The negation of a list of terms.
-#[tactic(auto, using(crate::proofs::Negations::negations))]
 pub fn negate_terms(
     alloc: Global,
     terms: &[(MonoTree, i128)],

@@ -30,6 +30,35 @@ fn push_product(
     push_term(out, mono, &product)
 }
 
+/// Puts the product of two ordered lists of at most one term into an empty list.
+fn multiply_firsts(
+    alloc: Global,
+    out: &mut Vec<(MonoTree, i128)>,
+    l: &[(MonoTree, i128)],
+    r: &[(MonoTree, i128)],
+) -> Result<(), NoMemory>
+    requires empty { out.old.items ≡ [] }
+    requires left { IsTrue (ordered (polynomial_of (map term_in l.now))) }
+    requires right { IsTrue (ordered (polynomial_of (map term_in r.now))) }
+    requires narrow { weight_of (polynomial_of (map term_in l.now)) * weight_of (polynomial_of (map term_in r.now))
+        ≤ weight_limit }
+    requires left_short { length l.now ≤ 1 }
+    requires right_short { length r.now ≤ 1 }
+    ensures { OnOk result
+        (IsOrderedProduct (polynomial_of (map term_in l.now)) (polynomial_of (map term_in r.now))
+        (polynomial_of (map term_in out.new.items))) }
+{
+    let Some((mono, coefficient)) = l.first() else {
+        return Ok(());
+    };
+    let Some((other, factor)) = r.first() else {
+        return Ok(());
+    };
+    let product = multiply_monomials(alloc, mono, other)?;
+    push_product(out, product, coefficient, factor)?;
+    Ok(())
+}
+
 /// The product of two ordered lists of at most one term.
 fn single(
     alloc: Global,
@@ -47,18 +76,7 @@ fn single(
         (polynomial_of (map term_in v.items))) }
 {
     let mut out = Vec::new(alloc);
-    let Some((mono, coefficient)) = l.first() else {
-        return Ok(out);
-    };
-    let Some((other, factor)) = r.first() else {
-        return Ok(out);
-    };
-    push_product(
-        &mut out,
-        multiply_monomials(alloc, mono, other)?,
-        coefficient,
-        factor,
-    )?;
+    multiply_firsts(alloc, &mut out, l, r)?;
     Ok(out)
 }
 

@@ -1,6 +1,18 @@
-use Rattle.std.proofs.Common.{arith}
-use Rattle.nf_sums.proofs.Negations.{negated_all}
+use Rattle.std.proofs.Common.{◌∙◌, arith}
+use Rattle.nf_terms.proofs.Loops.{one_more}
+use Rattle.nf_sums.proofs.Negations.{opposite, negated_all}
+use Rattle.nf_sums.proofs.Turns.{weight_at}
 use Rattle.nf_sums.proofs.negation.negate_terms.Goals as goal
+
+pub push_negated-requires : goal.push_negated-requires
+push_negated-requires c =
+    omega (arith, weight_at c.args.terms.now c.loop-mono.mono-index c.loop-mono-item.result c.loop-mono-test.true c.loop-mono-item.is, c.requires)
+
+pub loop-mono-preserved : goal.loop-mono-preserved
+loop-mono-preserved c =
+    one_more opposite _ _ c.args.terms.now c.loop-mono.mono-index c.loop-mono-item.result c.loop-mono-test.true c.loop-mono-item.is
+    c.in_ok-push_negated.ensures
+    ∙ c.loop-mono.invariant
 
 pub returns : goal.returns
 returns c = negated_all c.args.terms.now _ _ c.loop-mono.invariant (omega arith)
