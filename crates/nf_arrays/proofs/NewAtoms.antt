@@ -2,9 +2,9 @@
 use Rattle.std.proofs.Common.{◌≡◌, ◌<◌, ◌^◌, ◌≤◌, ℤ, Bool, true, false, ◌&&◌, not, unsigned_abs, arith, ap, ◌∙◌, Option, None, Some, MatchOption}
 use Rattle.std.proofs.lemmas.Bool.{leb-true, and_from}
 use Rattle.base_laws.proofs.Booleans.{and_first}
-use Rattle.nf_terms.specs.NormalTerms.{Polynomial, Quotient, Remainder, One, Times, Zero, Plus}
+use Rattle.nf_terms.specs.NormalTerms.{Polynomial, ArrayTerm, Read, Quotient, Remainder, One, Times, Zero, Plus}
 use Rattle.nf_terms.specs.Measures.{weight_of}
-use Rattle.nf_terms.specs.Normal.{IsNormal, ordered, is_constant, constant_part, is_light, narrow_inside}
+use Rattle.nf_terms.specs.Normal.{IsNormal, IsNormalArray, ordered, ordered_array, stays_read, is_constant, constant_part, is_light, narrow_inside, narrow_array}
 use Rattle.nf_terms.specs.TermLimits.{weight_limit}
 use Rattle.nf_terms.specs.Normal.{constant_sum}
 use Rattle.nf_sums.proofs.Constants.{constant_is}
@@ -57,4 +57,14 @@ module _ (p q : Polynomial) (m : IsNormal p) (n : IsNormal q) (h : is_constant p
     depth = omega (arith, m.shallow, n.shallow);
   }
 
-pub ruleset new_atoms = (constant_light, new_quotient, new_remainder)
+pub new_read : (a : ArrayTerm) (i : Polynomial) → IsNormalArray a → IsNormal i → stays_read a i ≡ true → IsNewAtom (Read a i)
+new_read a i m n s = record {
+  in_order = and_from (ordered_array a && ordered i) (stays_read a i) (and_from (ordered_array a) (ordered i) m.ordered n.ordered) s;
+  narrow = joined (narrow_array a) (is_light i) (narrow_inside i) m.narrow n.narrow;
+  size = omega (arith, m.small, n.small);
+  depth = omega (arith, m.shallow, n.shallow);
+}
+  where
+    joined : (x y z : Bool) → x ≡ true → (y && z) ≡ true → (x && y && z) ≡ true
+    joined true y z p q = q
+    joined false y z p q = cc

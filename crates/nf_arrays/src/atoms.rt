@@ -1,10 +1,12 @@
 //! Atoms alone.
 
-ghost use Rattle.std.specs.Prelude.{◌≡◌, IfOk};
-ghost use Rattle.nf_terms.specs.View.{atom_in, polynomial_in};
+ghost use Rattle.std.specs.Prelude.{◌≡◌, pos, IfOk};
+ghost use Rattle.nf_terms.specs.NormalTerms.{One, Times, Zero, Plus};
+ghost use Rattle.nf_terms.specs.View.{atom_in, monomial_in, polynomial_in};
 ghost use Rattle.nf_terms.specs.Computed.{Answers};
 ghost use Rattle.nf_arrays.specs.NewAtoms.{new_atom as new_atom_of, polynomial_of_atom, IsNewAtom};
 
+use nf_terms::copies::{push_atom, push_term};
 use nf_terms::limits::{DEPTH_LIMIT, SIZE_LIMIT};
 use nf_terms::measures::{depth_of_atom, size_of_atom};
 use nf_terms::poly::Poly;
@@ -12,15 +14,29 @@ use nf_terms::stop::{NfStop, NoMemory};
 use nf_terms::tree::{Atom, MonoTree, PolyTree};
 use std::alloc::Global;
 
+// The monomial of an atom alone.
+fn lone_factor(alloc: Global, atom: Atom) -> Result<MonoTree, NoMemory>
+    ensures { IfOk result (λ m. monomial_in m ≡ Times (atom_in atom) One) }
+{
+    let mut atoms = Vec::new(alloc);
+    push_atom(&mut atoms, atom)?;
+    Ok(MonoTree { atoms })
+}
+
+// The tree of a monomial alone.
+fn lone_term(alloc: Global, mono: MonoTree) -> Result<PolyTree, NoMemory>
+    ensures { IfOk result (λ tree. polynomial_in tree ≡ Plus (monomial_in mono) (pos 1) Zero) }
+{
+    let mut monos = Vec::new(alloc);
+    push_term(&mut monos, mono, &1)?;
+    Ok(PolyTree { monos })
+}
+
 // The tree of an atom alone.
 fn atom_tree(alloc: Global, atom: Atom) -> Result<PolyTree, NoMemory>
     ensures { IfOk result (λ tree. polynomial_in tree ≡ polynomial_of_atom (atom_in atom)) }
 {
-    let mut atoms = Vec::new(alloc);
-    atoms.push(atom)?;
-    let mut monos = Vec::new(alloc);
-    monos.push((MonoTree { atoms }, 1))?;
-    Ok(PolyTree { monos })
+    lone_term(alloc, lone_factor(alloc, atom)?)
 }
 
 /// An atom alone.

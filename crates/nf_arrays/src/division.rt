@@ -1,19 +1,21 @@
 //! Quotients and remainders.
 
-ghost use Rattle.std.specs.Prelude.{◌≡◌, ◌^◌, ◌<◌, true, false, unsigned_abs, MatchOption};
+ghost use Rattle.std.specs.Prelude.{◌≡◌, ◌^◌, ◌<◌, ◌&&◌, true, false, unsigned_abs, IfOk, MatchOption};
 ghost use Rattle.base_laws.specs.Division.{quotient as quotient_in, remainder as remainder_in};
-ghost use Rattle.nf_terms.specs.NormalTerms.{polynomial_of_number};
+ghost use Rattle.nf_terms.specs.NormalTerms.{Quotient, Remainder, polynomial_of_number};
+ghost use Rattle.nf_terms.specs.View.{atom_in, polynomial_in};
 ghost use Rattle.nf_terms.specs.Normal.{is_constant};
 ghost use Rattle.nf_terms.specs.Computed.{Answers, Done};
 ghost use Rattle.nf_terms.specs.Normal.{constant_sum};
-ghost use Rattle.nf_arrays.specs.NewAtoms.{quotient_of, remainder_of};
+ghost use Rattle.nf_arrays.specs.NewAtoms.{new_atom as new_atom_of, quotient_of, remainder_of};
 
 use crate::atoms::new_atom;
 use base_laws::{quotient, remainder};
 use nf_sums::sums::constant_of;
+use nf_terms::atoms::{make_quotient, make_remainder};
 use nf_terms::poly::Poly;
-use nf_terms::stop::NfStop;
-use nf_terms::tree::Atom;
+use nf_terms::stop::{NfStop, NoMemory};
+use nf_terms::tree::{Atom, PolyTree};
 use std::alloc::Global;
 
 // The number that a polynomial is, which is not the least `i128`.
@@ -37,23 +39,36 @@ fn folded_quotient(alloc: Global, c: &i128, d: &i128) -> Result<Poly, NfStop>
     }
 }
 
+// The quotient of two copies as an atom.
+fn copy_quotient(alloc: Global, l: &PolyTree, r: &PolyTree) -> Result<Atom, NoMemory>
+    ensures { IfOk result (λ a. atom_in a ≡ Quotient (polynomial_in l.now) (polynomial_in r.now)) }
+{
+    let left = l.try_clone(alloc)?;
+    make_quotient(alloc, left, r.try_clone(alloc)?)
+}
+
+// The quotient of two polynomials that are not both numbers.
+fn new_quotient(alloc: Global, l: &Poly, r: &Poly) -> Result<Poly, NfStop>
+    requires { is_constant l.now && is_constant r.now ≡ false }
+    ensures { Answers result (new_atom_of (Quotient l.now r.now)) }
+{
+    let atom = copy_quotient(alloc, l.tree(), r.tree())?;
+    new_atom(alloc, atom)
+}
+
 /// The quotient, truncated toward zero, and 0 for the divisor 0. Of two numbers it is a number, else an atom of its own.
 ///
 /// `Large` comes exactly where the new atom is past a limit: where 2 and both sizes are past 4,096, which is carried with
 /// depth 0, or else where the depth is past 64. `Wide` never comes. `NoMemory` comes when memory runs out.
-#[tactic(auto, using(crate::proofs::NewAtoms::new_atoms))]
 pub fn div(alloc: Global, l: &Poly, r: &Poly) -> Result<Poly, NfStop>
     ensures { Answers result (quotient_of l.now r.now) }
 {
-    let _sizes = (l.size(), r.size()); // The calls tell the proof that both forms are normal.
     if let Some(c) = number_of(l) {
         if let Some(d) = number_of(r) {
             return folded_quotient(alloc, &c, &d);
         }
     }
-    let left = Box::new(alloc, l.tree().try_clone(alloc)?)?;
-    let right = Box::new(alloc, r.tree().try_clone(alloc)?)?;
-    new_atom(alloc, Atom::Div(left, right))
+    new_quotient(alloc, l, r)
 }
 
 // The remainder of two numbers.
@@ -64,21 +79,34 @@ fn folded_remainder(alloc: Global, c: &i128, d: &i128) -> Result<Poly, NfStop>
     Ok(Poly::number(alloc, remainder(*c, *d))?)
 }
 
+// The remainder of two copies as an atom.
+fn copy_remainder(alloc: Global, l: &PolyTree, r: &PolyTree) -> Result<Atom, NoMemory>
+    ensures { IfOk result (λ a. atom_in a ≡ Remainder (polynomial_in l.now) (polynomial_in r.now)) }
+{
+    let left = l.try_clone(alloc)?;
+    make_remainder(alloc, left, r.try_clone(alloc)?)
+}
+
+// The remainder of two polynomials that are not both numbers.
+fn new_remainder(alloc: Global, l: &Poly, r: &Poly) -> Result<Poly, NfStop>
+    requires { is_constant l.now && is_constant r.now ≡ false }
+    ensures { Answers result (new_atom_of (Remainder l.now r.now)) }
+{
+    let atom = copy_remainder(alloc, l.tree(), r.tree())?;
+    new_atom(alloc, atom)
+}
+
 /// What the quotient leaves: it has the sign of the dividend, and is 0 for the divisor 0. Of two numbers it is a number, else
 /// an atom of its own.
 ///
 /// `Large` comes exactly where it comes for the quotient, `Wide` never, and `NoMemory` when memory runs out.
-#[tactic(auto, using(crate::proofs::NewAtoms::new_atoms))]
 pub fn rem(alloc: Global, l: &Poly, r: &Poly) -> Result<Poly, NfStop>
     ensures { Answers result (remainder_of l.now r.now) }
 {
-    let _sizes = (l.size(), r.size()); // The calls tell the proof that both forms are normal.
     if let Some(c) = number_of(l) {
         if let Some(d) = number_of(r) {
             return folded_remainder(alloc, &c, &d);
         }
     }
-    let left = Box::new(alloc, l.tree().try_clone(alloc)?)?;
-    let right = Box::new(alloc, r.tree().try_clone(alloc)?)?;
-    new_atom(alloc, Atom::Rem(left, right))
+    new_remainder(alloc, l, r)
 }

@@ -6,6 +6,7 @@
 #![tactic(auto)]
 
 mod atoms;
+mod copies;
 pub mod division;
 pub mod laws;
 pub mod pushes;

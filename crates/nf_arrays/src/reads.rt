@@ -1,6 +1,6 @@
 //! Reads of arrays.
 
-ghost use Rattle.std.specs.Prelude.{◌≡◌, map, IfOk, IsTrue};
+ghost use Rattle.std.specs.Prelude.{◌≡◌, map, IsTrue};
 ghost use Rattle.nf_terms.specs.NormalTerms.{writes_of, Over, Read};
 ghost use Rattle.nf_terms.specs.View.{polynomial_in, write_in};
 ghost use Rattle.nf_terms.specs.Order.{same_polynomial};
@@ -10,12 +10,13 @@ ghost use Rattle.nf_arrays.specs.NewAtoms.{new_atom as new_atom_of};
 ghost use Rattle.nf_arrays.specs.Writes.{are_apart, prefix_for, read_here, read_at};
 
 use crate::atoms::new_atom;
+use crate::copies::copy_read;
 use nf_terms::arr::Arr;
 use nf_terms::constants::differs_by_constant;
 use nf_terms::order::compare_polys;
 use nf_terms::poly::Poly;
-use nf_terms::stop::{NfStop, NoMemory};
-use nf_terms::tree::{ArrTree, Atom, Base, PolyTree};
+use nf_terms::stop::NfStop;
+use nf_terms::tree::{Base, PolyTree};
 use std::alloc::Global;
 use std::cmp::Ordering;
 
@@ -52,20 +53,6 @@ fn stopping<'a>(writes: &'a [(PolyTree, PolyTree)], i: &PolyTree) -> &'a [(PolyT
     rest
 }
 
-// A copy of writes.
-fn copy_writes(
-    alloc: Global,
-    writes: &[(PolyTree, PolyTree)],
-) -> Result<Vec<(PolyTree, PolyTree)>, NoMemory>
-    ensures { IfOk result (λ v. writes_of (map write_in v.items) ≡ writes_of (map write_in writes.now)) }
-{
-    let mut out = Vec::new(alloc);
-    for (index, value) in writes {
-        out.push((index.try_clone(alloc)?, value.try_clone(alloc)?))?;
-    }
-    Ok(out)
-}
-
 // A read that stays one.
 fn read_atom(
     alloc: Global,
@@ -77,11 +64,8 @@ fn read_atom(
     requires stays { IsTrue (stays_read (Over base (writes_of (map write_in writes.now))) i.now) }
     ensures { Answers result (new_atom_of (Read (Over base (writes_of (map write_in writes.now))) i.now)) }
 {
-    let _size = i.size(); // The call tells the proof that the form is normal.
-    let writes = copy_writes(alloc, writes)?;
-    let array = Box::new(alloc, ArrTree { base, writes })?;
-    let index = Box::new(alloc, i.tree().try_clone(alloc)?)?;
-    new_atom(alloc, Atom::Read(array, index))
+    let atom = copy_read(alloc, base, writes, i.tree())?;
+    new_atom(alloc, atom)
 }
 
 // A read of an array whose last write is not apart from the index.

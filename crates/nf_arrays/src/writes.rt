@@ -1,13 +1,14 @@
 //! Writes of arrays.
 
 ghost use Rattle.std.specs.Prelude.{◌≡◌, ◌≤◌, ◌++◌, ◌∷◌, map, take, drop, length, OnOk, IfOk, IsTrue};
-ghost use Rattle.nf_terms.specs.NormalTerms.{Polynomial, Over, writes_of};
+ghost use Rattle.nf_terms.specs.NormalTerms.{Polynomial, writes_of};
 ghost use Rattle.nf_terms.specs.View.{polynomial_in, array_in, write_in};
 ghost use Rattle.nf_terms.specs.Normal.{ordered, ordered_writes};
 ghost use Rattle.nf_terms.specs.Computed.{Answers};
 ghost use Rattle.nf_terms.specs.Tidied.{goes_after, with_write, rising_stretches, last_writes, tidy_array};
 ghost use Rattle.nf_arrays.specs.Writes.{written_last, with_last_write, indices_ordered, write_array};
 
+use crate::copies::{array_of, push_write_copy};
 use crate::reads::is_same;
 use nf_terms::arr::Arr;
 use nf_terms::constants::{constant_part, differs_by_constant};
@@ -15,7 +16,7 @@ use nf_terms::limits::{DEPTH_LIMIT, SIZE_LIMIT};
 use nf_terms::measures::depth_of_arr;
 use nf_terms::poly::Poly;
 use nf_terms::stop::{NfStop, NoMemory};
-use nf_terms::tree::{ArrTree, Base, PolyTree};
+use nf_terms::tree::{ArrTree, PolyTree};
 use std::alloc::Global;
 
 // Whether two indices in order differ by a constant, and the second one is the lower.
@@ -78,7 +79,7 @@ fn tidied_with(
         (last_writes (written_last (writes_of (map write_in writes.now)) (polynomial_in index.now) (polynomial_in value.now)))) }
 {
     let mut out = Vec::new(alloc);
-    out.push((index.try_clone(alloc)?, value.try_clone(alloc)?))?;
+    push_write_copy(alloc, &mut out, index, value)?;
     let mut rest = writes;
     'back: while let Some(((other, held), earlier)) = rest.split_last() {
         if !is_same(other, index) {
@@ -87,13 +88,6 @@ fn tidied_with(
         rest = earlier;
     }
     Ok(out)
-}
-
-// The tree of a base and writes.
-fn array_of(base: Base, writes: Vec<(PolyTree, PolyTree)>) -> ArrTree
-    ensures { array_in result ≡ Over base (writes_of (map write_in writes.items)) }
-{
-    ArrTree { base, writes }
 }
 
 // The tree of an array after a write.
