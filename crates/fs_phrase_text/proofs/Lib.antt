@@ -9,3 +9,4 @@ pub mod ExactExpressions
 pub mod Called
 pub mod Steps
 pub mod Hosted
+pub mod PassedOn

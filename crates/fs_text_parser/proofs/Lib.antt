@@ -1,4 +1,3 @@
 pub mod Placed
 pub mod Declared
 pub mod Steps
-pub mod PassedOn

@@ -3,7 +3,7 @@ use Rattle.fs_grammar.specs.PartEnds.{name_in}
 use Rattle.fs_grammar.specs.Tokens.{◌>>=◌}
 use Rattle.fs_grammar.specs.Grammar.{reading, after_reset}
 use Rattle.fs_text_parser.proofs.Steps.{name_reset}
-use Rattle.fs_text_parser.proofs.PassedOn.{refused, stopped}
+use Rattle.fs_phrase_text.proofs.PassedOn.{refused, stopped}
 use Rattle.fs_text_parser.proofs.declarations.reset.Goals as goal
 
 pub returns-in_err-name : goal.returns-in_err-name

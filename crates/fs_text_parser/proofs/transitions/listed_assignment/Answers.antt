@@ -1,7 +1,7 @@
 use Rattle.std.proofs.Common.{[], ◌∷◌, refl, ap, sym, cond, ◌∙◌}
 use Rattle.fs_grammar.specs.Grammar.{reading, at_assignment, at_transition, close_transition, with_assignments}
 use Rattle.fs_text_parser.specs.Destinations.{destination_of}
-use Rattle.fs_text_parser.proofs.PassedOn.{refused}
+use Rattle.fs_phrase_text.proofs.PassedOn.{refused}
 use Rattle.fs_text_parser.proofs.transitions.listed_assignment.Goals as goal
 
 pub returns-in_err-destination-clause-goes : goal.returns-in_err-destination-clause-goes

@@ -3,7 +3,7 @@ use Rattle.fs_grammar.specs.PartEnds.{name_in}
 use Rattle.fs_grammar.specs.Tokens.{line_at, ◌>>=◌}
 use Rattle.hls_program_grammar.specs.ProgramGrammar.{program_reading, after_name}
 use Rattle.hls_program_text.proofs.Readings.{name_read}
-use Rattle.hls_program_text.proofs.PassedOn.{refused, stopped}
+use Rattle.fs_phrase_text.proofs.PassedOn.{refused, stopped}
 use Rattle.hls_program_text.proofs.assignments.before_value.Goals as goal
 
 pub returns-in_err-name-clause-goes : goal.returns-in_err-name-clause-goes

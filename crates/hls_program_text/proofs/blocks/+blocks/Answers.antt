@@ -9,7 +9,7 @@ use Rattle.hls_program_parts.specs.View.{block_of}
 use Rattle.hls_program_grammar.specs.ProgramGrammar.{depth_of, in_yes, in_no, in_body, for_if, for_while, program_reading, at_block, at_statement, after, at_no}
 use Rattle.hls_program_text.specs.Fronts.{tokens_behind_brace}
 use Rattle.hls_program_text.proofs.Readings.{opens_yes, opens_no, opens_body, else_taken}
-use Rattle.hls_program_text.proofs.PassedOn.{refused, stopped, goes_after}
+use Rattle.fs_phrase_text.proofs.PassedOn.{refused, stopped, goes_after}
 use Rattle.hls_program_text.proofs.blocks.+blocks.Goals as goal
 
 pub block-returns-in_err-rest-clause-goes : goal.block-returns-in_err-rest-clause-goes
