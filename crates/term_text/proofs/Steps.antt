@@ -8,7 +8,10 @@ use Rattle.std.proofs.lemmas.Bool.{or_parts}
 use Rattle.fs_model.proofs.Lists.{prefix_len_more}
 use Rattle.fs_model.specs.Words.{is_letter, is_digit, is_word_byte, is_reserved}
 use Rattle.fs_model.specs.declared.sides.Side.{Side}
-use Rattle.term_text.specs.TermTexts.{Atom, Monomial, Sum, Polynomial, ArrayTerm, ListSyntax, Symbol, Number, Times, Of, Bare, Written, BareList, Pushed}
+use Rattle.term_text.specs.TermTexts.{Atom, Monomial, Sum, Polynomial, ArrayTerm, ListSyntax, Symbol, Read, Number, Times, Of, Bare, Written, BareList, Pushed}
+use Rattle.term_text.specs.declared.starts.DivisionKind.{DivisionKind}
+use Rattle.term_text.specs.declared.starts.DivisionKind.TheVariants as kinds
+use Rattle.term_text.specs.AtomStarts.{right_side, division_of}
 use Rattle.term_text.specs.declared.tree.WrittenAtom.{WrittenAtom}
 use Rattle.term_text.specs.declared.tree.WrittenMonomial.{WrittenMonomial}
 use Rattle.term_text.specs.declared.tree.WrittenPolynomial.{WrittenPolynomial}
@@ -16,7 +19,7 @@ use Rattle.term_text.specs.View.{times_all, written_all, sum_all, sum_of, first_
 use Rattle.term_text.specs.View.{written_polynomial_in, written_term_in, written_write_in}
 use Rattle.term_text.specs.Machine.{begins, rest_after, at_sign, first_monomial_for, monomial_of_sum, ForPolynomial, ForMonomial, ForAtom, ForSymbol, in_atom}
 use Rattle.term_text.specs.Machine.{in_array, in_list, after_list, ForArray, whole_polynomial, whole_array, read_of, place, item, times, positive, first}
-use Rattle.term_text.specs.Machine.{at_polynomial, at_monomial, at_atom}
+use Rattle.term_text.specs.Machine.{expect, index, value, at_polynomial, at_monomial, at_atom}
 use Rattle.term_text.specs.Machine.{at_symbol, in_number, in_symbol, after_symbol, after_array, after_monomial, after_sum, after_polynomial, atom_done}
 use Rattle.term_text.specs.Machine.{monomial_done, term_reading, EndsTermSum, EndsMonomial, EndsWrites, IsNoArray}
 
@@ -164,6 +167,30 @@ pub array_goes : (bs : List ℕ) (s : Side) (x : List ℕ) (k : ForAtom) → IsN
     → term_reading bs (after_symbol s x (in_atom k)) ≡ term_reading bs (after_array (Bare s x) (read_of k))
 array_goes [] s x k h = absurd cc
 array_goes (b ∷ bs) s x k h = rw (sym h) refl
+
+-- ---- the byte that ends a polynomial
+
+pub closes_index : (a : ArrayTerm) (k : ForAtom) (bs : List ℕ) (p : Polynomial)
+    → term_reading bs (after_polynomial p (index a k)) ≡ term_reading bs (expect 93 (atom_done (Read a p) k))
+closes_index a k [] p = refl
+closes_index a k (b ∷ bs) p = refl
+
+pub closes_value : (a : ArrayTerm) (i : Polynomial) (k : ForArray) (bs : List ℕ) (p : Polynomial)
+    → term_reading bs (after_polynomial p (value a i k)) ≡ term_reading bs (expect 125 (after_array (Written a i p) k))
+closes_value a i k [] p = refl
+closes_value a i k (b ∷ bs) p = refl
+
+pub closes_item : (l : ListSyntax) (bs : List ℕ) (p : Polynomial)
+    → term_reading bs (after_polynomial p (item l)) ≡ term_reading bs (expect 125 (after_list (Pushed l p)))
+closes_item l [] p = refl
+closes_item l (b ∷ bs) p = refl
+
+pub closes_right : (d : DivisionKind) (l : Polynomial) (k : ForAtom) (bs : List ℕ) (p : Polynomial)
+    → term_reading bs (after_polynomial p (right_side d l k)) ≡ term_reading bs (expect 41 (atom_done (division_of d l p) k))
+closes_right kinds.Quotient l k [] p = refl
+closes_right kinds.Quotient l k (b ∷ bs) p = refl
+closes_right kinds.Remainder l k [] p = refl
+closes_right kinds.Remainder l k (b ∷ bs) p = refl
 
 -- ---- what stands behind a byte
 

@@ -12,5 +12,6 @@ pub mod fault;
 mod parts;
 pub mod scan;
 pub mod signs;
+mod starts;
 pub mod terms;
 pub mod tree;

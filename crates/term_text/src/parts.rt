@@ -1,13 +1,15 @@
 //! Making the parts of written terms.
 
-ghost use Rattle.std.specs.Prelude.{◌≡◌, ◌<◌, map, length, true, false};
+ghost use Rattle.std.specs.Prelude.{◌≡◌, ◌<◌, map, length, IfOk};
 ghost use Rattle.term_text.specs.Machine.{TermMadeAs};
-ghost use Rattle.term_text.specs.TermTexts.{Monomial, ArrayTerm, One, Times, Read, Quotient, Remainder, Written};
+ghost use Rattle.term_text.specs.AtomStarts.{MadeFrom, division_of};
+ghost use Rattle.term_text.specs.TermTexts.{Monomial, ArrayTerm, One, Times, Read, Written};
 ghost use Rattle.term_text.specs.View.{written_atom_in, head_in, written_monomial_in, written_polynomial_in, written_array_in};
 ghost use Rattle.term_text.specs.View.{written_term_in, written_write_in, times_all, written_all, sum_of, first_sum};
 ghost use Rattle.term_text.specs.View.{more_sum};
 
 use crate::fault::ReadError;
+use crate::starts::DivisionKind;
 use crate::tree::{WrittenArray, WrittenAtom, WrittenHead, WrittenMonomial, WrittenPolynomial};
 use nf_terms::atoms::both_boxed;
 use std::alloc::Global;
@@ -19,81 +21,106 @@ pub fn one<'a>(first: WrittenAtom<'a>) -> WrittenHead<'a>
     WrittenHead::One(first)
 }
 
-/// An array read at an index. The one refusal is out of memory.
+/// What is read of an array, where its index was read.
 pub fn make_read<'a>(
     alloc: Global,
     array: WrittenArray<'a>,
-    index: WrittenPolynomial<'a>,
-) -> Result<WrittenAtom<'a>, ReadError>
-    ensures { TermMadeAs result
-        (λ a. written_atom_in a ≡ Read (written_array_in array.entry) (written_polynomial_in index.entry)) }
+    index: Result<(WrittenPolynomial<'a>, &'a [u8]), ReadError>,
+) -> Result<(WrittenAtom<'a>, &'a [u8]), ReadError>
+    ensures { MadeFrom index.entry result
+        (λ i a. (written_atom_in a.0 ≡ Read (written_array_in array.entry) (written_polynomial_in i.0)) × (a.1.now ≡ i.1.now)) }
 {
-    let (array, index) = both_boxed(alloc, array, index)?;
-    Ok(WrittenAtom::Read(array, index))
-}
-
-/// A quotient, or a remainder. The one refusal is out of memory.
-pub fn make_division<'a>(
-    alloc: Global,
-    is_remainder: bool,
-    left: WrittenPolynomial<'a>,
-    right: WrittenPolynomial<'a>,
-) -> Result<WrittenAtom<'a>, ReadError>
-    ensures quotient { is_remainder ≡ false → TermMadeAs result
-        (λ a. written_atom_in a ≡ Quotient (written_polynomial_in left.entry) (written_polynomial_in right.entry)) }
-    ensures remainder { is_remainder ≡ true → TermMadeAs result
-        (λ a. written_atom_in a ≡ Remainder (written_polynomial_in left.entry) (written_polynomial_in right.entry)) }
-{
-    let (left, right) = both_boxed(alloc, left, right)?;
-    if is_remainder {
-        Ok(WrittenAtom::Remainder(left, right))
-    } else {
-        Ok(WrittenAtom::Quotient(left, right))
+    match index {
+        Ok((index, rest)) => {
+            let (array, index) = both_boxed(alloc, array, index)?;
+            Ok((WrittenAtom::Read(array, index), rest))
+        }
+        Err(error) => Err(error),
     }
 }
 
-/// Adds an atom to a monomial. The one refusal is out of memory.
+/// A quotient, or a remainder, where its right side was read.
+pub fn make_division<'a>(
+    alloc: Global,
+    kind: DivisionKind,
+    left: WrittenPolynomial<'a>,
+    right: Result<(WrittenPolynomial<'a>, &'a [u8]), ReadError>,
+) -> Result<(WrittenAtom<'a>, &'a [u8]), ReadError>
+    ensures { MadeFrom right.entry result
+        (λ r a. (written_atom_in a.0 ≡ division_of kind (written_polynomial_in left.entry) (written_polynomial_in r.0))
+        × (a.1.now ≡ r.1.now)) }
+{
+    match right {
+        Ok((right, rest)) => {
+            let (left, right) = both_boxed(alloc, left, right)?;
+            match kind {
+                DivisionKind::Quotient => Ok((WrittenAtom::Quotient(left, right), rest)),
+                DivisionKind::Remainder => Ok((WrittenAtom::Remainder(left, right), rest)),
+            }
+        }
+        Err(error) => Err(error),
+    }
+}
+
+/// Adds the atom that was read to a monomial, and gives what follows it.
 #[tactic(auto, using(crate::proofs::Steps::atom_more))]
 pub fn push_atom<'a>(
     atoms: &mut Vec<WrittenAtom<'a>>,
-    next: WrittenAtom<'a>,
-) -> Result<(), ReadError>
-    ensures { TermMadeAs result
-        (λ _. (m : Monomial) → times_all m (map written_atom_in atoms.new.items)
-        ≡ Times (times_all m (map written_atom_in atoms.old.items)) (written_atom_in next.entry)) }
+    next: Result<(WrittenAtom<'a>, &'a [u8]), ReadError>,
+) -> Result<&'a [u8], ReadError>
+    ensures { MadeFrom next.entry result
+        (λ a rest. ((m : Monomial) → times_all m (map written_atom_in atoms.new.items)
+        ≡ Times (times_all m (map written_atom_in atoms.old.items)) (written_atom_in a.0)) × (rest.now ≡ a.1.now)) }
 {
-    Ok(atoms.push(next)?)
+    match next {
+        Ok((atom, rest)) => {
+            atoms.push(atom)?;
+            Ok(rest)
+        }
+        Err(error) => Err(error),
+    }
 }
 
-/// Adds a monomial to a sum. The one refusal is out of memory.
+/// Adds the monomial that was read to a sum, and gives what follows it.
 #[tactic(auto, using(crate::proofs::Steps::monomial_more))]
 pub fn push_monomial<'a>(
     monomials: &mut Vec<(bool, WrittenMonomial<'a>)>,
-    minus: bool,
-    next: WrittenMonomial<'a>,
-) -> Result<(), ReadError>
+    next: Result<(bool, WrittenMonomial<'a>, &'a [u8]), ReadError>,
+) -> Result<&'a [u8], ReadError>
     requires { 0 < length monomials.old.items }
-    ensures sum { TermMadeAs result
-        (λ _. sum_of (map written_term_in monomials.new.items) ≡ more_sum (sum_of (map written_term_in monomials.old.items))
-        (minus, written_monomial_in next.entry)) }
-    ensures some { TermMadeAs result (λ _. 0 < length monomials.new.items) }
+    ensures sum { MadeFrom next.entry result
+        (λ m rest. (sum_of (map written_term_in monomials.new.items)
+        ≡ more_sum (sum_of (map written_term_in monomials.old.items)) (m.0, written_monomial_in m.1)) × (rest.now ≡ m.2.now)) }
+    ensures some { IfOk result (λ _. 0 < length monomials.new.items) }
 {
-    Ok(monomials.push((minus, next))?)
+    match next {
+        Ok((minus, monomial, rest)) => {
+            monomials.push((minus, monomial))?;
+            Ok(rest)
+        }
+        Err(error) => Err(error),
+    }
 }
 
-/// Adds a write to an array. The one refusal is out of memory.
+/// Adds a write to an array, where its value was read, and gives what follows it.
 #[tactic(auto, using(crate::proofs::Steps::write_more))]
 pub fn push_write<'a>(
     writes: &mut Vec<(WrittenPolynomial<'a>, WrittenPolynomial<'a>)>,
     index: WrittenPolynomial<'a>,
-    value: WrittenPolynomial<'a>,
-) -> Result<(), ReadError>
-    ensures { TermMadeAs result
-        (λ _. (a : ArrayTerm) → written_all a (map written_write_in writes.new.items)
+    value: Result<(WrittenPolynomial<'a>, &'a [u8]), ReadError>,
+) -> Result<&'a [u8], ReadError>
+    ensures { MadeFrom value.entry result
+        (λ v rest. ((a : ArrayTerm) → written_all a (map written_write_in writes.new.items)
         ≡ Written (written_all a (map written_write_in writes.old.items)) (written_polynomial_in index.entry)
-        (written_polynomial_in value.entry)) }
+        (written_polynomial_in v.0)) × (rest.now ≡ v.1.now)) }
 {
-    Ok(writes.push((index, value))?)
+    match value {
+        Ok((value, rest)) => {
+            writes.push((index, value))?;
+            Ok(rest)
+        }
+        Err(error) => Err(error),
+    }
 }
 
 /// The sum of one monomial. The one refusal is out of memory.

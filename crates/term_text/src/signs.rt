@@ -1,16 +1,19 @@
 //! The signs between the parts of a term.
 
-ghost use Rattle.std.specs.Prelude.{◌≡◌, ◌==◌, ◌||◌, ◌<◌, length, option_map, IfOk, IfSome};
+ghost use Rattle.std.specs.Prelude.{◌≡◌, ◌==◌, ◌||◌, ◌<◌, ℕ, Option, length, option_map, IfOk, IfSome};
 ghost use Rattle.fs_model.specs.Words.{is_digit};
-ghost use Rattle.term_text.specs.Machine.{ForPolynomial, ForArray, ForAtom, term_reading, begins, rest_after, Goes, EndsWrites};
-ghost use Rattle.term_text.specs.Machine.{IsNoArray};
-ghost use Rattle.term_text.specs.Machine.{at_polynomial, at_monomial, at_sign, after_array, after_list, after_polynomial};
-ghost use Rattle.term_text.specs.Machine.{atom_done, monomial_of_sum, read_of, dividend, divisor, modulend, modulus, index};
-ghost use Rattle.term_text.specs.Machine.{place, value, item};
-ghost use Rattle.term_text.specs.TermTexts.{Sum, Polynomial, ArrayTerm, ListSyntax, Read, Quotient, Remainder, Written, Pushed};
+ghost use Rattle.term_text.specs.Machine.{Owed, ForPolynomial, ForArray, ForAtom, term_reading, begins, rest_after, Goes};
+ghost use Rattle.term_text.specs.Machine.{EndsWrites, IsNoArray};
+ghost use Rattle.term_text.specs.Machine.{at_polynomial, at_monomial, at_sign, after_array, after_polynomial};
+ghost use Rattle.term_text.specs.Machine.{monomial_of_sum, read_of, dividend, divisor, modulend, modulus, index};
+ghost use Rattle.term_text.specs.Machine.{place, value};
+ghost use Rattle.term_text.specs.TermTexts.{Sum, Polynomial, ArrayTerm, TermSyntax};
+ghost use Rattle.term_text.specs.AtomStarts.{Closes};
+ghost use Rattle.term_text.specs.View.{written_polynomial_in};
 
 use crate::fault::ReadError;
 use crate::scan::expect;
+use crate::tree::WrittenPolynomial;
 use fs_model::name::is_digit;
 
 /// Takes `, `, between the two sides of a division.
@@ -42,47 +45,22 @@ pub(crate) fn colon(bytes: &[u8]) -> Result<&[u8], ReadError>
     }
 }
 
-/// Takes `)`, the end of a division.
-pub(crate) fn close_paren(bytes: &[u8]) -> Result<&[u8], ReadError>
-    ensures quotient { (l p : Polynomial) (k : ForAtom)
-        → Goes result (term_reading bytes.now (after_polynomial p (divisor l k)))
-        (λ r. term_reading r.now (atom_done (Quotient l p) k)) }
-    ensures remainder { (l p : Polynomial) (k : ForAtom)
-        → Goes result (term_reading bytes.now (after_polynomial p (modulus l k)))
-        (λ r. term_reading r.now (atom_done (Remainder l p) k)) }
-    ensures shorter { IfOk result (λ r. length r.now < length bytes.now) }
+/// Takes the byte that ends a polynomial, behind the polynomial that was read.
+pub(crate) fn close<'a>(
+    read: Result<(WrittenPolynomial<'a>, &'a [u8]), ReadError>,
+    closing: u8,
+) -> Result<(WrittenPolynomial<'a>, &'a [u8]), ReadError>
+    ensures goes { (text : Option TermSyntax) (k : ForPolynomial) (done : Polynomial → Owed) → Closes closing k done
+        → Goes read.entry text (λ x. term_reading x.1.now (after_polynomial (written_polynomial_in x.0) k))
+        → Goes result text (λ x. term_reading x.1.now (done (written_polynomial_in x.0))) }
+    ensures shorter { (n : ℕ) → IfOk read.entry (λ x. length x.1.now < n) → IfOk result (λ x. length x.1.now < n) }
 {
-    match bytes {
-        [b')', rest @ ..] => Ok(rest),
-        _ => Err(ReadError::BadTerm),
-    }
-}
-
-/// Takes `]`, the end of a read.
-pub(crate) fn close_bracket(bytes: &[u8]) -> Result<&[u8], ReadError>
-    ensures goes { (p : Polynomial) (a : ArrayTerm) (k : ForAtom)
-        → Goes result (term_reading bytes.now (after_polynomial p (index a k)))
-        (λ r. term_reading r.now (atom_done (Read a p) k)) }
-    ensures shorter { IfOk result (λ r. length r.now < length bytes.now) }
-{
-    match bytes {
-        [b']', rest @ ..] => Ok(rest),
-        _ => Err(ReadError::BadTerm),
-    }
-}
-
-/// Takes `}`, the end of a write or of an item.
-pub(crate) fn close_brace(bytes: &[u8]) -> Result<&[u8], ReadError>
-    ensures write { (i p : Polynomial) (a : ArrayTerm) (k : ForArray)
-        → Goes result (term_reading bytes.now (after_polynomial p (value a i k)))
-        (λ r. term_reading r.now (after_array (Written a i p) k)) }
-    ensures item { (p : Polynomial) (l : ListSyntax)
-        → Goes result (term_reading bytes.now (after_polynomial p (item l))) (λ r. term_reading r.now (after_list (Pushed l p))) }
-    ensures shorter { IfOk result (λ r. length r.now < length bytes.now) }
-{
-    match bytes {
-        [b'}', rest @ ..] => Ok(rest),
-        _ => Err(ReadError::BadTerm),
+    match read {
+        Ok((made, rest)) => match expect(rest, closing) {
+            Ok(rest) => Ok((made, rest)),
+            Err(error) => Err(error),
+        },
+        Err(error) => Err(error),
     }
 }
 

@@ -1,26 +1,26 @@
 //! Terms, by descent.
 
-ghost use Rattle.std.specs.Prelude.{◌≡◌, ◌<◌, ◌≤◌, true, false, map, length, IfOk};
-ghost use Rattle.term_text.specs.Machine.{ForPolynomial, ForArray, ForMonomial, ForAtom, in_atom, term_reading, Goes, EndsWrites};
-ghost use Rattle.term_text.specs.Machine.{at_polynomial, at_monomial, at_atom, at_symbol, at_sign, item};
+ghost use Rattle.std.specs.Prelude.{◌<◌, ◌≤◌, Option, map, length, IfOk};
+ghost use Rattle.term_text.specs.Machine.{Owed, ForPolynomial, ForArray, ForMonomial, ForAtom, term_reading, Goes, EndsWrites};
+ghost use Rattle.term_text.specs.Machine.{at_polynomial, at_monomial, at_atom, at_sign, item, first_monomial_for, read_of, value};
 ghost use Rattle.term_text.specs.Machine.{after_array, after_list, after_monomial, after_sum, after_polynomial, atom_done};
-ghost use Rattle.term_text.specs.Machine.{monomial_done, expect, first_monomial_for, read_of, dividend, modulend, place, value};
-ghost use Rattle.term_text.specs.TermTexts.{Monomial, Sum, Polynomial, ArrayTerm, ListSyntax, Read, Quotient, Remainder, Written};
-ghost use Rattle.term_text.specs.TermTexts.{Pushed};
+ghost use Rattle.term_text.specs.Machine.{monomial_done};
+ghost use Rattle.term_text.specs.AtomStarts.{Closes, left_side, rest_length};
+ghost use Rattle.term_text.specs.TermTexts.{Monomial, Sum, Polynomial, ArrayTerm, ListSyntax, TermSyntax, Written, Pushed};
 ghost use Rattle.term_text.specs.View.{written_atom_in, head_in, written_monomial_in, written_polynomial_in, written_array_in};
 ghost use Rattle.term_text.specs.View.{base_in, times_all, first_sum, more_sum};
 
 use crate::fault::ReadError;
 use crate::parts::{first_of, make_division, make_read, one, push_atom, push_monomial, push_write};
-use crate::scan::{expect, expect_three, number, word};
+use crate::scan::number;
 use crate::signs::{
-    begins_with_digit, begins_with_zero_or_minus, close_brace, close_bracket, close_paren, colon,
-    comma, goes_on_as_array, open_bracket, rest_after, sign,
+    begins_with_digit, begins_with_zero_or_minus, close, colon, comma, open_bracket, rest_after,
+    sign,
 };
+use crate::starts::{AtomStart, DivisionKind, begin_atom};
 use crate::tree::{
     WrittenArray, WrittenAtom, WrittenBase, WrittenHead, WrittenMonomial, WrittenPolynomial,
 };
-use nf_terms::tree::Side;
 use std::alloc::Global;
 
 #[cycle(terms)]
@@ -30,40 +30,29 @@ fn atom<'a>(alloc: Global, bytes: &'a [u8]) -> Result<(WrittenAtom<'a>, &'a [u8]
         (λ x. term_reading x.1.now (atom_done (written_atom_in x.0) k)) }
     ensures shorter { IfOk result (λ x. length x.1.now < length bytes.now) }
 {
-    match bytes {
-        [] => Err(ReadError::BadTerm),
-        [first, rest @ ..] => match *first {
-            b'L' => symbol(alloc, Side::Left, rest),
-            b'R' => symbol(alloc, Side::Right, rest),
-            b'd' => division(alloc, false, expect_three(rest, b'i', b'v', b'(')?),
-            b'r' => division(alloc, true, expect_three(rest, b'e', b'm', b'(')?),
-            b'z' => {
-                let rest = expect_three(rest, b'e', b'r', b'o')?;
-                read(alloc, WrittenBase::Zero, rest)
-            }
-            _ => Err(ReadError::BadTerm),
-        },
+    let (start, rest) = begin_atom(bytes)?;
+    match start {
+        AtomStart::Symbol(side, name) => Ok((WrittenAtom::Symbol(side, name), rest)),
+        AtomStart::Array(base) => read(alloc, base, rest),
+        AtomStart::Division(kind) => division(alloc, kind, rest),
     }
 }
 
-// A symbol after the letter of its side, or the array that it is the base of.
+// A polynomial behind what opens its place, where that was there, up to the byte that closes it.
 #[cycle(terms)]
-#[tactic(auto, using(crate::proofs::Steps::atom_ends, crate::proofs::Steps::array_goes))]
-#[inline(always)]
-fn symbol<'a>(
+fn inside<'a>(
     alloc: Global,
-    side: Side,
-    bytes: &'a [u8],
-) -> Result<(WrittenAtom<'a>, &'a [u8]), ReadError>
-    ensures goes { (k : ForAtom) → Goes result (term_reading bytes.now (expect 46 (at_symbol side (in_atom k))))
-        (λ x. term_reading x.1.now (atom_done (written_atom_in x.0) k)) }
-    ensures shorter { IfOk result (λ x. length x.1.now < length bytes.now) }
+    opened: Result<&'a [u8], ReadError>,
+    closing: u8,
+) -> Result<(WrittenPolynomial<'a>, &'a [u8]), ReadError>
+    ensures goes { (text : Option TermSyntax) (k : ForPolynomial) (done : Polynomial → Owed) → Closes closing k done
+        → Goes opened.entry text (λ r. term_reading r.now (at_polynomial k))
+        → Goes result text (λ x. term_reading x.1.now (done (written_polynomial_in x.0))) }
+    ensures shorter { IfOk result (λ x. length x.1.now < rest_length opened.entry) }
 {
-    let (name, rest) = word(expect(bytes, b'.')?)?;
-    if goes_on_as_array(rest) {
-        read(alloc, WrittenBase::Symbol(side, name), rest)
-    } else {
-        Ok((WrittenAtom::Symbol(side, name), rest))
+    match opened {
+        Ok(bytes) => close(polynomial(alloc, bytes), closing),
+        Err(error) => Err(error),
     }
 }
 
@@ -80,20 +69,7 @@ fn read<'a>(
     ensures shorter { IfOk result (λ x. length x.1.now < length bytes.now) }
 {
     let (array, rest) = writes(alloc, base, bytes)?;
-    let (index, rest) = index(alloc, rest)?;
-    Ok((make_read(alloc, array, index)?, rest))
-}
-
-// The index of a read, from its bracket on.
-#[cycle(terms)]
-fn index<'a>(alloc: Global, bytes: &'a [u8]) -> Result<(WrittenPolynomial<'a>, &'a [u8]), ReadError>
-    requires { EndsWrites bytes.now }
-    ensures goes { (a : ArrayTerm) (k : ForAtom) → Goes result (term_reading bytes.now (after_array a (read_of k)))
-        (λ x. term_reading x.1.now (atom_done (Read a (written_polynomial_in x.0)) k)) }
-    ensures shorter { IfOk result (λ x. length x.1.now < length bytes.now) }
-{
-    let (index, rest) = polynomial(alloc, open_bracket(bytes)?)?;
-    Ok((index, close_bracket(rest)?))
+    make_read(alloc, array, inside(alloc, open_bracket(rest), b']'))
 }
 
 /// An array after its base, and what follows it.
@@ -113,43 +89,15 @@ pub fn writes<'a>(
     loop {
         match rest_after(rest, b'{') {
             Some(after) => {
-                let (index, value, after) = write(alloc, after)?;
-                push_write(&mut writes, index, value)?;
-                rest = after;
+                let (index, after) = polynomial(alloc, after)?;
+                rest = push_write(&mut writes, index, inside(alloc, colon(after), b'}'))?;
             }
             None => return Ok((WrittenArray { base, writes }, rest)),
         }
     }
 }
 
-// The index and the value of a write, after its brace.
-#[cycle(terms)]
-fn write<'a>(
-    alloc: Global,
-    bytes: &'a [u8],
-) -> Result<(WrittenPolynomial<'a>, WrittenPolynomial<'a>, &'a [u8]), ReadError>
-    ensures goes { (a : ArrayTerm) (k : ForArray) → Goes result (term_reading bytes.now (at_polynomial (place a k)))
-        (λ x. term_reading x.2.now (after_array (Written a (written_polynomial_in x.0) (written_polynomial_in x.1)) k)) }
-    ensures shorter { IfOk result (λ x. length x.2.now < length bytes.now) }
-{
-    let (index, rest) = polynomial(alloc, bytes)?;
-    let (value, rest) = value(alloc, rest)?;
-    Ok((index, value, rest))
-}
-
-// The value of a write, from the colon on.
-#[cycle(terms)]
-fn value<'a>(alloc: Global, bytes: &'a [u8]) -> Result<(WrittenPolynomial<'a>, &'a [u8]), ReadError>
-    ensures goes { (a : ArrayTerm) (i : Polynomial) (k : ForArray)
-        → Goes result (term_reading bytes.now (after_polynomial i (place a k)))
-        (λ x. term_reading x.1.now (after_array (Written a i (written_polynomial_in x.0)) k)) }
-    ensures shorter { IfOk result (λ x. length x.1.now < length bytes.now) }
-{
-    braced(alloc, colon(bytes)?)
-}
-
 /// The value of a write or an item, up to the closing brace, and what follows that.
-#[cycle(terms)]
 pub fn braced<'a>(
     alloc: Global,
     bytes: &'a [u8],
@@ -161,8 +109,7 @@ pub fn braced<'a>(
         (λ x. term_reading x.1.now (after_list (Pushed l (written_polynomial_in x.0)))) }
     ensures shorter { IfOk result (λ x. length x.1.now < length bytes.now) }
 {
-    let (made, rest) = polynomial(alloc, bytes)?;
-    Ok((made, close_brace(rest)?))
+    close(polynomial(alloc, bytes), b'}')
 }
 
 // A quotient, or a remainder, after its parenthesis.
@@ -170,36 +117,15 @@ pub fn braced<'a>(
 #[inline(never)]
 fn division<'a>(
     alloc: Global,
-    is_remainder: bool,
+    kind: DivisionKind,
     bytes: &'a [u8],
 ) -> Result<(WrittenAtom<'a>, &'a [u8]), ReadError>
-    ensures quotient { is_remainder ≡ false → (k : ForAtom)
-        → Goes result (term_reading bytes.now (at_polynomial (dividend k)))
-        (λ x. term_reading x.1.now (atom_done (written_atom_in x.0) k)) }
-    ensures remainder { is_remainder ≡ true → (k : ForAtom)
-        → Goes result (term_reading bytes.now (at_polynomial (modulend k)))
+    ensures goes { (k : ForAtom) → Goes result (term_reading bytes.now (at_polynomial (left_side kind k)))
         (λ x. term_reading x.1.now (atom_done (written_atom_in x.0) k)) }
     ensures shorter { IfOk result (λ x. length x.1.now < length bytes.now) }
 {
     let (left, rest) = polynomial(alloc, bytes)?;
-    let (right, rest) = right_side(alloc, rest)?;
-    Ok((make_division(alloc, is_remainder, left, right)?, rest))
-}
-
-// The right side of a division, from the comma on.
-#[cycle(terms)]
-fn right_side<'a>(
-    alloc: Global,
-    bytes: &'a [u8],
-) -> Result<(WrittenPolynomial<'a>, &'a [u8]), ReadError>
-    ensures quotient { (l : Polynomial) (k : ForAtom) → Goes result (term_reading bytes.now (after_polynomial l (dividend k)))
-        (λ x. term_reading x.1.now (atom_done (Quotient l (written_polynomial_in x.0)) k)) }
-    ensures remainder { (l : Polynomial) (k : ForAtom) → Goes result (term_reading bytes.now (after_polynomial l (modulend k)))
-        (λ x. term_reading x.1.now (atom_done (Remainder l (written_polynomial_in x.0)) k)) }
-    ensures shorter { IfOk result (λ x. length x.1.now < length bytes.now) }
-{
-    let (right, rest) = polynomial(alloc, comma(bytes)?)?;
-    Ok((right, close_paren(rest)?))
+    make_division(alloc, kind, left, inside(alloc, comma(rest), b')'))
 }
 
 // A number, or the first atom of a monomial.
@@ -233,9 +159,7 @@ fn atoms<'a>(alloc: Global, bytes: &'a [u8]) -> Result<(Vec<WrittenAtom<'a>>, &'
     loop {
         match rest_after(rest, b'*') {
             Some(after) => {
-                let (next, after) = atom(alloc, after)?;
-                push_atom(&mut atoms, next)?;
-                rest = after;
+                rest = push_atom(&mut atoms, atom(alloc, after))?;
             }
             None => return Ok((atoms, rest)),
         }
@@ -294,9 +218,7 @@ fn monomials<'a>(
     loop {
         match rest_after(rest, b' ') {
             Some(after) => {
-                let (minus, next, after) = further(alloc, after)?;
-                push_monomial(&mut monomials, minus, next)?;
-                rest = after;
+                rest = push_monomial(&mut monomials, further(alloc, after))?;
             }
             None => return Ok((WrittenPolynomial { monomials }, rest)),
         }

@@ -1,52 +1,24 @@
-use Rattle.std.proofs.Common.{map, ap, sym, refl, ◌∙◌, arith}
-use Rattle.term_text.specs.Machine.{first, times, term_reading, after_monomial, after_sum, after_array, after_polynomial, monomial_done, atom_done}
-use Rattle.term_text.specs.Machine.{at_symbol, in_atom, read_of, index, place, value, item, dividend, divisor, modulend, modulus, monomial_of_sum}
-use Rattle.term_text.specs.Machine.{first_monomial_for}
-use Rattle.term_text.specs.TermTexts.{Atom, Monomial, Polynomial, ArrayTerm}
+use Rattle.std.proofs.Common.{◌<◌, ◌+◌, ◌*◌, ℕ, List, Bor, Result, length, map, ap, sym, subst, refl, ◌∙◌, arith, rules}
+use Rattle.std.specs.Result.{IfOk}
+use Rattle.term_text.specs.declared.fault.ReadError.{ReadError}
+use Rattle.term_text.specs.Machine.{first, times, term_reading, Goes, after_monomial, after_sum, after_array, after_polynomial, monomial_done, atom_done}
+use Rattle.term_text.specs.Machine.{at_polynomial, read_of, index, place, value, monomial_of_sum, first_monomial_for}
+use Rattle.term_text.specs.AtomStarts.{left_side, right_side, division_of, after_start, rest_length}
+use Rattle.term_text.specs.TermTexts.{Atom, Monomial, Polynomial, ArrayTerm, Read, Written}
 use Rattle.term_text.specs.declared.tree.WrittenAtom.TheFolds.{fold-roll-WrittenMonomial, fold-roll-WrittenPolynomial, fold-roll-WrittenArray}
 use Rattle.term_text.specs.View.{written_atom_step, head_step, array_step, monomial_step, polynomial_step, head_in}
 use Rattle.term_text.specs.View.{times_all, written_all, sum_of, base_in, written_atom_in, written_term_in, written_write_in, written_array_in}
 use Rattle.term_text.specs.View.{written_polynomial_in, written_monomial_in}
 use Rattle.term_text.proofs.Steps.{monomial_starts, found, missing, rest_after_shorter, atoms_go_on, sum_goes_on, array_goes_on, monomial_ended, sum_ended}
-use Rattle.term_text.proofs.Steps.{sum_whole, writes_ended, first_monomial, next_monomial}
-use Rattle.term_text.proofs.PassedOn.{refused, no_memory, goes_after, none_left, less_left, at_most_left, less_again, less_than_all, at_most_less}
+use Rattle.term_text.proofs.Steps.{sum_whole, writes_ended, first_monomial, next_monomial, closes_index, closes_value, closes_right}
+use Rattle.term_text.proofs.Openings.{rest_shorter, opened_measure, opened_less, inside_less}
+use Rattle.term_text.proofs.PassedOn.{refused, refused_after, refused_making, goes_after, goes_made, goes_on, same_atom, comma_goes, none_left, less_left}
+use Rattle.term_text.proofs.PassedOn.{at_most_left, less_again, less_made, less_on, at_most_less}
 use Rattle.term_text.proofs.terms.+terms.Goals as goal
 
 pub head-returns-in_ok-first-clause-goes : goal.head-returns-in_ok-first-clause-goes
 head-returns-in_ok-first-clause-goes m c = λ k. monomial_starts c.args.bytes.now k (sym c.begins_with_digit.ensures ∙ c.if-begins_with_digit.false)
     ∙ c.in_ok-first.ensures.goes (first k) ∙ ap (λ h. term_reading c.in_ok-first.rest.now (after_monomial h k)) (sym c.one.ensures)
-
-pub atoms-loop-after-preserved : goal.atoms-loop-after-preserved
-atoms-loop-after-preserved t c =
-    let old = map written_atom_in c.loop-after.atoms.items in
-    let there = found c.rest_after.result c.in-Some.after 42 c.loop-after.rest.now c.rest_after.ensures.rest c.in-Some.is in (
-      λ m k. c.loop-after.invariant.0 m k ∙ atoms_go_on c.loop-after.rest.now c.in-Some.after.now (times_all m old) k there
-          ∙ c.in_ok-next-in-Some.ensures.goes (times (times_all m old) k)
-          ∙ ap (λ x. term_reading c.in_ok-next-in-Some.after.now (after_monomial x k)) (sym (c.in_ok-push_atom-in-Some.ensures m)),
-      omega (arith, rest_after_shorter 42 c.loop-after.rest.now c.in-Some.after.now there, c.in_ok-next-in-Some.ensures.shorter, c.loop-after.invariant.1),
-    )
-
-pub monomials-loop-after-preserved : goal.monomials-loop-after-preserved
-monomials-loop-after-preserved t c =
-    let old = sum_of (map written_term_in c.loop-after.monomials.items) in
-    let there = found c.rest_after.result c.in-Some.after 32 c.loop-after.rest.now c.rest_after.ensures.rest c.in-Some.is in (
-      λ k. c.loop-after.invariant.0 k ∙ sum_goes_on c.loop-after.rest.now c.in-Some.after.now old k there
-          ∙ c.in_ok-minus-in-Some.ensures.goes old k
-          ∙ ap (λ x. term_reading c.in_ok-minus-in-Some.after.now (after_sum x k)) (sym c.in_ok-push_monomial-in-Some.ensures.sum),
-      omega (arith, rest_after_shorter 32 c.loop-after.rest.now c.in-Some.after.now there, c.in_ok-minus-in-Some.ensures.shorter, c.loop-after.invariant.1),
-      c.in_ok-push_monomial-in-Some.ensures.some,
-    )
-
-pub writes-loop-after-preserved : goal.writes-loop-after-preserved
-writes-loop-after-preserved t c =
-    let base = base_in c.args.base in
-    let old = written_all base (map written_write_in c.loop-after.writes.items) in
-    let there = found c.rest_after.result c.in-Some.after 123 c.loop-after.rest.now c.rest_after.ensures.rest c.in-Some.is in (
-      λ k. c.loop-after.invariant.0 k ∙ array_goes_on c.loop-after.rest.now c.in-Some.after.now old k there
-          ∙ c.in_ok-index-in-Some.ensures.goes old k
-          ∙ ap (λ x. term_reading c.in_ok-index-in-Some.after.now (after_array x k)) (sym (c.in_ok-push_write-in-Some.ensures base)),
-      omega (arith, rest_after_shorter 123 c.loop-after.rest.now c.in-Some.after.now there, c.in_ok-index-in-Some.ensures.shorter, c.loop-after.invariant.1),
-    )
 
 pub atoms-returns-in-None-clause-goes : goal.atoms-returns-in-None-clause-goes
 atoms-returns-in-None-clause-goes t c =
@@ -86,187 +58,6 @@ writes-returns-in-None-clause-ends t c =
 
 -- ---- refusals that are passed on, and what goes on behind them
 
-pub symbol-returns-in_err-expect-clause-goes : goal.symbol-returns-in_err-expect-clause-goes
-symbol-returns-in_err-expect-clause-goes t c = λ k. refused c.from_residual.result c.in_err-expect.field-0.0 _ _ c.from_residual.ensures.1 refl
-    (c.in_err-expect.ensures.goes (at_symbol c.args.side (in_atom k)))
-
-pub symbol-returns-in_err-name-clause-goes : goal.symbol-returns-in_err-name-clause-goes
-symbol-returns-in_err-name-clause-goes t c = λ k. refused c.from_residual-in_err-name.result c.in_err-name.field-0.0 _ _ c.from_residual-in_err-name.ensures.1
-    (c.in_ok-expect.ensures.goes (at_symbol c.args.side (in_atom k))) (c.in_err-name.ensures.symbol c.args.side (in_atom k))
-
-pub read-returns-in_err-array-clause-goes : goal.read-returns-in_err-array-clause-goes
-read-returns-in_err-array-clause-goes t c = λ k. refused c.from_residual.result c.in_err-array.field-0.0 _ _ c.from_residual.ensures.1 refl
-    (c.in_err-array.ensures.goes (read_of k))
-
-pub read-returns-in_err-index-clause-goes : goal.read-returns-in_err-index-clause-goes
-read-returns-in_err-index-clause-goes t c = λ k. refused c.from_residual-in_err-index.result c.in_err-index.field-0.0 _ _ c.from_residual-in_err-index.ensures.1
-    (c.in_ok-array.ensures.goes (read_of k)) (c.in_err-index.ensures.goes (written_array_in c.in_ok-array.array) k)
-
-pub read-returns-in_err-make_read-clause-goes : goal.read-returns-in_err-make_read-clause-goes
-read-returns-in_err-make_read-clause-goes t c = λ k. no_memory c.from_residual-in_err-make_read.result c.in_err-make_read.field-0.0 _ _ _
-    c.from_residual-in_err-make_read.ensures.1 c.in_err-make_read.ensures
-
-pub read-returns-clause-goes : goal.read-returns-clause-goes
-read-returns-clause-goes t c = λ k. c.in_ok-array.ensures.goes (read_of k) ∙ c.in_ok-index.ensures.goes (written_array_in c.in_ok-array.array) k
-    ∙ ap (λ x. term_reading c.in_ok-index.rest.now (atom_done x k)) (sym c.in_ok-make_read.ensures)
-
-pub index-returns-in_err-open_bracket-clause-goes : goal.index-returns-in_err-open_bracket-clause-goes
-index-returns-in_err-open_bracket-clause-goes t c = λ a k. refused c.from_residual.result c.in_err-open_bracket.field-0.0 _ _ c.from_residual.ensures.1 refl
-    (c.in_err-open_bracket.ensures.goes a k)
-
-pub index-returns-in_err-index-clause-goes : goal.index-returns-in_err-index-clause-goes
-index-returns-in_err-index-clause-goes t c =
-    λ a k. refused c.from_residual-in_err-index.result c.in_err-index.field-0.0 _ _ c.from_residual-in_err-index.ensures.1
-    (c.in_ok-open_bracket.ensures.goes a k) (c.in_err-index.ensures.goes (index a k))
-
-pub index-returns-in_err-close_bracket-clause-goes : goal.index-returns-in_err-close_bracket-clause-goes
-index-returns-in_err-close_bracket-clause-goes t c = λ a k. refused c.from_residual-in_err-close_bracket.result c.in_err-close_bracket.field-0.0 _ _
-    c.from_residual-in_err-close_bracket.ensures.1 (c.in_ok-open_bracket.ensures.goes a k ∙ c.in_ok-index.ensures.goes (index a k))
-    (c.in_err-close_bracket.ensures.goes (written_polynomial_in c.in_ok-index.index) a k)
-
-pub index-returns-clause-goes : goal.index-returns-clause-goes
-index-returns-clause-goes t c = λ a k. c.in_ok-open_bracket.ensures.goes a k ∙ c.in_ok-index.ensures.goes (index a k)
-    ∙ c.in_ok-close_bracket.ensures.goes (written_polynomial_in c.in_ok-index.index) a k
-
-pub writes-returns-in_err-index-in-Some-clause-goes : goal.writes-returns-in_err-index-in-Some-clause-goes
-writes-returns-in_err-index-in-Some-clause-goes t c =
-    let old = written_all (base_in c.args.base) (map written_write_in c.loop-after.writes.items) in
-    let there = found c.rest_after.result c.in-Some.after 123 c.loop-after.rest.now c.rest_after.ensures.rest c.in-Some.is in
-    λ k. refused c.from_residual.result c.in_err-index-in-Some.field-0.0 _ _ c.from_residual.ensures.1
-    (c.loop-after.invariant.0 k ∙ array_goes_on c.loop-after.rest.now c.in-Some.after.now old k there) (c.in_err-index-in-Some.ensures.goes old k)
-
-pub writes-returns-in_err-push_write-in-Some-clause-goes : goal.writes-returns-in_err-push_write-in-Some-clause-goes
-writes-returns-in_err-push_write-in-Some-clause-goes t c = λ k. no_memory c.from_residual-in_err-push_write-in-Some.result
-    c.in_err-push_write-in-Some.field-0.0 _ _ _ c.from_residual-in_err-push_write-in-Some.ensures.1 c.in_err-push_write-in-Some.ensures
-
-pub write-returns-in_err-index-clause-goes : goal.write-returns-in_err-index-clause-goes
-write-returns-in_err-index-clause-goes t c = λ a k. refused c.from_residual.result c.in_err-index.field-0.0 _ _ c.from_residual.ensures.1 refl
-    (c.in_err-index.ensures.goes (place a k))
-
-pub write-returns-in_err-value-clause-goes : goal.write-returns-in_err-value-clause-goes
-write-returns-in_err-value-clause-goes t c =
-    λ a k. refused c.from_residual-in_err-value.result c.in_err-value.field-0.0 _ _ c.from_residual-in_err-value.ensures.1
-    (c.in_ok-index.ensures.goes (place a k)) (c.in_err-value.ensures.goes a (written_polynomial_in c.in_ok-index.index) k)
-
-pub write-returns-clause-goes : goal.write-returns-clause-goes
-write-returns-clause-goes t c = λ a k. c.in_ok-index.ensures.goes (place a k)
-    ∙ c.in_ok-value.ensures.goes a (written_polynomial_in c.in_ok-index.index) k
-
-pub value-returns-in_err-colon-clause-goes : goal.value-returns-in_err-colon-clause-goes
-value-returns-in_err-colon-clause-goes t c = λ a i k. refused c.from_residual.result c.in_err-colon.field-0.0 _ _ c.from_residual.ensures.1 refl
-    (c.in_err-colon.ensures.goes i a k)
-
-pub value-returns-clause-goes : goal.value-returns-clause-goes
-value-returns-clause-goes t c = λ a i k. goes_after c.braced.result _ (c.in_ok-colon.ensures.goes i a k) (c.braced.ensures.write a i k)
-
-pub braced-returns-in_err-made-clause-write : goal.braced-returns-in_err-made-clause-write
-braced-returns-in_err-made-clause-write t c = λ a i k. refused c.from_residual.result c.in_err-made.field-0.0 _ _ c.from_residual.ensures.1 refl
-    (c.in_err-made.ensures.goes (value a i k))
-
-pub braced-returns-in_err-made-clause-item : goal.braced-returns-in_err-made-clause-item
-braced-returns-in_err-made-clause-item t c = λ l. refused c.from_residual.result c.in_err-made.field-0.0 _ _ c.from_residual.ensures.1 refl
-    (c.in_err-made.ensures.goes (item l))
-
-pub braced-returns-in_err-close_brace-clause-write : goal.braced-returns-in_err-close_brace-clause-write
-braced-returns-in_err-close_brace-clause-write t c = λ a i k. refused c.from_residual-in_err-close_brace.result c.in_err-close_brace.field-0.0 _ _
-    c.from_residual-in_err-close_brace.ensures.1 (c.in_ok-made.ensures.goes (value a i k))
-    (c.in_err-close_brace.ensures.write i (written_polynomial_in c.in_ok-made.made) a k)
-
-pub braced-returns-in_err-close_brace-clause-item : goal.braced-returns-in_err-close_brace-clause-item
-braced-returns-in_err-close_brace-clause-item t c = λ l. refused c.from_residual-in_err-close_brace.result c.in_err-close_brace.field-0.0 _ _
-    c.from_residual-in_err-close_brace.ensures.1 (c.in_ok-made.ensures.goes (item l))
-    (c.in_err-close_brace.ensures.item (written_polynomial_in c.in_ok-made.made) l)
-
-pub braced-returns-clause-write : goal.braced-returns-clause-write
-braced-returns-clause-write t c = λ a i k. c.in_ok-made.ensures.goes (value a i k)
-    ∙ c.in_ok-close_brace.ensures.write i (written_polynomial_in c.in_ok-made.made) a k
-
-pub braced-returns-clause-item : goal.braced-returns-clause-item
-braced-returns-clause-item t c = λ l. c.in_ok-made.ensures.goes (item l)
-    ∙ c.in_ok-close_brace.ensures.item (written_polynomial_in c.in_ok-made.made) l
-
-pub division-returns-in_err-left-clause-quotient : goal.division-returns-in_err-left-clause-quotient
-division-returns-in_err-left-clause-quotient t c is = λ k. refused c.from_residual.result c.in_err-left.field-0.0 _ _ c.from_residual.ensures.1 refl
-    (c.in_err-left.ensures.goes (dividend k))
-
-pub division-returns-in_err-right-clause-quotient : goal.division-returns-in_err-right-clause-quotient
-division-returns-in_err-right-clause-quotient t c is = λ k. refused c.from_residual-in_err-right.result c.in_err-right.field-0.0 _ _
-    c.from_residual-in_err-right.ensures.1 (c.in_ok-left.ensures.goes (dividend k))
-    (c.in_err-right.ensures.quotient (written_polynomial_in c.in_ok-left.left) k)
-
-pub division-returns-in_err-make_division-clause-quotient : goal.division-returns-in_err-make_division-clause-quotient
-division-returns-in_err-make_division-clause-quotient t c is = λ k. no_memory c.from_residual-in_err-make_division.result
-    c.in_err-make_division.field-0.0 _ _ _ c.from_residual-in_err-make_division.ensures.1 (c.in_err-make_division.ensures.quotient is)
-
-pub division-returns-clause-quotient : goal.division-returns-clause-quotient
-division-returns-clause-quotient t c is = λ k. c.in_ok-left.ensures.goes (dividend k)
-    ∙ c.in_ok-right.ensures.quotient (written_polynomial_in c.in_ok-left.left) k
-    ∙ ap (λ x. term_reading c.in_ok-right.rest.now (atom_done x k)) (sym (c.in_ok-make_division.ensures.quotient is))
-
-pub division-returns-in_err-left-clause-remainder : goal.division-returns-in_err-left-clause-remainder
-division-returns-in_err-left-clause-remainder t c is = λ k. refused c.from_residual.result c.in_err-left.field-0.0 _ _ c.from_residual.ensures.1 refl
-    (c.in_err-left.ensures.goes (modulend k))
-
-pub division-returns-in_err-right-clause-remainder : goal.division-returns-in_err-right-clause-remainder
-division-returns-in_err-right-clause-remainder t c is = λ k. refused c.from_residual-in_err-right.result c.in_err-right.field-0.0 _ _
-    c.from_residual-in_err-right.ensures.1 (c.in_ok-left.ensures.goes (modulend k))
-    (c.in_err-right.ensures.remainder (written_polynomial_in c.in_ok-left.left) k)
-
-pub division-returns-in_err-make_division-clause-remainder : goal.division-returns-in_err-make_division-clause-remainder
-division-returns-in_err-make_division-clause-remainder t c is = λ k. no_memory c.from_residual-in_err-make_division.result
-    c.in_err-make_division.field-0.0 _ _ _ c.from_residual-in_err-make_division.ensures.1 (c.in_err-make_division.ensures.remainder is)
-
-pub division-returns-clause-remainder : goal.division-returns-clause-remainder
-division-returns-clause-remainder t c is = λ k. c.in_ok-left.ensures.goes (modulend k)
-    ∙ c.in_ok-right.ensures.remainder (written_polynomial_in c.in_ok-left.left) k
-    ∙ ap (λ x. term_reading c.in_ok-right.rest.now (atom_done x k)) (sym (c.in_ok-make_division.ensures.remainder is))
-
-pub right_side-returns-in_err-comma-clause-quotient : goal.right_side-returns-in_err-comma-clause-quotient
-right_side-returns-in_err-comma-clause-quotient t c = λ l k. refused c.from_residual.result c.in_err-comma.field-0.0 _ _ c.from_residual.ensures.1 refl
-    (c.in_err-comma.ensures.quotient l k)
-
-pub right_side-returns-in_err-comma-clause-remainder : goal.right_side-returns-in_err-comma-clause-remainder
-right_side-returns-in_err-comma-clause-remainder t c = λ l k. refused c.from_residual.result c.in_err-comma.field-0.0 _ _ c.from_residual.ensures.1 refl
-    (c.in_err-comma.ensures.remainder l k)
-
-pub right_side-returns-in_err-right-clause-quotient : goal.right_side-returns-in_err-right-clause-quotient
-right_side-returns-in_err-right-clause-quotient t c = λ l k. refused c.from_residual-in_err-right.result c.in_err-right.field-0.0 _ _
-    c.from_residual-in_err-right.ensures.1 (c.in_ok-comma.ensures.quotient l k) (c.in_err-right.ensures.goes (divisor l k))
-
-pub right_side-returns-in_err-right-clause-remainder : goal.right_side-returns-in_err-right-clause-remainder
-right_side-returns-in_err-right-clause-remainder t c = λ l k. refused c.from_residual-in_err-right.result c.in_err-right.field-0.0 _ _
-    c.from_residual-in_err-right.ensures.1 (c.in_ok-comma.ensures.remainder l k) (c.in_err-right.ensures.goes (modulus l k))
-
-pub right_side-returns-in_err-close_paren-clause-quotient : goal.right_side-returns-in_err-close_paren-clause-quotient
-right_side-returns-in_err-close_paren-clause-quotient t c = λ l k. refused c.from_residual-in_err-close_paren.result c.in_err-close_paren.field-0.0 _ _
-    c.from_residual-in_err-close_paren.ensures.1 (c.in_ok-comma.ensures.quotient l k ∙ c.in_ok-right.ensures.goes (divisor l k))
-    (c.in_err-close_paren.ensures.quotient l (written_polynomial_in c.in_ok-right.right) k)
-
-pub right_side-returns-in_err-close_paren-clause-remainder : goal.right_side-returns-in_err-close_paren-clause-remainder
-right_side-returns-in_err-close_paren-clause-remainder t c = λ l k. refused c.from_residual-in_err-close_paren.result c.in_err-close_paren.field-0.0 _ _
-    c.from_residual-in_err-close_paren.ensures.1 (c.in_ok-comma.ensures.remainder l k ∙ c.in_ok-right.ensures.goes (modulus l k))
-    (c.in_err-close_paren.ensures.remainder l (written_polynomial_in c.in_ok-right.right) k)
-
-pub right_side-returns-clause-quotient : goal.right_side-returns-clause-quotient
-right_side-returns-clause-quotient t c = λ l k. c.in_ok-comma.ensures.quotient l k ∙ c.in_ok-right.ensures.goes (divisor l k)
-    ∙ c.in_ok-close_paren.ensures.quotient l (written_polynomial_in c.in_ok-right.right) k
-
-pub right_side-returns-clause-remainder : goal.right_side-returns-clause-remainder
-right_side-returns-clause-remainder t c = λ l k. c.in_ok-comma.ensures.remainder l k ∙ c.in_ok-right.ensures.goes (modulus l k)
-    ∙ c.in_ok-close_paren.ensures.remainder l (written_polynomial_in c.in_ok-right.right) k
-
-pub atoms-returns-in_err-next-in-Some-clause-goes : goal.atoms-returns-in_err-next-in-Some-clause-goes
-atoms-returns-in_err-next-in-Some-clause-goes t c =
-    let old = map written_atom_in c.loop-after.atoms.items in
-    let there = found c.rest_after.result c.in-Some.after 42 c.loop-after.rest.now c.rest_after.ensures.rest c.in-Some.is in
-    λ m k. refused c.from_residual.result c.in_err-next-in-Some.field-0.0 _ _ c.from_residual.ensures.1
-    (c.loop-after.invariant.0 m k ∙ atoms_go_on c.loop-after.rest.now c.in-Some.after.now (times_all m old) k there)
-    (c.in_err-next-in-Some.ensures.goes (times (times_all m old) k))
-
-pub atoms-returns-in_err-push_atom-in-Some-clause-goes : goal.atoms-returns-in_err-push_atom-in-Some-clause-goes
-atoms-returns-in_err-push_atom-in-Some-clause-goes t c = λ m k. no_memory c.from_residual-in_err-push_atom-in-Some.result
-    c.in_err-push_atom-in-Some.field-0.0 _ _ _ c.from_residual-in_err-push_atom-in-Some.ensures.1 c.in_err-push_atom-in-Some.ensures
-
 pub monomial-returns-in_err-head-clause-goes : goal.monomial-returns-in_err-head-clause-goes
 monomial-returns-in_err-head-clause-goes t c = λ k. refused c.from_residual.result c.in_err-head.field-0.0 _ _ c.from_residual.ensures.1 refl
     (c.in_err-head.ensures.goes k)
@@ -287,13 +78,6 @@ pub further-returns-clause-goes : goal.further-returns-clause-goes
 further-returns-clause-goes t c = λ s k. c.in_ok-minus.ensures.goes s k ∙ c.in_ok-next.ensures.goes (monomial_of_sum c.in_ok-minus.minus s k)
     ∙ ap (term_reading c.in_ok-next.rest.now) (next_monomial c.in_ok-minus.minus (written_monomial_in c.in_ok-next.next) s k)
 
-pub monomials-returns-in_err-minus-in-Some-clause-goes : goal.monomials-returns-in_err-minus-in-Some-clause-goes
-monomials-returns-in_err-minus-in-Some-clause-goes t c =
-    let old = sum_of (map written_term_in c.loop-after.monomials.items) in
-    let there = found c.rest_after.result c.in-Some.after 32 c.loop-after.rest.now c.rest_after.ensures.rest c.in-Some.is in
-    λ k. refused c.from_residual-in_err-minus-in-Some.result c.in_err-minus-in-Some.field-0.0 _ _ c.from_residual-in_err-minus-in-Some.ensures.1
-    (c.loop-after.invariant.0 k ∙ sum_goes_on c.loop-after.rest.now c.in-Some.after.now old k there) (c.in_err-minus-in-Some.ensures.goes old k)
-
 pub sum-returns-in_err-first-clause-goes : goal.sum-returns-in_err-first-clause-goes
 sum-returns-in_err-first-clause-goes t c = λ k. refused c.from_residual.result c.in_err-first.field-0.0 _ _ c.from_residual.ensures.1 refl
     (c.in_err-first.ensures.goes (first_monomial_for c.args.minus k))
@@ -303,91 +87,6 @@ sum-returns-clause-goes t c = λ k. goes_after c.monomials.result _ (c.in_ok-fir
     ∙ ap (term_reading c.in_ok-first.rest.now) (first_monomial c.args.minus (written_monomial_in c.in_ok-first.first) k)) (c.monomials.ensures.goes k)
 
 -- ---- what is left gets shorter, where a call refuses and where all goes on
-
-pub symbol-returns-in_err-expect-clause-shorter : goal.symbol-returns-in_err-expect-clause-shorter
-symbol-returns-in_err-expect-clause-shorter t c = none_left c.from_residual.result c.in_err-expect.field-0.0 _ c.from_residual.ensures.1
-
-pub symbol-returns-in_err-name-clause-shorter : goal.symbol-returns-in_err-name-clause-shorter
-symbol-returns-in_err-name-clause-shorter t c = none_left c.from_residual-in_err-name.result c.in_err-name.field-0.0 _ c.from_residual-in_err-name.ensures.1
-
-pub read-returns-in_err-array-clause-shorter : goal.read-returns-in_err-array-clause-shorter
-read-returns-in_err-array-clause-shorter t c = none_left c.from_residual.result c.in_err-array.field-0.0 _ c.from_residual.ensures.1
-
-pub read-returns-in_err-index-clause-shorter : goal.read-returns-in_err-index-clause-shorter
-read-returns-in_err-index-clause-shorter t c = none_left c.from_residual-in_err-index.result c.in_err-index.field-0.0 _ c.from_residual-in_err-index.ensures.1
-
-pub read-returns-in_err-make_read-clause-shorter : goal.read-returns-in_err-make_read-clause-shorter
-read-returns-in_err-make_read-clause-shorter t c =
-    none_left c.from_residual-in_err-make_read.result c.in_err-make_read.field-0.0 _ c.from_residual-in_err-make_read.ensures.1
-
-pub index-returns-in_err-open_bracket-clause-shorter : goal.index-returns-in_err-open_bracket-clause-shorter
-index-returns-in_err-open_bracket-clause-shorter t c = none_left c.from_residual.result c.in_err-open_bracket.field-0.0 _ c.from_residual.ensures.1
-
-pub index-returns-in_err-index-clause-shorter : goal.index-returns-in_err-index-clause-shorter
-index-returns-in_err-index-clause-shorter t c = none_left c.from_residual-in_err-index.result c.in_err-index.field-0.0 _ c.from_residual-in_err-index.ensures.1
-
-pub index-returns-in_err-close_bracket-clause-shorter : goal.index-returns-in_err-close_bracket-clause-shorter
-index-returns-in_err-close_bracket-clause-shorter t c =
-    none_left c.from_residual-in_err-close_bracket.result c.in_err-close_bracket.field-0.0 _ c.from_residual-in_err-close_bracket.ensures.1
-
-pub writes-returns-in_err-index-in-Some-clause-shorter : goal.writes-returns-in_err-index-in-Some-clause-shorter
-writes-returns-in_err-index-in-Some-clause-shorter t c = none_left c.from_residual.result c.in_err-index-in-Some.field-0.0 _ c.from_residual.ensures.1
-
-pub writes-returns-in_err-index-in-Some-clause-ends : goal.writes-returns-in_err-index-in-Some-clause-ends
-writes-returns-in_err-index-in-Some-clause-ends t c = none_left c.from_residual.result c.in_err-index-in-Some.field-0.0 _ c.from_residual.ensures.1
-
-pub writes-returns-in_err-push_write-in-Some-clause-shorter : goal.writes-returns-in_err-push_write-in-Some-clause-shorter
-writes-returns-in_err-push_write-in-Some-clause-shorter t c =
-    none_left c.from_residual-in_err-push_write-in-Some.result c.in_err-push_write-in-Some.field-0.0 _ c.from_residual-in_err-push_write-in-Some.ensures.1
-
-pub writes-returns-in_err-push_write-in-Some-clause-ends : goal.writes-returns-in_err-push_write-in-Some-clause-ends
-writes-returns-in_err-push_write-in-Some-clause-ends t c =
-    none_left c.from_residual-in_err-push_write-in-Some.result c.in_err-push_write-in-Some.field-0.0 _ c.from_residual-in_err-push_write-in-Some.ensures.1
-
-pub write-returns-in_err-index-clause-shorter : goal.write-returns-in_err-index-clause-shorter
-write-returns-in_err-index-clause-shorter t c = none_left c.from_residual.result c.in_err-index.field-0.0 _ c.from_residual.ensures.1
-
-pub write-returns-in_err-value-clause-shorter : goal.write-returns-in_err-value-clause-shorter
-write-returns-in_err-value-clause-shorter t c = none_left c.from_residual-in_err-value.result c.in_err-value.field-0.0 _ c.from_residual-in_err-value.ensures.1
-
-pub value-returns-in_err-colon-clause-shorter : goal.value-returns-in_err-colon-clause-shorter
-value-returns-in_err-colon-clause-shorter t c = none_left c.from_residual.result c.in_err-colon.field-0.0 _ c.from_residual.ensures.1
-
-pub braced-returns-in_err-made-clause-shorter : goal.braced-returns-in_err-made-clause-shorter
-braced-returns-in_err-made-clause-shorter t c = none_left c.from_residual.result c.in_err-made.field-0.0 _ c.from_residual.ensures.1
-
-pub braced-returns-in_err-close_brace-clause-shorter : goal.braced-returns-in_err-close_brace-clause-shorter
-braced-returns-in_err-close_brace-clause-shorter t c =
-    none_left c.from_residual-in_err-close_brace.result c.in_err-close_brace.field-0.0 _ c.from_residual-in_err-close_brace.ensures.1
-
-pub division-returns-in_err-left-clause-shorter : goal.division-returns-in_err-left-clause-shorter
-division-returns-in_err-left-clause-shorter t c = none_left c.from_residual.result c.in_err-left.field-0.0 _ c.from_residual.ensures.1
-
-pub division-returns-in_err-right-clause-shorter : goal.division-returns-in_err-right-clause-shorter
-division-returns-in_err-right-clause-shorter t c =
-    none_left c.from_residual-in_err-right.result c.in_err-right.field-0.0 _ c.from_residual-in_err-right.ensures.1
-
-pub division-returns-in_err-make_division-clause-shorter : goal.division-returns-in_err-make_division-clause-shorter
-division-returns-in_err-make_division-clause-shorter t c =
-    none_left c.from_residual-in_err-make_division.result c.in_err-make_division.field-0.0 _ c.from_residual-in_err-make_division.ensures.1
-
-pub right_side-returns-in_err-comma-clause-shorter : goal.right_side-returns-in_err-comma-clause-shorter
-right_side-returns-in_err-comma-clause-shorter t c = none_left c.from_residual.result c.in_err-comma.field-0.0 _ c.from_residual.ensures.1
-
-pub right_side-returns-in_err-right-clause-shorter : goal.right_side-returns-in_err-right-clause-shorter
-right_side-returns-in_err-right-clause-shorter t c =
-    none_left c.from_residual-in_err-right.result c.in_err-right.field-0.0 _ c.from_residual-in_err-right.ensures.1
-
-pub right_side-returns-in_err-close_paren-clause-shorter : goal.right_side-returns-in_err-close_paren-clause-shorter
-right_side-returns-in_err-close_paren-clause-shorter t c =
-    none_left c.from_residual-in_err-close_paren.result c.in_err-close_paren.field-0.0 _ c.from_residual-in_err-close_paren.ensures.1
-
-pub atoms-returns-in_err-next-in-Some-clause-shorter : goal.atoms-returns-in_err-next-in-Some-clause-shorter
-atoms-returns-in_err-next-in-Some-clause-shorter t c = none_left c.from_residual.result c.in_err-next-in-Some.field-0.0 _ c.from_residual.ensures.1
-
-pub atoms-returns-in_err-push_atom-in-Some-clause-shorter : goal.atoms-returns-in_err-push_atom-in-Some-clause-shorter
-atoms-returns-in_err-push_atom-in-Some-clause-shorter t c =
-    none_left c.from_residual-in_err-push_atom-in-Some.result c.in_err-push_atom-in-Some.field-0.0 _ c.from_residual-in_err-push_atom-in-Some.ensures.1
 
 pub monomial-returns-in_err-head-clause-shorter : goal.monomial-returns-in_err-head-clause-shorter
 monomial-returns-in_err-head-clause-shorter t c = none_left c.from_residual.result c.in_err-head.field-0.0 _ c.from_residual.ensures.1
@@ -402,34 +101,8 @@ further-returns-in_err-minus-clause-shorter t c = none_left c.from_residual.resu
 pub further-returns-in_err-next-clause-shorter : goal.further-returns-in_err-next-clause-shorter
 further-returns-in_err-next-clause-shorter t c = none_left c.from_residual-in_err-next.result c.in_err-next.field-0.0 _ c.from_residual-in_err-next.ensures.1
 
-pub monomials-returns-in_err-minus-in-Some-clause-shorter : goal.monomials-returns-in_err-minus-in-Some-clause-shorter
-monomials-returns-in_err-minus-in-Some-clause-shorter t c =
-    none_left c.from_residual-in_err-minus-in-Some.result c.in_err-minus-in-Some.field-0.0 _ c.from_residual-in_err-minus-in-Some.ensures.1
-
 pub sum-returns-in_err-first-clause-shorter : goal.sum-returns-in_err-first-clause-shorter
 sum-returns-in_err-first-clause-shorter t c = none_left c.from_residual.result c.in_err-first.field-0.0 _ c.from_residual.ensures.1
-
-pub read-returns-clause-shorter : goal.read-returns-clause-shorter
-read-returns-clause-shorter t c = less_than_all c.in_ok-index.ensures.shorter c.in_ok-array.ensures.shorter
-
-pub index-returns-clause-shorter : goal.index-returns-clause-shorter
-index-returns-clause-shorter t c =
-    less_again c.in_ok-close_bracket.ensures.shorter (less_again c.in_ok-index.ensures.shorter c.in_ok-open_bracket.ensures.shorter)
-
-pub write-returns-clause-shorter : goal.write-returns-clause-shorter
-write-returns-clause-shorter t c = less_again c.in_ok-value.ensures.shorter c.in_ok-index.ensures.shorter
-
-pub value-returns-clause-shorter : goal.value-returns-clause-shorter
-value-returns-clause-shorter t c = less_left c.braced.result c.in_ok-colon.ensures.shorter c.braced.ensures.shorter
-
-pub braced-returns-clause-shorter : goal.braced-returns-clause-shorter
-braced-returns-clause-shorter t c = less_again c.in_ok-close_brace.ensures.shorter c.in_ok-made.ensures.shorter
-
-pub division-returns-clause-shorter : goal.division-returns-clause-shorter
-division-returns-clause-shorter t c = less_again c.in_ok-right.ensures.shorter c.in_ok-left.ensures.shorter
-
-pub right_side-returns-clause-shorter : goal.right_side-returns-clause-shorter
-right_side-returns-clause-shorter t c = less_again c.in_ok-close_paren.ensures.shorter (less_again c.in_ok-right.ensures.shorter c.in_ok-comma.ensures.shorter)
 
 pub atoms-returns-in-None-clause-shorter : goal.atoms-returns-in-None-clause-shorter
 atoms-returns-in-None-clause-shorter t c = c.loop-after.invariant.1
@@ -451,3 +124,218 @@ sum-returns-clause-shorter t c = at_most_left c.monomials.result c.in_ok-first.e
 
 pub head-returns-in_ok-first-clause-shorter : goal.head-returns-in_ok-first-clause-shorter
 head-returns-in_ok-first-clause-shorter t c = c.in_ok-first.ensures.shorter
+
+pub atoms-loop-after-preserved : goal.atoms-loop-after-preserved
+atoms-loop-after-preserved t c =
+    let old = map written_atom_in c.loop-after.atoms.items in
+    let rest = c.loop-after.rest.now in
+    let made = c.in_ok-rest-in-Some.ensures in
+    let there = found c.rest_after.result c.in-Some.after 42 rest c.rest_after.ensures.rest c.in-Some.is in (
+      λ m k. c.loop-after.invariant.0 m k ∙ atoms_go_on rest c.in-Some.after.now (times_all m old) k there
+          ∙ goes_on c.atom.result _ _ _ made (c.atom.ensures.goes (times (times_all m old) k))
+          (λ x n. λ j. term_reading (sym n.1 j) (after_monomial (sym (n.0 m) j) k)),
+      less_on c.atom.result _ _ made c.atom.ensures.shorter (λ x n h. omega (
+        arith,
+        ap length n.1,
+        h,
+        rest_after_shorter 42 rest c.in-Some.after.now there,
+        c.loop-after.invariant.1,
+      )),
+    )
+
+pub monomials-loop-after-preserved : goal.monomials-loop-after-preserved
+monomials-loop-after-preserved t c =
+    let old = sum_of (map written_term_in c.loop-after.monomials.items) in
+    let rest = c.loop-after.rest.now in
+    let made = c.in_ok-rest-in-Some.ensures.sum in
+    let there = found c.rest_after.result c.in-Some.after 32 rest c.rest_after.ensures.rest c.in-Some.is in (
+      λ k. c.loop-after.invariant.0 k ∙ sum_goes_on rest c.in-Some.after.now old k there
+          ∙ goes_on c.further.result _ _ _ made (c.further.ensures.goes old k) (λ x n. λ j. term_reading (sym n.1 j) (after_sum (sym n.0 j) k)),
+      less_on c.further.result _ _ made c.further.ensures.shorter (λ x n h. omega (
+        arith,
+        ap length n.1,
+        h,
+        rest_after_shorter 32 rest c.in-Some.after.now there,
+        c.loop-after.invariant.1,
+      )),
+      c.in_ok-rest-in-Some.ensures.some,
+    )
+
+pub writes-loop-after-preserved : goal.writes-loop-after-preserved
+writes-loop-after-preserved t c =
+    let base = base_in c.args.base in
+    let a = written_all base (map written_write_in c.loop-after.writes.items) in
+    let i = written_polynomial_in c.in_ok-index-in-Some.index in
+    let rest = c.loop-after.rest.now in
+    let made = c.in_ok-rest-in-Some.ensures in
+    let there = found c.rest_after.result c.in-Some.after 123 rest c.rest_after.ensures.rest c.in-Some.is in (
+      λ k. c.loop-after.invariant.0 k ∙ array_goes_on rest c.in-Some.after.now a k there ∙ c.in_ok-index-in-Some.ensures.goes (place a k)
+          ∙ goes_on c.inside.result _ _ _ made
+          (c.inside.ensures.goes _ (value a i k) (λ v. after_array (Written a i v) k) (closes_value a i k) (c.colon.ensures.goes i a k))
+          (λ x n. λ j. term_reading (sym n.1 j) (after_array (sym (n.0 base) j) k)),
+      less_on c.inside.result _ _ made c.inside.ensures.shorter (λ x n h. omega (
+        arith,
+        ap length n.1,
+        h,
+        rest_shorter _ c.colon.result c.colon.ensures.shorter,
+        c.in_ok-index-in-Some.ensures.shorter,
+        rest_after_shorter 123 rest c.in-Some.after.now there,
+        c.loop-after.invariant.1,
+      )),
+    )
+
+pub atoms-returns-in_err-rest-in-Some-clause-goes : goal.atoms-returns-in_err-rest-in-Some-clause-goes
+atoms-returns-in_err-rest-in-Some-clause-goes t c =
+    let old = map written_atom_in c.loop-after.atoms.items in
+    let there = found c.rest_after.result c.in-Some.after 42 c.loop-after.rest.now c.rest_after.ensures.rest c.in-Some.is in
+    λ m k. refused_making c.atom.result c.from_residual.result c.in_err-rest-in-Some.field-0.0 _ _ _ c.from_residual.ensures.1
+    (c.loop-after.invariant.0 m k ∙ atoms_go_on c.loop-after.rest.now c.in-Some.after.now (times_all m old) k there)
+    c.in_err-rest-in-Some.ensures (c.atom.ensures.goes (times (times_all m old) k))
+
+pub monomials-returns-in_err-rest-in-Some-clause-goes : goal.monomials-returns-in_err-rest-in-Some-clause-goes
+monomials-returns-in_err-rest-in-Some-clause-goes t c =
+    let old = sum_of (map written_term_in c.loop-after.monomials.items) in
+    let there = found c.rest_after.result c.in-Some.after 32 c.loop-after.rest.now c.rest_after.ensures.rest c.in-Some.is in
+    λ k. refused_making c.further.result c.from_residual-in_err-rest-in-Some.result c.in_err-rest-in-Some.field-0.0 _ _ _
+    c.from_residual-in_err-rest-in-Some.ensures.1
+    (c.loop-after.invariant.0 k ∙ sum_goes_on c.loop-after.rest.now c.in-Some.after.now old k there)
+    c.in_err-rest-in-Some.ensures.sum (c.further.ensures.goes old k)
+
+pub writes-returns-in_err-index-in-Some-clause-goes : goal.writes-returns-in_err-index-in-Some-clause-goes
+writes-returns-in_err-index-in-Some-clause-goes t c =
+    let a = written_all (base_in c.args.base) (map written_write_in c.loop-after.writes.items) in
+    let there = found c.rest_after.result c.in-Some.after 123 c.loop-after.rest.now c.rest_after.ensures.rest c.in-Some.is in
+    λ k. refused c.from_residual.result c.in_err-index-in-Some.field-0.0 _ _ c.from_residual.ensures.1
+    (c.loop-after.invariant.0 k ∙ array_goes_on c.loop-after.rest.now c.in-Some.after.now a k there) (c.in_err-index-in-Some.ensures.goes (place a k))
+
+pub writes-returns-in_err-rest-in-Some-clause-goes : goal.writes-returns-in_err-rest-in-Some-clause-goes
+writes-returns-in_err-rest-in-Some-clause-goes t c =
+    let a = written_all (base_in c.args.base) (map written_write_in c.loop-after.writes.items) in
+    let i = written_polynomial_in c.in_ok-index-in-Some.index in
+    let there = found c.rest_after.result c.in-Some.after 123 c.loop-after.rest.now c.rest_after.ensures.rest c.in-Some.is in
+    λ k. refused_making c.inside.result c.from_residual-in_err-rest-in-Some.result c.in_err-rest-in-Some.field-0.0 _ _ _
+    c.from_residual-in_err-rest-in-Some.ensures.1
+    (c.loop-after.invariant.0 k ∙ array_goes_on c.loop-after.rest.now c.in-Some.after.now a k there ∙ c.in_ok-index-in-Some.ensures.goes (place a k))
+    c.in_err-rest-in-Some.ensures
+    (c.inside.ensures.goes _ (value a i k) (λ v. after_array (Written a i v) k) (closes_value a i k) (c.colon.ensures.goes i a k))
+
+pub inside-returns-in-Ok-clause-goes : goal.inside-returns-in-Ok-clause-goes
+inside-returns-in-Ok-clause-goes t c = λ text k done closes g. c.close.ensures.goes text k done closes (goes_after c.polynomial.result _
+    (subst (λ (o : Result (Bor (List ℕ)) ReadError). Goes o text (λ r. term_reading r.now (at_polynomial k))) c.in-Ok.is g) (c.polynomial.ensures.goes k))
+
+pub inside-returns-in-Err-clause-goes : goal.inside-returns-in-Err-clause-goes
+inside-returns-in-Err-clause-goes t c = λ text k done closes g. refused_after c.args.opened c.in-Err.error _ _ _ c.in-Err.is g
+
+pub inside-returns-in-Ok-clause-shorter : goal.inside-returns-in-Ok-clause-shorter
+inside-returns-in-Ok-clause-shorter t c =
+    subst (λ (o : Result (Bor (List ℕ)) ReadError). IfOk c.close.result (λ x. length x.1.now < rest_length o)) (sym c.in-Ok.is)
+    (c.close.ensures.shorter (length c.in-Ok.bytes.now) c.polynomial.ensures.shorter)
+
+pub read-returns-in_err-array-clause-goes : goal.read-returns-in_err-array-clause-goes
+read-returns-in_err-array-clause-goes t c = λ k. refused c.from_residual.result c.in_err-array.field-0.0 _ _ c.from_residual.ensures.1 refl
+    (c.in_err-array.ensures.goes (read_of k))
+
+pub read-returns-clause-goes : goal.read-returns-clause-goes
+read-returns-clause-goes t c =
+    let a = written_array_in c.in_ok-array.array in
+    λ k. goes_made c.inside.result c.make_read.result _ _ c.make_read.ensures (c.in_ok-array.ensures.goes (read_of k))
+    (c.inside.ensures.goes _ (index a k) (λ i. atom_done (Read a i) k) (closes_index a k) (c.open_bracket.ensures.goes a k)) (λ x y m. same_atom k m)
+
+pub division-returns-in_err-left-clause-goes : goal.division-returns-in_err-left-clause-goes
+division-returns-in_err-left-clause-goes t c = λ k. refused c.from_residual.result c.in_err-left.field-0.0 _ _ c.from_residual.ensures.1 refl
+    (c.in_err-left.ensures.goes (left_side c.args.kind k))
+
+pub division-returns-clause-goes : goal.division-returns-clause-goes
+division-returns-clause-goes t c =
+    let d = c.args.kind in
+    let l = written_polynomial_in c.in_ok-left.left in
+    λ k. goes_made c.inside.result c.make_division.result _ _ c.make_division.ensures (c.in_ok-left.ensures.goes (left_side d k))
+    (c.inside.ensures.goes _ (right_side d l k) (λ r. atom_done (division_of d l r) k) (closes_right d l k)
+    (comma_goes d c.comma.result _ c.comma.ensures.quotient c.comma.ensures.remainder l k)) (λ x y m. same_atom k m)
+
+pub atom-returns-in_err-start-clause-goes : goal.atom-returns-in_err-start-clause-goes
+atom-returns-in_err-start-clause-goes t c = λ k. refused c.from_residual.result c.in_err-start.field-0.0 _ _ c.from_residual.ensures.1 refl
+    (c.in_err-start.ensures.goes k)
+
+pub atom-returns-in-Array-clause-goes : goal.atom-returns-in-Array-clause-goes
+atom-returns-in-Array-clause-goes t c = λ k. goes_after c.read.result _ (c.in_ok-start.ensures.goes k
+    ∙ ap (λ s. term_reading c.in_ok-start.rest.now (after_start s k)) c.in-Array.is) (c.read.ensures.goes k)
+
+pub atom-returns-in-Division-clause-goes : goal.atom-returns-in-Division-clause-goes
+atom-returns-in-Division-clause-goes t c = λ k. goes_after c.division.result _ (c.in_ok-start.ensures.goes k
+    ∙ ap (λ s. term_reading c.in_ok-start.rest.now (after_start s k)) c.in-Division.is) (c.division.ensures.goes k)
+
+-- ---- what is left behind parts that are made
+
+pub atom-returns-in_err-start-clause-shorter : goal.atom-returns-in_err-start-clause-shorter
+atom-returns-in_err-start-clause-shorter t c = none_left c.from_residual.result c.in_err-start.field-0.0 _ c.from_residual.ensures.1
+
+pub atom-returns-in-Array-clause-shorter : goal.atom-returns-in-Array-clause-shorter
+atom-returns-in-Array-clause-shorter t c = less_left c.read.result c.in_ok-start.ensures.shorter c.read.ensures.shorter
+
+pub atom-returns-in-Division-clause-shorter : goal.atom-returns-in-Division-clause-shorter
+atom-returns-in-Division-clause-shorter t c = less_left c.division.result c.in_ok-start.ensures.shorter c.division.ensures.shorter
+
+pub read-returns-in_err-array-clause-shorter : goal.read-returns-in_err-array-clause-shorter
+read-returns-in_err-array-clause-shorter t c = none_left c.from_residual.result c.in_err-array.field-0.0 _ c.from_residual.ensures.1
+
+pub read-returns-clause-shorter : goal.read-returns-clause-shorter
+read-returns-clause-shorter t c = less_made _ c.inside.result c.make_read.result c.make_read.ensures
+    (omega (arith, rest_shorter _ c.open_bracket.result c.open_bracket.ensures.shorter, c.in_ok-array.ensures.shorter)) c.inside.ensures.shorter
+
+pub division-returns-in_err-left-clause-shorter : goal.division-returns-in_err-left-clause-shorter
+division-returns-in_err-left-clause-shorter t c = none_left c.from_residual.result c.in_err-left.field-0.0 _ c.from_residual.ensures.1
+
+pub division-returns-clause-shorter : goal.division-returns-clause-shorter
+division-returns-clause-shorter t c = less_made _ c.inside.result c.make_division.result c.make_division.ensures
+    (omega (arith, rest_shorter _ c.comma.result c.comma.ensures.shorter, c.in_ok-left.ensures.shorter)) c.inside.ensures.shorter
+
+pub atoms-returns-in_err-rest-in-Some-clause-shorter : goal.atoms-returns-in_err-rest-in-Some-clause-shorter
+atoms-returns-in_err-rest-in-Some-clause-shorter t c =
+    none_left c.from_residual.result c.in_err-rest-in-Some.field-0.0 _ c.from_residual.ensures.1
+
+pub monomials-returns-in_err-rest-in-Some-clause-shorter : goal.monomials-returns-in_err-rest-in-Some-clause-shorter
+monomials-returns-in_err-rest-in-Some-clause-shorter t c = none_left c.from_residual-in_err-rest-in-Some.result
+    c.in_err-rest-in-Some.field-0.0 _ c.from_residual-in_err-rest-in-Some.ensures.1
+
+pub writes-returns-in_err-index-in-Some-clause-shorter : goal.writes-returns-in_err-index-in-Some-clause-shorter
+writes-returns-in_err-index-in-Some-clause-shorter t c = none_left c.from_residual.result c.in_err-index-in-Some.field-0.0 _ c.from_residual.ensures.1
+
+pub writes-returns-in_err-index-in-Some-clause-ends : goal.writes-returns-in_err-index-in-Some-clause-ends
+writes-returns-in_err-index-in-Some-clause-ends t c = none_left c.from_residual.result c.in_err-index-in-Some.field-0.0 _ c.from_residual.ensures.1
+
+pub writes-returns-in_err-rest-in-Some-clause-shorter : goal.writes-returns-in_err-rest-in-Some-clause-shorter
+writes-returns-in_err-rest-in-Some-clause-shorter t c =
+    none_left c.from_residual-in_err-rest-in-Some.result c.in_err-rest-in-Some.field-0.0 _ c.from_residual-in_err-rest-in-Some.ensures.1
+
+pub writes-returns-in_err-rest-in-Some-clause-ends : goal.writes-returns-in_err-rest-in-Some-clause-ends
+writes-returns-in_err-rest-in-Some-clause-ends t c =
+    none_left c.from_residual-in_err-rest-in-Some.result c.in_err-rest-in-Some.field-0.0 _ c.from_residual-in_err-rest-in-Some.ensures.1
+
+-- ---- and so do the measures
+
+pub read-inside-requires : goal.read-inside-requires
+read-inside-requires t c =
+    let e : opened_measure c.open_bracket.result < t = opened_less _ t c.open_bracket.result c.open_bracket.ensures.shorter
+    (omega (arith, c.in_ok-array.ensures.shorter, c.decreases)) (omega (arith, c.decreases)) in
+    search (rules, e)
+
+pub division-inside-requires : goal.division-inside-requires
+division-inside-requires t c =
+    let e : opened_measure c.comma.result < t = opened_less _ t c.comma.result c.comma.ensures.shorter
+    (omega (arith, c.in_ok-left.ensures.shorter, c.decreases)) (omega (arith, c.decreases)) in
+    search (rules, e)
+
+pub writes-inside-requires : goal.writes-inside-requires
+writes-inside-requires t c =
+    let there = found c.rest_after.result c.in-Some.after 123 c.loop-after.rest.now c.rest_after.ensures.rest c.in-Some.is in
+    let less = rest_after_shorter 123 c.loop-after.rest.now c.in-Some.after.now there in
+    let e : opened_measure c.colon.result < t = opened_less _ t c.colon.result c.colon.ensures.shorter
+    (omega (arith, c.in_ok-index-in-Some.ensures.shorter, less, c.loop-after.invariant.1, c.decreases)) (omega (arith, less, c.loop-after.invariant.1, c.decreases)) in
+    search (rules, e)
+
+pub inside-polynomial-requires : goal.inside-polynomial-requires
+inside-polynomial-requires t c =
+    let less = inside_less c.args.opened c.in-Ok.bytes c.in-Ok.is in
+    let e : 8 * length c.in-Ok.bytes.now + 6 < t = omega (arith, less, c.decreases) in
+    search (rules, e)

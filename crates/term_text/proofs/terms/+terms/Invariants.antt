@@ -2,34 +2,17 @@ use Rattle.std.proofs.Common.{◌≡◌, ◌<◌, ◌≤◌, length, map, ◌+�
 use Rattle.term_text.specs.Machine.{ForPolynomial, ForArray, ForMonomial, term_reading, after_monomial, after_sum, after_array}
 use Rattle.term_text.specs.TermTexts.{Monomial}
 use Rattle.term_text.specs.View.{times_all, written_all, sum_of, first_sum, written_atom_in, written_monomial_in, written_term_in, written_write_in, base_in}
+use Rattle.term_text.proofs.Openings.{opened_measure}
 use Rattle.term_text.proofs.terms.+terms.Given as goal
 
 abbrev pub decreases-atom : goal.decreases-atom
 decreases-atom l = 8 * length l.bytes.now
-
-abbrev pub decreases-symbol : goal.decreases-symbol
-decreases-symbol l = 8 * length l.bytes.now
 
 abbrev pub decreases-writes : goal.decreases-writes
 decreases-writes l = 8 * length l.bytes.now
 
 abbrev pub decreases-read : goal.decreases-read
 decreases-read l = 8 * length l.bytes.now + 1
-
-abbrev pub decreases-index : goal.decreases-index
-decreases-index l = 8 * length l.bytes.now
-
-abbrev pub decreases-value : goal.decreases-value
-decreases-value l = 8 * length l.bytes.now
-
-abbrev pub decreases-braced : goal.decreases-braced
-decreases-braced l = 8 * length l.bytes.now + 7
-
-abbrev pub decreases-right_side : goal.decreases-right_side
-decreases-right_side l = 8 * length l.bytes.now
-
-abbrev pub decreases-write : goal.decreases-write
-decreases-write l = 8 * length l.bytes.now + 7
 
 abbrev pub decreases-head : goal.decreases-head
 decreases-head l = 8 * length l.bytes.now + 1
@@ -54,6 +37,9 @@ decreases-polynomial l = 8 * length l.bytes.now + 6
 
 abbrev pub decreases-division : goal.decreases-division
 decreases-division l = 8 * length l.bytes.now + 7
+
+abbrev pub decreases-inside : goal.decreases-inside
+decreases-inside l = opened_measure l.opened
 
 abbrev pub invariant-atoms-loop-after : goal.invariant-atoms-loop-after
 invariant-atoms-loop-after l =
