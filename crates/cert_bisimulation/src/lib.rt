@@ -3,9 +3,9 @@
 //! in how straight lines are cut into states, have the same behaviour.
 //!
 //! Promises: machines for which a table of nodes leads on have the same behaviour, whatever facts are; so have alike
-//! machines.
+//! machines; whether ranks fall along moves.
 //!
-//! Rules: `specs/Tables`, `src/laws`, `specs/Alike`, `src/alike_laws`.
+//! Rules: `specs/Tables`, `specs/Ranks`, `src/laws`, `specs/Alike`, `src/alike_laws`.
 //!
 //! Words:
 //! - mode: which machines move from a node
@@ -17,3 +17,4 @@
 pub mod alike_laws;
 pub mod laws;
 pub mod mode;
+pub mod ranks;

@@ -8,7 +8,7 @@ ghost use Rattle.nf_terms.specs.Computed.{Answers, Done, after};
 ghost use Rattle.sym_paths.specs.Execution.{end_of};
 ghost use Rattle.sym_paths.specs.View.{post_in};
 ghost use Rattle.sym_facts.specs.Entailment.{entails as entailed};
-ghost use Rattle.cert_model.specs.Obligations.{first_missing, same_alone, rank_falls};
+ghost use Rattle.cert_model.specs.Obligations.{first_missing, rank_falls};
 ghost use Rattle.cert_model.specs.View.{node_of};
 ghost use Rattle.cert_check.specs.Progress.{progress_from};
 ghost use Rattle.cert_check.specs.View.{progress_in, reached_in, move_in, NumberUpTo};
@@ -16,7 +16,7 @@ ghost use Rattle.cert_check.specs.View.{progress_in, reached_in, move_in, Number
 use crate::lookup::node_at;
 use crate::progress::{Progress, advance};
 use crate::table::Table;
-use cert_bisimulation::mode::Mode;
+use cert_bisimulation::ranks::rank_falls;
 use cert_model::cert::Node;
 use cert_model::reason::Reason;
 use fs_cut::cover::{Path, Point};
@@ -58,22 +58,11 @@ pub fn judge_target(
     ))
 }
 
-// Whether one machine moves alone in both modes, and it is the same.
-fn same_alone(mode: Mode, next: Mode) -> bool
-    ensures { result ≡ same_alone mode next }
-{
-    match mode {
-        Mode::Left => matches!(next, Mode::Left),
-        Mode::Right => matches!(next, Mode::Right),
-        Mode::Both | Mode::End => false,
-    }
-}
-
 // Whether the rank falls from a node to a target, where it has to.
-fn rank_falls(node: &Node, target: &Node) -> bool
+fn falls_to(node: &Node, target: &Node) -> bool
     ensures { result ≡ rank_falls (node_of node.now) (node_of target.now) }
 {
-    !same_alone(node.mode, target.mode) || target.rank < node.rank
+    rank_falls(node.mode, node.rank, target.mode, target.rank)
 }
 
 // Where a side comes to, which keeps its point where it stays.
@@ -98,7 +87,7 @@ fn judge_arrival(
     ensures { Answers result (reached_in table.now (node_of node.now) (post_in post.now) (point_of left) (point_of right)) }
 {
     match node_at(&table.nodes, left, right) {
-        Some(target) => judge_target(alloc, post, target, rank_falls(node, target)),
+        Some(target) => judge_target(alloc, post, target, falls_to(node, target)),
         None => Ok(Some(Reason::NoTarget)),
     }
 }

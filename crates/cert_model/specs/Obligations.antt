@@ -11,6 +11,7 @@ use Rattle.sym_facts.specs.PairedOutputs.{OutputPair, output_pairs}
 use Rattle.sym_facts.specs.Positions.{positions}
 use Rattle.cert_bisimulation.specs.declared.mode.Mode.{Mode}
 use Rattle.cert_bisimulation.specs.declared.mode.Mode.TheVariants.{Both, Left, Right, End}
+pub use Rattle.cert_bisimulation.specs.Ranks.{same_alone}
 use Rattle.cert_bisimulation.specs.Tables.{Node}
 use Rattle.nf_terms.specs.Forms.{same_form}
 use Rattle.fs_model.specs.declared.sides.Side.TheVariants as side
@@ -42,12 +43,6 @@ first_missing (k ∷ ks) ls falls = Some (reason.Equation k)
 first_missing [] (k ∷ ls) falls = Some (reason.Condition k)
 first_missing [] [] true = None
 first_missing [] [] false = Some reason.Rank
-
--- whether one machine moves alone in both modes, and it is the same
-abbrev pub same_alone : Mode → Mode → Bool
-same_alone Left Left = true
-same_alone Right Right = true
-same_alone _ _ = false
 
 abbrev pub rank_falls : Node Fact → Node Fact → Bool
 rank_falls n t = not (same_alone n.mode t.mode) || nat_lt t.rank n.rank
