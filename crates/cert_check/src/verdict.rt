@@ -3,7 +3,7 @@
 use cert_model::reason::Reason;
 
 /// What a checker answers. Obligations are numbered from 1.
-#[derive(Clone, Copy, PartialEq, Eq)]
+#[derive(Clone, Copy)]
 pub enum Verdict {
     /// All obligations hold.
     Yes,

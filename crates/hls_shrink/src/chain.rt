@@ -44,7 +44,7 @@ impl Model for Chain {
 }
 
 /// Why a machine is not added to a chain.
-#[derive(Clone, Copy, PartialEq, Eq)]
+#[derive(Clone, Copy)]
 pub enum ChainStop {
     /// The checker says this of the certificate, which is not yes.
     Verdict(Verdict),
