@@ -1,6 +1,6 @@
 -- The first members of objects whose names get more.
-use Rattle.std.proofs.Common.{◌≡◌, ℕ, zero, suc, ◌+◌, ◌<◌, ◌≤◌, List, [], ◌∷◌, ◌++◌, length, Bool, true, false, ◌&&◌, Option, Some, None, String, Global}
-use Rattle.std.proofs.Common.{Ordering, Less, Equal, Greater, nat_cmp, string_bytes, string_cmp, bytes_eq, refl, sym, ap, ◌∙◌, subst, arith}
+use Rattle.std.proofs.Common.{◌≡◌, ℕ, zero, suc, ◌+◌, ◌<◌, ◌≤◌, List, [], ◌∷◌, ◌++◌, length, true, false, Option, Some, None, String, Global}
+use Rattle.std.proofs.Common.{Ordering, Less, Equal, Greater, nat_cmp, string_bytes, string_cmp, refl, sym, ap, ◌∙◌, subst, arith}
 use Rattle.std.specs.Prelude.{is_some, IsSome, IfSome, ◌↔◌, if◌then◌else◌}
 use Rattle.std.specs.Cmp.Lexicographic.{slice_cmp}
 use Rattle.std.specs.List.{All}
@@ -10,12 +10,11 @@ use Rattle.std.proofs.lemmas.Bool.{and_parts, not-false, false≢true}
 use Rattle.std.proofs.lemmas.Cmp.{nat_list_cmp_total, tied_itself}
 use Rattle.std.proofs.lemmas.List.Elements.{All-head, All-tail}
 use Rattle.std.proofs.lemmas.Map.Lookups.{exact_bytes}
-use Rattle.std.proofs.lemmas.Slice.Eq.{bytes_eq-Decides}
 use Rattle.serde_json.specs.Data.{Data, Members, no_members, member, put}
 use Rattle.serde_json.specs.Events.{members_len}
 use Rattle.serde_json.specs.Find.{get_member, as_str}
 use Rattle.serde_json.specs.View.{view, members_view}
-use Rattle.serde_json.proofs.Views.{Entry, get_member-put, get_member-put_other}
+use Rattle.serde_json.proofs.Views.{Entry}
 use Rattle.cert_json.specs.Shape.{name_texts}
 use Rattle.cert_json.specs.Trim.{first_members}
 use Rattle.cert_json.specs.Objects.{AreBehind, AreAscending, is_no_text}
@@ -183,24 +182,3 @@ texts_from (member k d ms) up none =
     subst (λ o. is_no_text (match_ordering o (get_member k ms) (Some d) (get_member k ms)) ≡ false) same (none k) in
     let text : is_some (as_str d) ≡ true = not-false (is_some (as_str d)) here in
     rw (text, texts_from ms up.1 (λ q. rest_at q k d ms (slice_cmp nat_cmp q k) refl up.0 (none q)))
-
-found_behind : (q k : List ℕ) (d : Data) (ms : Members) (o : Ordering) → slice_cmp nat_cmp q k ≡ o → AreBehind k ms
-    → is_no_text (get_member q ms) ≡ true → is_no_text (match_ordering o (get_member q ms) (Some d) (get_member q ms)) ≡ true
-found_behind q k d ms Less is behind h = h
-found_behind q k d ms Equal is behind h =
-    absurd (false≢true (sym (ap is_no_text (subst (λ j. get_member j ms ≡ None) (sym (exact_bytes q k is)) (none_behind k ms behind))) ∙ h))
-found_behind q k d ms Greater is behind h = h
-
-found_at : (k : List ℕ) (d : Data) (ms : Members) (b : Bool) → is_some (as_str d) ≡ b → AreBehind k ms → name_texts (member k d ms) ≡ false
-    → (name_texts ms ≡ false → (q : List ℕ) × (is_no_text (get_member q ms) ≡ true))
-    → (q : List ℕ) × (is_no_text (get_member q (member k d ms)) ≡ true)
-found_at k d ms false is behind h more =
-    let same : slice_cmp nat_cmp k k ≡ Equal = tied_itself nat_list_cmp_total k in (k, rw (same, is))
-found_at k d ms true is behind h more =
-    let rest = more (sym (ap (λ b. b && name_texts ms) is) ∙ h) in
-    (rest.0, found_behind rest.0 k d ms (slice_cmp nat_cmp rest.0 k) refl behind rest.1)
-
--- of members that ascend and are not all texts, some name has something else
-pub other_found : (ms : Members) → AreAscending ms → name_texts ms ≡ false → (q : List ℕ) × (is_no_text (get_member q ms) ≡ true)
-other_found no_members up h = absurd (false≢true (sym h))
-other_found (member k d ms) up h = found_at k d ms (is_some (as_str d)) refl up.0 h (λ rest. other_found ms up.1 rest)

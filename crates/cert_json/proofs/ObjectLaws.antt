@@ -1,21 +1,21 @@
 -- Objects whose names get more, and what is kept of them.
-use Rattle.std.proofs.Common.{◌≡◌, ℕ, suc, ◌≤◌, List, [], Bool, true, false, ◌&&◌, length, nat_lt, nat_cmp, Option, Some}
-use Rattle.std.proofs.Common.{Ordering, Less, Equal, Greater}
-use Rattle.std.proofs.Common.{refl, sym, ap, ap₂, ◌∙◌, subst, arith, rules}
-use Rattle.std.specs.Prelude.{is_some, if◌then◌else◌}
+use Rattle.std.proofs.Common.{◌≡◌, ℕ, suc, ◌≤◌, List, [], true, false, length, nat_lt, nat_cmp, Option, Some}
+use Rattle.std.proofs.Common.{Ordering, Less, Equal, Greater, Result, Ok, Err}
+use Rattle.std.proofs.Common.{refl, sym, ap, ◌∙◌, subst, arith, rules}
+use Rattle.std.specs.Prelude.{is_some, IfOk}
 use Rattle.std.specs.Cmp.Lexicographic.{slice_cmp}
 use Rattle.std.specs.Ordering.{match_ordering}
-use Rattle.std.proofs.lemmas.Bool.{ltb-true, lt-ltb, and_parts, false≢true}
+use Rattle.std.proofs.lemmas.Bool.{ltb-true, lt-ltb, false≢true}
+use Rattle.json.specs.Json.{parse_map}
 use Rattle.json.specs.Token.{Token}
-use Rattle.serde_json.specs.Data.{Data, null, object, Members, no_members, member, put}
+use Rattle.serde_json.specs.Data.{Data, null, array, object, Items, Members, no_members, member, put}
 use Rattle.serde_json.specs.Events.{members_len}
-use Rattle.serde_json.specs.Find.{get_member, as_str}
+use Rattle.serde_json.specs.Find.{get_member}
 use Rattle.serde_json.specs.View.{view, members_view}
-use Rattle.serde_json.specs.declared.value.Value.{Null, Object, the_lemmas}
+use Rattle.serde_json.specs.declared.value.Value.{Value, Null, Object, the_lemmas}
 use Rattle.serde_json.proofs.Views.{members_len-members_view, view-Object, Entry}
-use Rattle.cert_json.specs.Shape.{name_texts}
-use Rattle.cert_json.specs.Trim.{below, exceeds, keeps_first, first_names, short_equations, short_object, trim, trim_members}
-use Rattle.cert_json.specs.Objects.{AreAscending, TellsOthers, IsShortObject, is_no_text}
+use Rattle.cert_json.specs.Trim.{below, exceeds, keeps_first, first_names, short_list, short_object, trim, trim_items, trim_members}
+use Rattle.cert_json.specs.Objects.{TellsOthers, IsShortObject}
 use Rattle.cert_json.specs.declared.short_object.ShortObject.{ShortObject}
 use Rattle.cert_json.specs.declared.level.Level.{Level}
 use Rattle.cert_json.specs.declared.level.Level.TheVariants.{File, FileMember, Node, NodeMember, Deeper}
@@ -79,9 +79,8 @@ none_added v o none no_others =
       whole = λ _. same;
       first = ap first_names same;
       others = λ _. record {
-        agree = λ q _. ap (λ es. is_no_text (get_member q (members_view es))) no_others;
+        agree = λ q some. absurd (false≢true (sym (ap (λ es. is_some (get_member q (members_view es))) no_others) ∙ some));
         rest = λ _ q _. refl;
-        ascending = subst (λ es. AreAscending (members_view es)) (sym no_others) tt;
       };
       ascending = tt;
     }
@@ -150,3 +149,20 @@ pub settled_members : (v : Level) (o : ShortObject) (ms : Members) (r : List Tok
     → (more : Members) × (left ≡ Some (more, r)) × (members_len ms ≤ members_len more)
     → (more : Members) × (all ≡ Some (more, r)) × (view Null ≡ short_object v (trim_members (below v) more))
 settled_members v o ms r all left same h many found = (found.0, same ∙ found.1, settled_object v o ms found.0 h many found.2)
+
+-- ---- what is read behind the bracket of a list, and of an object
+
+pub opened_list : {E : Type 0} (r : Result Value E) (v w : Level) (ts : List Token) (all : Option (Data × List Token)) (left : Option (Items × List Token))
+    → all ≡ parse_map array left → w ≡ below v
+    → IfOk r (λ x. (ds : Items) × (left ≡ Some (ds, ts)) × (view x ≡ short_list (trim_items w ds)))
+    → IfOk r (λ x. (d : Data) × (all ≡ Some (d, ts)) × (view x ≡ trim v d))
+opened_list (Ok x) v w ts all left is level found =
+    (array found.0, is ∙ ap (parse_map array) found.1, found.2 ∙ ap (λ u. short_list (trim_items u found.0)) level)
+opened_list (Err e) v w ts all left is level found = tt
+
+pub opened_object : {E : Type 0} (r : Result Value E) (v : Level) (ts : List Token) (all : Option (Data × List Token))
+    (left : Option (Members × List Token)) → all ≡ parse_map object left
+    → IfOk r (λ x. (ms : Members) × (left ≡ Some (ms, ts)) × (view x ≡ short_object v (trim_members (below v) ms)))
+    → IfOk r (λ x. (d : Data) × (all ≡ Some (d, ts)) × (view x ≡ trim v d))
+opened_object (Ok x) v ts all left is found = (object found.0, is ∙ ap (parse_map object) found.1, found.2)
+opened_object (Err e) v ts all left is found = tt

@@ -25,14 +25,12 @@ abbrev pub is_no_text : Option Data → Bool
 is_no_text None = false
 is_no_text (Some d) = not (is_some (as_str d))
 
--- of the names that are noted, whether the last value is a text, and of no other name is it anything else, where none was
--- left out
+-- of the names that are noted the last value is no text, and of no other name, where none was left out
 pub record TellsOthers (ms noted : Members) (is_partial : Bool) : Type 0 where
-  pub agree : (q : List ℕ) → is_some (get_member q noted) ≡ true → is_no_text (get_member q noted) ≡ is_no_text (get_member q ms)
+  pub agree : (q : List ℕ) → is_some (get_member q noted) ≡ true → is_no_text (get_member q ms) ≡ true
   pub rest : is_partial ≡ false → (q : List ℕ) → is_some (get_member q noted) ≡ false → is_no_text (get_member q ms) ≡ false
-  pub ascending : AreAscending noted
 
--- what is kept of these members at a level: where the first names are kept, these, and which values are no texts
+-- what is kept of these members at a level: where the first names are kept, these, and of which the values are no texts
 pub record IsShortObject (v : Level) (ms : Members) (o : ShortObject) : Type 0 where
   pub whole : keeps_first v ≡ false → members_view o.members.entries ≡ ms
   pub first : first_names (members_view o.members.entries) ≡ first_names ms

@@ -5,7 +5,7 @@ ghost use Rattle.serde_json.specs.View.{view, items_view, members_view};
 ghost use Rattle.serde_json.specs.Find.{as_array, as_object, as_str};
 ghost use Rattle.cert_json.specs.Shape.{has_members, is_text, are_texts, name_texts, is_list_of_texts, is_map_of_texts, is_mode};
 ghost use Rattle.cert_json.specs.Shape.{is_within, whole_number_in, is_node, are_nodes, is_list_of_nodes, is_format, is_file};
-ghost use Rattle.cert_json.specs.Shape.{is_mode_name, has_more, has_many_conditions, some_has_many, some_of_file_has_many};
+ghost use Rattle.cert_json.specs.Shape.{is_mode_name, has_more, some_has_many, some_of_file_has_many};
 ghost use Rattle.cert_json.specs.Shape.{has_too_many};
 
 use serde_json::{Map, Value};
@@ -31,8 +31,8 @@ fn are_texts(items: &Vec<Value>) -> bool
     true
 }
 
-/// Whether each member is a text.
-pub fn name_texts(members: &Map<String, Value>) -> bool
+// Whether each member is a text.
+fn name_texts(members: &Map<String, Value>) -> bool
     ensures { result ≡ name_texts (members_view members.now.entries) }
 {
     for (_name, value) in members.iter() {
@@ -174,17 +174,11 @@ fn has_more(value: Option<&Value>, limit: usize) -> bool
     }
 }
 
-fn has_many_conditions(value: &Value) -> bool
-    ensures { result ≡ has_many_conditions (view value.now) }
-{
-    has_more(value.get("conds"), 64)
-}
-
 fn some_has_many(items: &Vec<Value>) -> bool
     ensures { result ≡ some_has_many (items_view items.now.items) }
 {
     for item in items {
-        if has_many_conditions(item) {
+        if has_more(item.get("conds"), 64) {
             return true;
         }
     }

@@ -2,13 +2,12 @@
 
 ghost use Rattle.std.specs.Prelude.{◌≡◌, [], length, true, false, None, IsTrue, IfSome, OnOk, is_some};
 ghost use Rattle.serde_json.specs.Data.{Data, Members, no_members, put};
-ghost use Rattle.serde_json.specs.Find.{as_str, get_member};
+ghost use Rattle.serde_json.specs.Find.{as_str};
 ghost use Rattle.serde_json.specs.View.{view, members_view};
 ghost use Rattle.cert_json.specs.Trim.{exceeds, first_names, short_object, short_equations};
 ghost use Rattle.cert_json.specs.Objects.{IsShortObject, AreAscending, TellsOthers};
 
 use crate::level::Level;
-use crate::shape::name_texts;
 use serde_json::{Map, Value};
 use std::alloc::{AllocError, Global};
 use std::cmp::Ordering;
@@ -18,7 +17,7 @@ use std::cmp::Ordering;
 pub struct ShortObject {
     /// The members that are kept.
     pub members: Map<String, Value>,
-    /// Where the first names are kept: names of which a value was no text, each with a text where its last value is one.
+    /// Where the first names are kept: names of which the last value is no text.
     pub others: Map<String, Value>,
     /// Whether such names were left out.
     pub is_partial: bool,
@@ -36,21 +35,6 @@ pub fn empty_object(alloc: Global) -> ShortObject
         others: Map::new(alloc),
         is_partial: false,
     }
-}
-
-// Puts a member in, over the value of its name where there is one, with a key of its own.
-#[inline(always)]
-fn insert_member(
-    alloc: Global,
-    found: &mut Map<String, Value>,
-    name: &str,
-    member: Value,
-) -> Result<(), AllocError>
-    ensures { OnOk result (members_view found.new.entries ≡ put name.now (view member) (members_view found.old.entries)) }
-{
-    let key = String::from_str(alloc, name)?;
-    drop(found.insert(key, member)?);
-    Ok(())
 }
 
 // Whether a name comes behind all that are there, as most do in a file whose names ascend.
@@ -74,14 +58,14 @@ fn put_member(
     ensures { OnOk result (members_view found.new.entries ≡ put name.now (view member) (members_view found.old.entries)) }
 {
     if is_last(found, name) {
-        return insert_member(alloc, found, name, member);
+        return serde_json::put(found, alloc, name, member);
     }
     match found.get_mut(name) {
         Some(place) => {
             *place = member;
             Ok(())
         }
-        None => insert_member(alloc, found, name, member),
+        None => serde_json::put(found, alloc, name, member),
     }
 }
 
@@ -129,28 +113,8 @@ fn put_first(
     put
 }
 
-// A value that is a text, or one that is none.
-#[inline(always)]
-fn sign(alloc: Global, is_text: bool) -> Value
-    ensures { is_some (as_str (view result)) ≡ is_text }
-{
-    if is_text {
-        Value::String(String::new(alloc))
-    } else {
-        Value::Null
-    }
-}
-
-// Whether a name is noted.
-#[inline(always)]
-fn is_noted(others: &Map<String, Value>, name: &str) -> bool
-    ensures { result ≡ is_some (get_member name.now (members_view others.now.entries)) }
-{
-    others.contains_key(name)
-}
-
-// Notes whether the value of a name is a text: of each name that has had another value, or, where not all are to be kept, of
-// so many such names. The one refusal is out of memory.
+// Notes whether the value of a name is a text: the name stays noted as long as it is none. Where not all such names are to be
+// kept, as many are as there is room for. The one refusal is out of memory.
 #[inline(always)]
 fn note_value(
     alloc: Global,
@@ -165,15 +129,15 @@ fn note_value(
     ensures members { object.new.members ≡ object.old.members }
     ensures whole { whole ≡ true → object.old.is_partial ≡ false → object.new.is_partial ≡ false }
 {
-    let is_new = !is_noted(&object.others, name);
-    if is_new && is_text {
+    if is_text {
+        drop(object.others.remove(name));
         return Ok(());
     }
-    if is_new && !whole && object.others.len() >= 16 {
+    if !whole && object.others.len() >= 16 {
         object.is_partial = true;
         return Ok(());
     }
-    put_member(alloc, &mut object.others, name, sign(alloc, is_text))
+    put_member(alloc, &mut object.others, name, Value::Null)
 }
 
 /// Puts a member in, over the value of its name where there is one. Where `whole` is said, no name is left out of what is noted
@@ -205,7 +169,7 @@ fn value_of_equations(object: ShortObject) -> Option<Value>
         → TellsOthers ms (members_view object.others.entries) object.is_partial → view v ≡ short_equations ms) }
     ensures none { result ≡ None → object.is_partial ≡ true }
 {
-    if !name_texts(&object.others) {
+    if !object.others.is_empty() {
         return Some(Value::Null);
     }
     if object.is_partial {

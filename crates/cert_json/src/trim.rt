@@ -18,7 +18,7 @@ use serde_json::Value;
 use std::alloc::{AllocError, Global};
 
 /// Why no value is read.
-#[derive(Clone, Copy, Drop)]
+#[derive(Drop)]
 pub enum Fault {
     /// The text is not JSON.
     NotJson,
@@ -79,13 +79,13 @@ fn read(
             if depth == 0 {
                 return Err(Fault::NotJson);
             }
-            Ok(read_items(alloc, reader, depth - 1, level.below(), whole)?)
+            read_items(alloc, reader, depth - 1, level.below(), whole)
         }
         Token::BeginObject => {
             if depth == 0 {
                 return Err(Fault::NotJson);
             }
-            Ok(read_members(alloc, reader, depth - 1, level, whole)?)
+            read_members(alloc, reader, depth - 1, level, whole)
         }
     }
 }

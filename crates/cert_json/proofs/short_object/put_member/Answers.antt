@@ -13,6 +13,6 @@ returns-in-Some c =
     (sym c.get_mut.ensures.value ∙ ap option_copied_mut c.in-Some.is)
 
 pub returns-in-None : goal.returns-in-None
-returns-in-None c = on_ok_weaker c.insert_member-in-None.result
+returns-in-None c = on_ok_weaker c.put-in-None.result
     (λ is. is ∙ ap (λ m. put c.args.name.now (view c.args.member) (members_view m.entries)) c.get_mut.follows.holds-at-none)
-    c.insert_member-in-None.ensures
+    c.put-in-None.ensures.ok

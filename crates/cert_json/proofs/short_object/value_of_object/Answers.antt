@@ -1,4 +1,4 @@
-use Rattle.std.proofs.Common.{sym, ◌∙◌}
+use Rattle.std.proofs.Common.{sym}
 use Rattle.cert_json.proofs.ObjectLaws.{kept_object}
 use Rattle.cert_json.proofs.short_object.value_of_object.Goals as goal
 

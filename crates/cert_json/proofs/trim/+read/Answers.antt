@@ -1,4 +1,5 @@
 use Rattle.std.proofs.Common.{◌≡◌, ◌-◌, ◌<◌, ◌≤◌, [], true, subst, refl, ◌∷◌, length, Some, None, sym, ap, ap₂, ◌∙◌, arith, rules}
+use Rattle.std.proofs.lemmas.Result.{on_ok_weaker}
 use Rattle.json.specs.Token.{Token}
 use Rattle.json.specs.Json.{parse_map, after_end_array, read_key, items, members, value}
 use Rattle.json.specs.Reads.{token_of}
@@ -16,7 +17,7 @@ use Rattle.cert_json.proofs.TrimLaws.{trim-are_texts}
 use Rattle.cert_json.proofs.Turns.{converted-array, converted-object, item_read, item_refused, items_over, member_read, member_refused, key_refused}
 use Rattle.cert_json.proofs.Turns.{members_over}
 use Rattle.cert_json.proofs.ListLaws.{join-no_items, none_before, one_more_item, trim-add_item, trim-join_items}
-use Rattle.cert_json.proofs.ObjectLaws.{none_exceed, kept_put, settled_members}
+use Rattle.cert_json.proofs.ObjectLaws.{none_exceed, kept_put, settled_members, opened_list, opened_object}
 use Rattle.cert_json.proofs.trim.+read.Goals as goal
 
 pub read-returns-in_err-token-clause-err : goal.read-returns-in_err-token-clause-err
@@ -37,23 +38,6 @@ read-returns-then-depth-eq0-2-clause-err t c never =
     let first : c.args.reader.now ≡ token_of c.in_ok-token.token ∷ c.next.new.self = grind arith in
     let none : c.args.depth ≡ 0 = omega arith in
     ap (converted of_json) (ap₂ value none (first ∙ ap (λ k. token_of k ∷ c.next.new.self) c.in-BeginObject.is))
-
-pub read-returns-in_err-read_items-in-BeginArray-clause-err : goal.read-returns-in_err-read_items-in-BeginArray-clause-err
-read-returns-in_err-read_items-in-BeginArray-clause-err t c refused =
-    let first : c.args.reader.now ≡ token_of c.in_ok-token.token ∷ c.next.new.self = grind arith in
-    let opened = ap (converted of_json)
-    (ap (value c.args.depth) (first ∙ ap (λ k. token_of k ∷ c.next.new.self) c.in-BeginArray.is) ∙ value-begin_array c.args.depth c.next.new.self (omega arith))
-    ∙ converted-array (items (value (c.args.depth - 1)) (length c.next.new.self) c.next.new.self) in
-    opened ∙ ap (parse_map array) (c.read_items.ensures.err (grind arith))
-
-pub read-returns-in_err-read_members-in-BeginObject-clause-err : goal.read-returns-in_err-read_members-in-BeginObject-clause-err
-read-returns-in_err-read_members-in-BeginObject-clause-err t c refused =
-    let first : c.args.reader.now ≡ token_of c.in_ok-token.token ∷ c.next.new.self = grind arith in
-    let opened = ap (converted of_json)
-    (ap (value c.args.depth) (first ∙ ap (λ k. token_of k ∷ c.next.new.self) c.in-BeginObject.is)
-    ∙ value-begin_object c.args.depth c.next.new.self (omega arith))
-    ∙ converted-object (members (value (c.args.depth - 1)) (length c.next.new.self) c.next.new.self) in
-    opened ∙ ap (parse_map object) (c.read_members.ensures.err (grind arith))
 
 pub read-returns-in_ok-from_str-in-String-clause-ok : goal.read-returns-in_ok-from_str-in-String-clause-ok
 read-returns-in_ok-from_str-in-String-clause-ok t c =
@@ -98,24 +82,51 @@ read-returns-in-EndObject-clause-err t c refused =
     let none : value c.args.depth c.args.reader.now ≡ None = rw (value_is c.args.depth c.args.reader.now, first) (grind arith) in
     ap (converted of_json) none
 
-pub read-returns-in_ok-read_items-in-BeginArray-clause-ok : goal.read-returns-in_ok-read_items-in-BeginArray-clause-ok
-read-returns-in_ok-read_items-in-BeginArray-clause-ok t c =
+pub read-returns-else-depth-eq0-clause-ok : goal.read-returns-else-depth-eq0-clause-ok
+read-returns-else-depth-eq0-clause-ok t c =
     let first : c.args.reader.now ≡ token_of c.in_ok-token.token ∷ c.next.new.self = grind arith in
     let opened = ap (converted of_json)
-    (ap (value c.args.depth) (first ∙ ap (λ k. token_of k ∷ c.next.new.self) c.in-BeginArray.is) ∙ value-begin_array c.args.depth c.next.new.self (omega arith))
+    (ap (value c.args.depth) (first ∙ ap (λ k. token_of k ∷ c.next.new.self) c.in-BeginArray.is)
+    ∙ value-begin_array c.args.depth c.next.new.self (omega arith))
     ∙ converted-array (items (value (c.args.depth - 1)) (length c.next.new.self) c.next.new.self) in
-    let found = c.in_ok-read_items-in-BeginArray.ensures.ok in
-    (array found.0, opened ∙ ap (parse_map array) found.1, found.2 ∙ ap (λ v. short_list (trim_items v found.0)) c.below.ensures)
+    opened_list c.read_items.result c.args.level c.below.result c.read_items.new.reader _ _ opened c.below.ensures c.read_items.ensures.ok
 
-pub read-returns-in_ok-read_members-in-BeginObject-clause-ok : goal.read-returns-in_ok-read_members-in-BeginObject-clause-ok
-read-returns-in_ok-read_members-in-BeginObject-clause-ok t c =
+pub read-returns-else-depth-eq0-clause-shorter : goal.read-returns-else-depth-eq0-clause-shorter
+read-returns-else-depth-eq0-clause-shorter t c =
+    let first : c.args.reader.now ≡ token_of c.in_ok-token.token ∷ c.next.new.self = grind arith in
+    on_ok_weaker c.read_items.result (λ less. omega (arith, less, ap length first)) c.read_items.ensures.shorter
+
+pub read-returns-else-depth-eq0-clause-err : goal.read-returns-else-depth-eq0-clause-err
+read-returns-else-depth-eq0-clause-err t c refused =
+    let first : c.args.reader.now ≡ token_of c.in_ok-token.token ∷ c.next.new.self = grind arith in
+    let opened = ap (converted of_json)
+    (ap (value c.args.depth) (first ∙ ap (λ k. token_of k ∷ c.next.new.self) c.in-BeginArray.is)
+    ∙ value-begin_array c.args.depth c.next.new.self (omega arith))
+    ∙ converted-array (items (value (c.args.depth - 1)) (length c.next.new.self) c.next.new.self) in
+    opened ∙ ap (parse_map array) (c.read_items.ensures.err refused)
+
+pub read-returns-else-depth-eq0-2-clause-ok : goal.read-returns-else-depth-eq0-2-clause-ok
+read-returns-else-depth-eq0-2-clause-ok t c =
     let first : c.args.reader.now ≡ token_of c.in_ok-token.token ∷ c.next.new.self = grind arith in
     let opened = ap (converted of_json)
     (ap (value c.args.depth) (first ∙ ap (λ k. token_of k ∷ c.next.new.self) c.in-BeginObject.is)
     ∙ value-begin_object c.args.depth c.next.new.self (omega arith))
     ∙ converted-object (members (value (c.args.depth - 1)) (length c.next.new.self) c.next.new.self) in
-    let found = c.in_ok-read_members-in-BeginObject.ensures.ok in
-    (object found.0, opened ∙ ap (parse_map object) found.1, found.2)
+    opened_object c.read_members.result c.args.level c.read_members.new.reader _ _ opened c.read_members.ensures.ok
+
+pub read-returns-else-depth-eq0-2-clause-shorter : goal.read-returns-else-depth-eq0-2-clause-shorter
+read-returns-else-depth-eq0-2-clause-shorter t c =
+    let first : c.args.reader.now ≡ token_of c.in_ok-token.token ∷ c.next.new.self = grind arith in
+    on_ok_weaker c.read_members.result (λ less. omega (arith, less, ap length first)) c.read_members.ensures.shorter
+
+pub read-returns-else-depth-eq0-2-clause-err : goal.read-returns-else-depth-eq0-2-clause-err
+read-returns-else-depth-eq0-2-clause-err t c refused =
+    let first : c.args.reader.now ≡ token_of c.in_ok-token.token ∷ c.next.new.self = grind arith in
+    let opened = ap (converted of_json)
+    (ap (value c.args.depth) (first ∙ ap (λ k. token_of k ∷ c.next.new.self) c.in-BeginObject.is)
+    ∙ value-begin_object c.args.depth c.next.new.self (omega arith))
+    ∙ converted-object (members (value (c.args.depth - 1)) (length c.next.new.self) c.next.new.self) in
+    opened ∙ ap (parse_map object) (c.read_members.ensures.err refused)
 
 pub read_items-items-init : goal.read_items-items-init
 read_items-items-init t c =
