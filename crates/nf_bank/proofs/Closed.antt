@@ -23,7 +23,7 @@ use Rattle.nf_bank.proofs.Nodes.{grown_front, node_stays, next_below, holds_push
 -- ---- the atoms of a node are there
 
 module _ (atoms : List Atom) where
-  pub monomial_held : (ids : List AtomId) → bound_over bound_of_number ids ≤ length atoms → holds_monomial (monomial_over atoms ids) atoms ≡ true
+  monomial_held : (ids : List AtomId) → bound_over bound_of_number ids ≤ length atoms → holds_monomial (monomial_over atoms ids) atoms ≡ true
   monomial_held [] h = refl
   monomial_held (i ∷ ids) h =
       let l = max_left (bound_of_number i) (bound_over bound_of_number ids) (length atoms) h in
@@ -31,7 +31,7 @@ module _ (atoms : List Atom) where
       (there atoms i.0 (atom_of_number atoms i) (at_place atoms i.0 (atom_of_number atoms i) refl (omega arith)))
       (monomial_held ids (max_right (bound_of_number i) (bound_over bound_of_number ids) (length atoms) h))
 
-  pub sum_held : (s : List Term) → bound_of_sum s ≤ length atoms → holds_terms (sum_over atoms s) atoms ≡ true
+  sum_held : (s : List Term) → bound_of_sum s ≤ length atoms → holds_terms (sum_over atoms s) atoms ≡ true
   sum_held [] h = refl
   sum_held (t ∷ s) h =
       and_from (holds_monomial (monomial_over atoms t.atoms) atoms) (holds_terms (sum_over atoms s) atoms)
@@ -143,11 +143,3 @@ atom_put a old c = by_test (holds_atom a old) refl ∙ sym (one_atom a old)
     by_test : (t : Bool) → holds_atom a old ≡ t → with_one a (with_inner a old) ≡ cond t old (with_one a (with_inner a old))
     by_test true h = ap (with_one a) (inner_stays old a (c.inner a h)) ∙ ap (λ t. cond t old (old ++ a ∷ [])) h
     by_test false h = refl
-
--- an atom is not there where one in it is not
-pub inner_absent : (a : Atom) (atoms : List Atom) → IsClosedUnderAtoms atoms → holds_inner a atoms ≡ false → holds_atom a atoms ≡ false
-inner_absent a atoms c h = by_test (holds_atom a atoms) refl
-  where
-    by_test : (t : Bool) → holds_atom a atoms ≡ t → t ≡ false
-    by_test true g = sym (c.inner a g) ∙ h
-    by_test false g = refl

@@ -5,5 +5,4 @@ pub mod Growing
 pub mod Nodes
 pub mod Closed
 pub mod Turns
-pub mod Absent
 mod Made

@@ -1,11 +1,10 @@
 -- Nodes and their atoms: a node is there exactly where its atom is.
-use Rattle.std.proofs.Common.{◌≡◌, ℕ, zero, suc, ◌+◌, ◌<◌, ◌≤◌, Bool, true, false, ◌||◌, cond, Some, List, [], ◌∷◌, ◌++◌, length, take, get_or, append_assoc}
+use Rattle.std.proofs.Common.{◌≡◌, ℕ, zero, suc, ◌+◌, ◌≤◌, Bool, true, false, ◌||◌, cond, Some, List, [], ◌∷◌, ◌++◌, length, take, append_assoc}
 use Rattle.std.proofs.Common.{arith, refl, ap, sym, subst, ◌∙◌, if◌then◌else◌}
 use Rattle.std.proofs.lemmas.List.{append-nil, length_push}
 use Rattle.std.proofs.lemmas.List.Folds.{list_any-append}
 use Rattle.std.proofs.Math.Seq.{take-append_seam}
-use Rattle.std.proofs.lemmas.List.Quantifiers.{position-Some}
-use Rattle.std.specs.List.{list_any, position, slice_get}
+use Rattle.std.specs.List.{list_any, slice_get}
 use Rattle.fs_model.proofs.Booleans.{or_false}
 use Rattle.nf_terms.specs.NormalTerms.{Atom}
 use Rattle.nf_terms.specs.Order.{same_atom}
@@ -132,24 +131,6 @@ module _ (n : Node) where
   pub held : (ns : List Node) → IsAtomGraph ns → bound_of_node n ≤ length (atoms_of ns)
       → holds_atom (atom_over (atoms_of ns) n) (atoms_of ns) ≡ list_any (same_node n) ns
   held ns g h = held_along [] ns g.below g.different h
-
--- where a node is found, and where it is not
-pub node_found : (ns : List Node) (atoms : List Atom) (n : Node) (k : ℕ) → atoms_of ns ≡ atoms → IsAtomGraph ns → bound_of_node n ≤ length atoms
-    → Some k ≡ position (same_node n) ns → atom_place (atom_over atoms n) atoms ≡ Some k
-node_found ns atoms n k w g h e =
-    let f = position-Some (same_node n) ns k n (sym e) in
-    let q : n ≡ get_or ns k n = (nodes_decide n (get_or ns k n)).0 f.1 in
-    let s : slice_get ns k ≡ Some n = item_there ns k n f.0 ∙ ap Some (sym q) in
-    subst (λ l. atom_place (atom_over l n) l ≡ Some k) w (one_place (atoms_of ns) (atom_over (atoms_of ns) n) k g.different (placed ns k n g s))
-  where
-    item_there : (ns : List Node) (k : ℕ) (d : Node) → k < length ns → slice_get ns k ≡ Some (get_or ns k d)
-    item_there [] k d h = absurd (omega arith)
-    item_there (m ∷ ns) zero d h = refl
-    item_there (m ∷ ns) (suc k) d h = item_there ns k d (omega arith)
-
-pub node_absent : (ns : List Node) (atoms : List Atom) (n : Node) → atoms_of ns ≡ atoms → IsAtomGraph ns → bound_of_node n ≤ length atoms
-    → list_any (same_node n) ns ≡ false → holds_atom (atom_over atoms n) atoms ≡ false
-node_absent ns atoms n w g h e = subst (λ l. holds_atom (atom_over l n) l ≡ false) w (held n ns g (omega (arith, h, ap length w)) ∙ e)
 
 below-last : (k : ℕ) (ns : List Node) (n : Node) → AreBelow k ns → bound_of_node n ≤ k + length ns → AreBelow k (ns ++ n ∷ [])
 below-last k [] n b h = (omega arith, tt)

@@ -1,7 +1,6 @@
 -- The places of atoms.
 use Rattle.std.proofs.Common.{◌≡◌, ℕ, zero, suc, ◌+◌, ◌<◌, nat_lt, Bool, true, false, ◌||◌, not, cond, Some, None, List, [], ◌∷◌, ◌++◌, length, take, get_or}
 use Rattle.std.proofs.Common.{arith, refl, ap, sym, subst, ◌∙◌}
-use Rattle.std.proofs.lemmas.Bool.Decides.{nat_tests}
 use Rattle.std.proofs.lemmas.List.Quantifiers.{position-Some}
 use Rattle.std.specs.List.{position_or_len, position, slice_get}
 use Rattle.std.specs.Ordering.{is_eq}
@@ -110,19 +109,3 @@ pub found_at : (xs : List Atom) (k : ℕ) (a : Atom) → atom_place a xs ≡ Som
 found_at xs k a e =
     let f = position-Some (same_atom a) xs k past_end e in
     (f.0, sym (equal_atoms a (atom_at xs k) f.1))
-
--- an atom that is found is there, and one that is not there is not found
-pub found_there : (xs : List Atom) (k : ℕ) (a : Atom) → atom_place a xs ≡ Some k → holds_atom a xs ≡ true
-found_there xs k a e = let f = found_at xs k a e in there xs k a (at_place xs k a (sym f.1) f.0)
-
-pub not_there : (xs : List Atom) (a : Atom) → holds_atom a xs ≡ false → atom_place a xs ≡ None
-not_there xs a h = ap (λ n. cond (nat_lt n (length xs)) (Some n) None) (past xs h) ∙ ap (λ b. cond b (Some (length xs)) None) (not_less (length xs))
-  where
-    past : (xs : List Atom) → holds_atom a xs ≡ false → position_or_len (same_atom a) xs ≡ length xs
-    past [] h = refl
-    past (x ∷ xs) h =
-        ap (λ b. cond (not b) (1 + position_or_len (same_atom a) xs) 0) (neither_first (same_atom a x) (holds_atom a xs) h)
-        ∙ omega (arith, past xs (neither_second (same_atom a x) (holds_atom a xs) h))
-
-    not_less : (n : ℕ) → nat_lt n n ≡ false
-    not_less n = grind (arith, nat_tests)

@@ -1,8 +1,6 @@
 -- Loops that gather numbers: what they spell so far, and what is left.
-use Rattle.std.proofs.Common.{◌≡◌, ℕ, ◌+◌, ◌<◌, ◌≤◌, ℤ, true, ◌&&◌, Some, List, [], ◌∷◌, ◌++◌, length, map, take, drop, get_or, arith, ap, sym, subst, ◌∙◌}
+use Rattle.std.proofs.Common.{◌≡◌, ℕ, ◌+◌, ◌<◌, ◌≤◌, ℤ, Some, List, [], ◌∷◌, ◌++◌, length, map, take, get_or, arith, ap, sym, subst, ◌∙◌}
 use Rattle.std.proofs.lemmas.List.{map_push, map_more, take_all}
-use Rattle.std.proofs.lemmas.Bool.{and_from}
-use Rattle.fs_model.proofs.Lists.{drop_next}
 use Rattle.nf_terms.specs.NormalTerms.{Atom, Monomial, Polynomial, ArrayTerm, Over, monomial_of, polynomial_of, writes_of}
 use Rattle.nf_terms.specs.View.{atom_in, monomial_in, polynomial_in, term_in, write_in}
 use Rattle.nf_terms.specs.declared.tree.Atom.{Atom as AtomTree}
@@ -12,14 +10,12 @@ use Rattle.nf_terms.specs.declared.tree.Base.{Base}
 use Rattle.nf_bank.specs.declared.node.AtomId.{AtomId}
 use Rattle.nf_bank.specs.declared.node.Term.{Term}
 use Rattle.nf_bank.specs.declared.node.Write.{Write}
-use Rattle.nf_bank.specs.Atoms.{holds_atom, atom_place, IsFront}
-use Rattle.nf_bank.specs.HeldAtoms.{holds_monomial, holds_terms, holds_writes}
+use Rattle.nf_bank.specs.Atoms.{atom_place, IsFront}
 use Rattle.nf_bank.specs.AtomNumbers.{bound_over, bound_of_number, bound_of_term, bound_of_write, bound_of_sum, atom_of_number, scaled_monomial_over, sum_over}
 use Rattle.nf_bank.specs.AtomNumbers.{write_over, SpellsOverAtoms, SpellsMonomial, SpellsSum, SpellsArray}
 use Rattle.nf_bank.proofs.Bounds.{bound_push, max_both}
 use Rattle.nf_bank.proofs.Places.{found_at}
 use Rattle.nf_bank.proofs.Growing.{Grows, sums_grow, spells_list, spells_more}
-use Rattle.nf_bank.proofs.Closed.{monomial_held, sum_held}
 
 module _ {N V T : Type 0} (bound : N → ℕ) (over : List Atom → N → V) (seen : T → V) where
   -- numbers spell the first items of a list
@@ -81,32 +77,3 @@ pub write_spells : (first atoms : List Atom) (i v : List Term) (x : PolyTree × 
 write_spells first atoms i v x f s t =
     let r = spells_more bound_of_sum sum_over sums_grow first atoms i (polynomial_in x.0) f s in
     record { within = max_both (bound_of_sum i) (bound_of_sum v) (length atoms) r.within t.within; is = λ k. (r.is k, t.is k) }
-
--- ---- what is left, where an item is there
-
-module _ (atoms : List Atom) where
-  pub monomial_there : (items : List AtomTree) (k : ℕ) (x : AtomTree) → k < length items → x ≡ get_or items k x → holds_atom (atom_in x) atoms ≡ true
-      → holds_monomial (monomial_of (map atom_in (drop (k + 1) items))) atoms ≡ holds_monomial (monomial_of (map atom_in (drop k items))) atoms
-  monomial_there items k x h e t =
-      sym (ap (λ l. holds_monomial (monomial_of (map atom_in l)) atoms) (drop_next items k x h e)
-      ∙ ap (λ b. b && holds_monomial (monomial_of (map atom_in (drop (k + 1) items))) atoms) t)
-
-  pub sum_there : (items : List (MonoTree × ℤ)) (k : ℕ) (x : MonoTree × ℤ) (ids : List AtomId) → k < length items → x ≡ get_or items k x
-      → SpellsMonomial atoms ids (monomial_in x.0)
-      → holds_terms (polynomial_of (map term_in (drop (k + 1) items))) atoms ≡ holds_terms (polynomial_of (map term_in (drop k items))) atoms
-  sum_there items k x ids h e s =
-      let t = subst (λ m. holds_monomial m atoms ≡ true) s.is (monomial_held atoms ids s.within) in
-      sym (ap (λ l. holds_terms (polynomial_of (map term_in l)) atoms) (drop_next items k x h e)
-      ∙ ap (λ b. b && holds_terms (polynomial_of (map term_in (drop (k + 1) items))) atoms) t)
-
-  pub writes_there : (items : List (PolyTree × PolyTree)) (k : ℕ) (x : PolyTree × PolyTree) (i v : List Term) → k < length items → x ≡ get_or items k x
-      → SpellsSum atoms i (polynomial_in x.0) → SpellsSum atoms v (polynomial_in x.1)
-      → holds_writes (writes_of (map write_in (drop (k + 1) items))) atoms ≡ holds_writes (writes_of (map write_in (drop k items))) atoms
-  writes_there items k x i v h e s t =
-      let f = subst (λ p. holds_terms p atoms ≡ true) s.is (sum_held atoms i s.within) in
-      let g = subst (λ p. holds_terms p atoms ≡ true) t.is (sum_held atoms v t.within) in
-      sym
-      (ap (λ l. holds_writes (writes_of (map write_in l)) atoms) (drop_next items k x h e)
-      ∙ ap (λ b. b && holds_writes (writes_of (map write_in (drop (k + 1) items))) atoms)
-      (and_from (holds_terms (polynomial_in x.0) atoms) (holds_terms (polynomial_in x.1) atoms) f g)
-      )

@@ -1,13 +1,12 @@
 //! Atoms, each once, by their numbers.
 
-ghost use Rattle.std.specs.Prelude.{◌≡◌, ◌<◌, ◌≤◌, [], length, take, slice_get, false, Some, None, Option, MatchOption, is_some};
+ghost use Rattle.std.specs.Prelude.{◌≡◌, ◌<◌, ◌≤◌, [], length, take, slice_get, Some, None};
 ghost use Rattle.std.specs.Prelude.{IfOk, OnOk, OnErr};
 ghost use Rattle.nf_terms.specs.View.{atom_in};
-ghost use Rattle.nf_bank.specs.Atoms.{holds_atom, atom_place, with_one, with_atom, IsBank, IsFront};
+ghost use Rattle.nf_bank.specs.Atoms.{atom_place, with_one, with_atom, IsBank, IsFront};
 ghost use Rattle.nf_bank.specs.HeldAtoms.{IsClosedUnderAtoms};
 ghost use Rattle.nf_bank.specs.AtomNumbers.{bound_of_node, atom_of_number, atom_over};
 
-use crate::lookup::{Missing, find_atom};
 pub use crate::node::AtomId;
 use crate::node::Node;
 use crate::numbering::put_atom;
@@ -56,20 +55,6 @@ impl Bank {
         ensures bank { IsBank self.now }
     {
         self.nodes.len() as u64
-    }
-
-    /// The number of an atom, if it is there. The one refusal is out of memory.
-    pub fn find(&self, alloc: Global, a: &Atom) -> Result<Option<AtomId>, NoMemory>
-        ensures place { IfOk result
-            (λ found. MatchOption found (atom_place (atom_in a.now) self.now ≡ None)
-            (λ id. atom_place (atom_in a.now) self.now ≡ Some id.0)) }
-        ensures there { IfOk result (λ found. is_some found ≡ holds_atom (atom_in a.now) self.now) }
-    {
-        match find_atom(alloc, self, a) {
-            Ok(id) => Ok(Some(id)),
-            Err(Missing::Absent) => Ok(None),
-            Err(Missing::NoMemory) => Err(NoMemory),
-        }
     }
 
     /// The number of an atom. Where it is not there, the atoms in it that are not there and then the atom itself are put last.
@@ -126,18 +111,6 @@ impl Bank {
         ensures { IsClosedUnderAtoms self.now }
     {
         let _nodes = &self.nodes; // The read tells the proof what the type promises of its values.
-    }
-
-    // The number of the atom of a node, if it is there.
-    pub(crate) fn find_node(&self, node: &Node) -> Option<AtomId>
-        requires { bound_of_node node.now ≤ length self.now }
-        ensures { MatchOption result (holds_atom (atom_over self.now node.now) self.now ≡ false)
-            (λ id. atom_place (atom_over self.now node.now) self.now ≡ Some id.0) }
-    {
-        match self.nodes.get_index_of(node) {
-            Some(place) => Some(AtomId(place as u64)),
-            None => None,
-        }
     }
 
     // The number of the atom of a node, which is put last if it is not there.
