@@ -1,14 +1,15 @@
 //! Copies of expressions, guards and assignments, with their variables renamed or not.
 
-ghost use Rattle.std.specs.Prelude.{◌≡◌, map, IfOk};
+ghost use Rattle.std.specs.Prelude.{◌≡◌, map, IfOk, Ok};
 ghost use Rattle.fs_model.specs.View.{term_by, literal_by, guard_by, assignment_by, term_of, literal_of, guard_of, assignment_of};
 ghost use Rattle.fs_model.specs.View.{declaration_of};
-ghost use Rattle.fs_model.specs.Terms.{Read, Negative, Not, ArrayWrite};
+ghost use Rattle.fs_model.specs.Terms as terms;
+ghost use Rattle.fs_model.specs.Terms.{Term, Literal, Read, Negative, Test, Not, ArrayWrite};
 ghost use Rattle.fs_model.specs.Trees.{negated_literal};
 ghost use Rattle.fs_model.specs.Renamed.{term_over, literal_over, guard_over, assignment_over, term_with_operands};
 ghost use Rattle.fs_model.specs.Renamed.{guard_with_parts};
 
-use crate::memory::{both_boxed, push_value, put_in_box};
+use crate::memory::{push_value, put_in_box};
 use crate::name::{Name, NoMemory};
 use crate::parts::{Assign, Decl, Expr, Guard, Lit, VarId};
 use std::alloc::Global;
@@ -54,18 +55,47 @@ impl Rename<Name> for Unrenamed {
     }
 }
 
-// The expression of the same operator between other operands.
+// What was made, in a box.
+fn made_in_box<T: Drop>(alloc: Global, made: Result<T, NoMemory>) -> Result<Box<T>, NoMemory>
+    ensures { IfOk result (λ b. made ≡ Ok b.value) }
+{
+    put_in_box(alloc, made?)
+}
+
+// Two values that were made, each in a box of its own.
+fn both_in_boxes<T: Drop>(
+    alloc: Global,
+    left: Result<T, NoMemory>,
+    right: Result<T, NoMemory>,
+) -> Result<(Box<T>, Box<T>), NoMemory>
+    ensures left { IfOk result (λ p. left ≡ Ok p.0.value) }
+    ensures right { IfOk result (λ p. right ≡ Ok p.1.value) }
+{
+    Ok((made_in_box(alloc, left)?, made_in_box(alloc, right)?))
+}
+
+// Two values that were made.
+fn both<A: Drop, B: Drop>(
+    left: Result<A, NoMemory>,
+    right: Result<B, NoMemory>,
+) -> Result<(A, B), NoMemory>
+    ensures left { IfOk result (λ p. left ≡ Ok p.0) }
+    ensures right { IfOk result (λ p. right ≡ Ok p.1) }
+{
+    Ok((left?, right?))
+}
+
+// The expression of the same operator between other operands, where these were made.
 fn same_operator<V, W: Drop>(
     alloc: Global,
     expr: &Expr<V>,
-    left: Expr<W>,
-    right: Expr<W>,
+    left: Result<Expr<W>, NoMemory>,
+    right: Result<Expr<W>, NoMemory>,
 ) -> Result<Expr<W>, NoMemory>
-    ensures { IfOk result
-        (λ e. term_by (λ x. x) e ≡ term_with_operands (term_by (λ x. x) expr.now) (term_by (λ x. x) left)
-        (term_by (λ x. x) right)) }
+    ensures { (a b : Term W) → IfOk left (λ e. term_by (λ x. x) e ≡ a) → IfOk right (λ e. term_by (λ x. x) e ≡ b)
+        → IfOk result (λ e. term_by (λ x. x) e ≡ term_with_operands (term_by (λ x. x) expr.now) a b) }
 {
-    let (left, right) = both_boxed(alloc, left, right)?;
+    let (left, right) = both_in_boxes(alloc, left, right)?;
     Ok(match expr {
         Expr::Sub(..) => Expr::Sub(left, right),
         Expr::Mul(..) => Expr::Mul(left, right),
@@ -75,50 +105,58 @@ fn same_operator<V, W: Drop>(
     })
 }
 
-// An expression with its sign changed.
-fn negative<W: Drop>(alloc: Global, expr: Expr<W>) -> Result<Expr<W>, NoMemory>
-    ensures { IfOk result (λ e. term_by (λ x. x) e ≡ Negative (term_by (λ x. x) expr)) }
+// An expression that was made, with its sign changed.
+fn negative<W: Drop>(alloc: Global, expr: Result<Expr<W>, NoMemory>) -> Result<Expr<W>, NoMemory>
+    ensures { (a : Term W) → IfOk expr (λ e. term_by (λ x. x) e ≡ a) → IfOk result (λ e. term_by (λ x. x) e ≡ Negative a) }
 {
-    Ok(Expr::Neg(put_in_box(alloc, expr)?))
+    Ok(Expr::Neg(made_in_box(alloc, expr)?))
 }
 
-// The element of a renamed array at an index.
+// The element of a renamed array at an index that was made.
 fn renamed_element<V, R: Rename<V>>(
     alloc: Global,
     array: &V,
-    index: Expr<R::To>,
+    index: Result<Expr<R::To>, NoMemory>,
     by: &R,
 ) -> Result<Expr<R::To>, NoMemory>
     requires { R.can_rename by.now }
-    ensures { IfOk result (λ e. term_by (λ x. x) e ≡ Read (R.renamed by.now array.now) (term_by (λ x. x) index)) }
+    ensures { (a : Term R.To) → IfOk index (λ e. term_by (λ x. x) e ≡ a)
+        → IfOk result (λ e. term_by (λ x. x) e ≡ Read (R.renamed by.now array.now) a) }
 {
-    let index = put_in_box(alloc, index)?;
+    let index = made_in_box(alloc, index)?;
     Ok(Expr::Read(by.rename(alloc, array)?, index))
 }
 
-// The guard of the same connective between other guards.
+// The guard that is a literal that was made.
+fn test<W: Drop>(lit: Result<Lit<W>, NoMemory>) -> Result<Guard<W>, NoMemory>
+    ensures { (a : Literal W) → IfOk lit (λ l. literal_by (λ x. x) l ≡ a) → IfOk result (λ g. guard_by (λ x. x) g ≡ Test a) }
+{
+    Ok(Guard::Lit(lit?))
+}
+
+// The guard of the same connective between other guards, where these were made.
 fn same_connective<V, W: Drop>(
     alloc: Global,
     guard: &Guard<V>,
-    left: Guard<W>,
-    right: Guard<W>,
+    left: Result<Guard<W>, NoMemory>,
+    right: Result<Guard<W>, NoMemory>,
 ) -> Result<Guard<W>, NoMemory>
-    ensures { IfOk result
-        (λ g. guard_by (λ x. x) g ≡ guard_with_parts (guard_by (λ x. x) guard.now) (guard_by (λ x. x) left)
-        (guard_by (λ x. x) right)) }
+    ensures { (a b : terms.Guard W) → IfOk left (λ g. guard_by (λ x. x) g ≡ a) → IfOk right (λ g. guard_by (λ x. x) g ≡ b)
+        → IfOk result (λ g. guard_by (λ x. x) g ≡ guard_with_parts (guard_by (λ x. x) guard.now) a b) }
 {
-    let (left, right) = both_boxed(alloc, left, right)?;
+    let (left, right) = both_in_boxes(alloc, left, right)?;
     Ok(match guard {
         Guard::Or(..) => Guard::Or(left, right),
         _ => Guard::And(left, right),
     })
 }
 
-// The guard that holds where one does not.
-fn denial<W: Drop>(alloc: Global, guard: Guard<W>) -> Result<Guard<W>, NoMemory>
-    ensures { IfOk result (λ g. guard_by (λ x. x) g ≡ Not (guard_by (λ x. x) guard)) }
+// The guard that holds where one that was made does not.
+fn denial<W: Drop>(alloc: Global, guard: Result<Guard<W>, NoMemory>) -> Result<Guard<W>, NoMemory>
+    ensures { (a : terms.Guard W) → IfOk guard (λ g. guard_by (λ x. x) g ≡ a)
+        → IfOk result (λ g. guard_by (λ x. x) g ≡ Not a) }
 {
-    Ok(Guard::Not(put_in_box(alloc, guard)?))
+    Ok(Guard::Not(made_in_box(alloc, guard)?))
 }
 
 // A variable and an expression, renamed.
@@ -132,8 +170,7 @@ fn rename_with_value<V, R: Rename<V>>(
     ensures variable { IfOk result (λ p. p.0 ≡ R.renamed by.now variable.now) }
     ensures value { IfOk result (λ p. term_by (λ x. x) p.1 ≡ term_over (R.renamed by.now) (term_by (λ x. x) value.now)) }
 {
-    let value = value.copy_renamed(alloc, by)?;
-    Ok((by.rename(alloc, variable)?, value))
+    both(by.rename(alloc, variable), value.copy_renamed(alloc, by))
 }
 
 impl<V> Expr<V> {
@@ -145,16 +182,18 @@ impl<V> Expr<V> {
         match self {
             Expr::Num(n) => Ok(Expr::Num(*n)),
             Expr::Var(x) => Ok(Expr::Var(by.rename(alloc, x)?)),
-            Expr::Read(x, index) => renamed_element(alloc, x, index.copy_renamed(alloc, by)?, by),
+            Expr::Read(x, index) => renamed_element(alloc, x, index.copy_renamed(alloc, by), by),
             Expr::Add(a, b)
             | Expr::Sub(a, b)
             | Expr::Mul(a, b)
             | Expr::Div(a, b)
-            | Expr::Rem(a, b) => {
-                let left = a.copy_renamed(alloc, by)?;
-                same_operator(alloc, self, left, b.copy_renamed(alloc, by)?)
-            }
-            Expr::Neg(a) => negative(alloc, a.copy_renamed(alloc, by)?),
+            | Expr::Rem(a, b) => same_operator(
+                alloc,
+                self,
+                a.copy_renamed(alloc, by),
+                b.copy_renamed(alloc, by),
+            ),
+            Expr::Neg(a) => negative(alloc, a.copy_renamed(alloc, by)),
         }
     }
 }
@@ -165,10 +204,14 @@ impl<V> Lit<V> {
         requires { R.can_rename by.now }
         ensures { IfOk result (λ l. literal_by (λ x. x) l ≡ literal_over (R.renamed by.now) (literal_by (λ x. x) self.now)) }
     {
+        let (left, right) = both(
+            self.left.copy_renamed(alloc, by),
+            self.right.copy_renamed(alloc, by),
+        )?;
         Ok(Lit {
             rel: self.rel,
-            left: self.left.copy_renamed(alloc, by)?,
-            right: self.right.copy_renamed(alloc, by)?,
+            left,
+            right,
         })
     }
 }
@@ -184,12 +227,14 @@ impl<V> Guard<V> {
         ensures { IfOk result (λ g. guard_by (λ x. x) g ≡ guard_over (R.renamed by.now) (guard_by (λ x. x) self.now)) }
     {
         match self {
-            Guard::Lit(lit) => Ok(Guard::Lit(lit.copy_renamed(alloc, by)?)),
-            Guard::Not(a) => denial(alloc, a.copy_renamed(alloc, by)?),
-            Guard::And(a, b) | Guard::Or(a, b) => {
-                let left = a.copy_renamed(alloc, by)?;
-                same_connective(alloc, self, left, b.copy_renamed(alloc, by)?)
-            }
+            Guard::Lit(lit) => test(lit.copy_renamed(alloc, by)),
+            Guard::Not(a) => denial(alloc, a.copy_renamed(alloc, by)),
+            Guard::And(a, b) | Guard::Or(a, b) => same_connective(
+                alloc,
+                self,
+                a.copy_renamed(alloc, by),
+                b.copy_renamed(alloc, by),
+            ),
         }
     }
 }

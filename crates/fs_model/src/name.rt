@@ -1,14 +1,15 @@
 //! Names of variables and states.
 
-ghost use Rattle.std.specs.Prelude.{◌≡◌, ℕ, false, IsTrue, IfOk, MatchOption};
-ghost use Rattle.std.specs.List.{list_all};
+ghost use Rattle.std.specs.Prelude.{◌≡◌, ℕ, false, IsTrue, IfOk, MatchOption, drop};
+ghost use Rattle.std.specs.List.{list_all, list_any};
 ghost use Rattle.std.specs.Str.{bytes_eq};
 ghost use Rattle.std.proofs.Common.{rules};
 ghost use Rattle.std.specs.Cmp.Rules.{comparing};
 ghost use Rattle.std.specs.Cmp.{partial_order_from_own_ties};
 ghost use Rattle.std.specs.Ordering.{nat_cmp, as_partial_cmp};
 ghost use Rattle.std.specs.Cmp.Lexicographic.{slice_cmp};
-ghost use Rattle.fs_model.specs.Words.{is_letter, is_digit, is_word_byte, is_word, is_reserved, is_name};
+ghost use Rattle.fs_model.specs.Words.{is_letter, is_digit, is_word_byte, is_word, is_reserved, reserved_words};
+ghost use Rattle.fs_model.specs.Words.{is_name};
 
 use crate::limits::NAME_LIMIT;
 use std::alloc::Global;
@@ -54,6 +55,19 @@ pub fn is_word(bytes: &[u8]) -> bool
     }
 }
 
+// Whether the bytes are one of the reserved words from the seventh on.
+fn is_later_reserved(bytes: &[u8]) -> bool
+    ensures { result ≡ list_any (bytes_eq bytes.now) (drop 6 reserved_words) }
+{
+    bytes == b"state".as_slice()
+        || bytes == b"when".as_slice()
+        || bytes == b"goto".as_slice()
+        || bytes == b"start".as_slice()
+        || bytes == b"done".as_slice()
+        || bytes == b"emit".as_slice()
+        || bytes == b"port".as_slice()
+}
+
 /// Whether the bytes are a word of the language, which is not a name.
 pub fn is_reserved(bytes: &[u8]) -> bool
     ensures { result ≡ is_reserved bytes.now }
@@ -64,13 +78,7 @@ pub fn is_reserved(bytes: &[u8]) -> bool
         || bytes == b"local".as_slice()
         || bytes == b"array".as_slice()
         || bytes == b"reset".as_slice()
-        || bytes == b"state".as_slice()
-        || bytes == b"when".as_slice()
-        || bytes == b"goto".as_slice()
-        || bytes == b"start".as_slice()
-        || bytes == b"done".as_slice()
-        || bytes == b"emit".as_slice()
-        || bytes == b"port".as_slice()
+        || is_later_reserved(bytes)
 }
 
 /// Whether the bytes are a name: a word of at most 32 bytes that is not reserved.
