@@ -325,10 +325,11 @@ impl Lit<VarId> {
     pub fn negation(&self, alloc: Global) -> Result<Lit<VarId>, NoMemory>
         ensures { IfOk result (λ l. literal_of l ≡ negated_literal (literal_of self.now)) }
     {
+        let (left, right) = both(self.left.try_clone(alloc), self.right.try_clone(alloc))?;
         Ok(Lit {
             rel: self.rel.negated(),
-            left: self.left.try_clone(alloc)?,
-            right: self.right.try_clone(alloc)?,
+            left,
+            right,
         })
     }
 }
