@@ -9,7 +9,8 @@ use Rattle.term_text.specs.declared.starts.DivisionKind.{DivisionKind}
 use Rattle.term_text.specs.declared.starts.DivisionKind.TheVariants as kinds
 use Rattle.term_text.specs.TermTexts.{Atom, Polynomial, Symbol, Quotient, Remainder}
 use Rattle.term_text.specs.View.{base_in}
-use Rattle.term_text.specs.Machine.{Owed, ForPolynomial, ForAtom, read_of, dividend, divisor, modulend, modulus, expect, at_polynomial}
+use Rattle.term_text.specs.Machine.{Owed, ForPolynomial, ForAtom, read_of, dividend, divisor, modulend}
+use Rattle.term_text.specs.Machine.{modulus, expect, at_polynomial}
 use Rattle.term_text.specs.Machine.{after_array, after_polynomial, atom_done, term_reading}
 
 -- what the two sides of a division are for, and what is made of them

@@ -55,5 +55,5 @@ returns-clause-measured c =
     subst (λ x. stand_before m (terms_in (take k x)) ≡ true) c.deref.ensures.value c.place_of-place.ensures.before in
     let old : begins_with m (terms_in (drop k l)) ≡ true =
     subst (λ x. begins_with m (terms_in (drop k x)) ≡ true) c.deref-2.ensures.value (sym c.stands_at.ensures ∙ c.if-not-stands_at.false) in
-    old_measured l c.args.sum.now.size c.args.sum.now.weight k m c.args.coefficient.now c.requires.measured c.requires.term c.requires.small c.requires.narrow before
-    (terms_in c.add_at.new.sum.terms.items) old c.add_at.ensures.sum c.add_at.new.sum.size c.add_at.new.sum.weight c.add_at.ensures.size c.add_at.ensures.weight
+    old_measured l c.args.sum.now.size c.args.sum.now.weight k m c.args.coefficient.now c.requires.measured c.requires.term c.requires.small
+    c.requires.narrow before (terms_in c.add_at.new.sum.terms.items) old c.add_at.ensures.sum c.add_at.new.sum.size c.add_at.new.sum.weight c.add_at.ensures.size c.add_at.ensures.weight

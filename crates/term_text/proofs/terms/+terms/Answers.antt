@@ -331,7 +331,8 @@ writes-inside-requires t c =
     let there = found c.rest_after.result c.in-Some.after 123 c.loop-after.rest.now c.rest_after.ensures.rest c.in-Some.is in
     let less = rest_after_shorter 123 c.loop-after.rest.now c.in-Some.after.now there in
     let e : opened_measure c.colon.result < t = opened_less _ t c.colon.result c.colon.ensures.shorter
-    (omega (arith, c.in_ok-index-in-Some.ensures.shorter, less, c.loop-after.invariant.1, c.decreases)) (omega (arith, less, c.loop-after.invariant.1, c.decreases)) in
+    (omega (arith, c.in_ok-index-in-Some.ensures.shorter, less, c.loop-after.invariant.1, c.decreases))
+    (omega (arith, less, c.loop-after.invariant.1, c.decreases)) in
     search (rules, e)
 
 pub inside-polynomial-requires : goal.inside-polynomial-requires
