@@ -1,7 +1,6 @@
 //! Equations over held symbols.
 
-ghost use Rattle.std.specs.Prelude.{◌≡◌, cond, IfOk, Some, None};
-ghost use Rattle.fs_model.specs.declared.parts.Sort.TheVariants as variable;
+ghost use Rattle.std.specs.Prelude.{◌≡◌, cond, Some, None};
 ghost use Rattle.nf_terms.specs.NormalTerms.{polynomial_of_symbol};
 ghost use Rattle.nf_terms.specs.Computed.{Answers, Done, after};
 ghost use Rattle.nf_terms.specs.declared.form.Nf.TheVariants as form;
@@ -21,7 +20,7 @@ use nf_substitution::subst::Subst;
 use nf_substitution::vector::Vector;
 use nf_terms::form::Nf;
 use nf_terms::poly::Poly;
-use nf_terms::stop::{NfStop, NoMemory};
+use nf_terms::stop::NfStop;
 use nf_terms::tree::Pos;
 use std::alloc::Global;
 use sym_facts::entailment::{leaves_form, substitute};
@@ -48,23 +47,6 @@ fn held_tie(
     tie_to(alloc, q, &held)
 }
 
-// A number, tied to one number that is freed.
-fn number_tied_to(
-    alloc: Global,
-    s: &mut Subst<'_>,
-    v: &Vector,
-    meanings: &Vector,
-    number: &Poly,
-    q: &Pos,
-) -> Result<Option<Nf>, NfStop>
-    requires { s.old.vector ≡ meanings.now }
-    ensures answers { Answers result (number_tied_to v.now meanings.now number.now variable.Scalar q.now (Done None)) }
-    ensures vector { s.new.vector ≡ s.old.vector }
-{
-    let difference = difference_from(alloc, v, number, q)?;
-    held_tie(alloc, s, meanings, &difference, q)
-}
-
 // A number, tied to one position that is freed.
 fn tied_to(
     alloc: Global,
@@ -79,7 +61,10 @@ fn tied_to(
     ensures vector { s.new.vector ≡ s.old.vector }
 {
     match q.sort {
-        Sort::Scalar => number_tied_to(alloc, s, v, meanings, number, &q.pos),
+        Sort::Scalar => {
+            let difference = difference_from(alloc, v, number, &q.pos)?;
+            held_tie(alloc, s, meanings, &difference, &q.pos)
+        }
         Sort::Array | Sort::Port => Ok(None),
     }
 }
@@ -106,13 +91,8 @@ fn number_tied(
 }
 
 // An array or a list, tied to the first position that is freed that has the same.
-fn form_tied(
-    alloc: Global,
-    v: &Vector,
-    form: &Nf,
-    freed: &[Position],
-) -> Result<Option<Nf>, NoMemory>
-    ensures { IfOk result (λ o. o ≡ form_tied v.now form.now freed.now) }
+fn form_tied(alloc: Global, v: &Vector, form: &Nf, freed: &[Position]) -> Result<Option<Nf>, NfStop>
+    ensures { Answers result (Done (form_tied v.now form.now freed.now)) }
 {
     for q in freed {
         let value = value_at(alloc, v, q.sort, &q.pos)?;
@@ -139,7 +119,7 @@ fn tie_freed_form(
 {
     match form {
         Nf::Num(number) => number_tied(alloc, s, v, meanings, number, freed),
-        Nf::Arr(_) | Nf::Seq(_) => Ok(form_tied(alloc, v, form, freed)?),
+        Nf::Arr(_) | Nf::Seq(_) => form_tied(alloc, v, form, freed),
     }
 }
 

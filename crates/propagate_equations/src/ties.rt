@@ -157,8 +157,8 @@ fn form_tied(
     p: &Pos,
     form: &Nf,
     freed: &[Freed<'_>],
-) -> Result<Option<Nf>, NoMemory>
-    ensures { IfOk result (λ o. o ≡ form_tied v.now p.now form.now (map freed_in freed.now)) }
+) -> Result<Option<Nf>, NfStop>
+    ensures { Answers result (Done (form_tied v.now p.now form.now (map freed_in freed.now))) }
 {
     for other in freed {
         if is_alike(alloc, v, p, form, other)? {
@@ -186,6 +186,6 @@ pub fn tie_equation(
 {
     match form {
         Nf::Num(number) => number_tied(alloc, s, v, p, number, freed),
-        Nf::Arr(_) | Nf::Seq(_) => Ok(form_tied(alloc, v, p, form, freed)?),
+        Nf::Arr(_) | Nf::Seq(_) => form_tied(alloc, v, p, form, freed),
     }
 }
