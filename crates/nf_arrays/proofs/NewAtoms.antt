@@ -4,7 +4,8 @@ use Rattle.std.proofs.lemmas.Bool.{leb-true, and_from}
 use Rattle.base_laws.proofs.Booleans.{and_first}
 use Rattle.nf_terms.specs.NormalTerms.{Polynomial, ArrayTerm, Read, Quotient, Remainder, One, Times, Zero, Plus}
 use Rattle.nf_terms.specs.Measures.{weight_of}
-use Rattle.nf_terms.specs.Normal.{IsNormal, IsNormalArray, ordered, ordered_array, stays_read, is_constant, constant_part, is_light, narrow_inside, narrow_array}
+use Rattle.nf_terms.specs.Normal.{IsNormal, IsNormalArray, ordered, ordered_array, stays_read, is_constant, constant_part, is_light, narrow_inside}
+use Rattle.nf_terms.specs.Normal.{narrow_array}
 use Rattle.nf_terms.specs.TermLimits.{weight_limit}
 use Rattle.nf_terms.specs.Normal.{constant_sum}
 use Rattle.nf_sums.proofs.Constants.{constant_is}

@@ -30,7 +30,8 @@ returns-then-not-stands_at-clause-measured c =
     subst (λ x. begins_behind m (terms_in (drop k x)) ≡ true) c.deref.ensures.value c.place_of-place.ensures.behind in
     let new : begins_with m (terms_in (drop k l)) ≡ false =
     subst (λ x. begins_with m (terms_in (drop k x)) ≡ false) c.deref-2.ensures.value (sym c.stands_at.ensures ∙ c.if-not-stands_at.true) in
-    new_measured l c.args.sum.now.size c.args.sum.now.weight k m c.args.coefficient.now c.requires.measured c.requires.term c.requires.small c.requires.narrow before
+    new_measured l c.args.sum.now.size c.args.sum.now.weight k m c.args.coefficient.now c.requires.measured c.requires.term
+    c.requires.small c.requires.narrow before
     (terms_in c.put_at.new.sum.terms.items) behind new c.in_ok-put_at.ensures.sum c.put_at.new.sum.size c.put_at.new.sum.weight
     c.in_ok-put_at.ensures.size c.in_ok-put_at.ensures.weight
 
@@ -56,4 +57,5 @@ returns-clause-measured c =
     let old : begins_with m (terms_in (drop k l)) ≡ true =
     subst (λ x. begins_with m (terms_in (drop k x)) ≡ true) c.deref-2.ensures.value (sym c.stands_at.ensures ∙ c.if-not-stands_at.false) in
     old_measured l c.args.sum.now.size c.args.sum.now.weight k m c.args.coefficient.now c.requires.measured c.requires.term c.requires.small
-    c.requires.narrow before (terms_in c.add_at.new.sum.terms.items) old c.add_at.ensures.sum c.add_at.new.sum.size c.add_at.new.sum.weight c.add_at.ensures.size c.add_at.ensures.weight
+    c.requires.narrow before (terms_in c.add_at.new.sum.terms.items) old c.add_at.ensures.sum
+    c.add_at.new.sum.size c.add_at.new.sum.weight c.add_at.ensures.size c.add_at.ensures.weight
