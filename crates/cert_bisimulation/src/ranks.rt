@@ -16,8 +16,8 @@ fn same_alone(mode: Mode, next: Mode) -> bool
     }
 }
 
-/// Whether the rank falls from a node to the next one, by their modes and ranks, where it has to: where one machine moves alone in
-/// both modes, and it is the same.
+/// Whether the rank falls from a node to the next one, by their modes and ranks, where it has to: where one machine moves
+/// alone in both modes, and it is the same.
 pub fn rank_falls(mode: Mode, rank: u32, next: Mode, next_rank: u32) -> bool
     ensures { result ≡ not (same_alone mode next) || nat_lt next_rank rank }
 {
