@@ -1,6 +1,6 @@
 //! Worked examples of what the program answers, by the one call that it makes, over files in memory: texts, the rules of
 //! machines, runs, inputs that are made small, synthesis, certificates and pairs of machines; and of words, candidates and
-//! inputs, by calls of their own.
+//! inputs, of files and sinks, of terms and of straight lines, by calls of their own (`layers` has the last three).
 //!
 //! The crate gives nothing. Most modules are a text of tables, and a test asserts all tables of some modules. An empty line
 //! parts two tables. A table is its head, a line `:`, and its rows, one a line, whose cells `¦` parts. The head has remarks, a
@@ -43,6 +43,8 @@ mod faults;
 mod fronts;
 #[cfg(test)]
 mod interfaces;
+#[cfg(test)]
+mod layers;
 #[cfg(test)]
 mod limits;
 #[cfg(test)]

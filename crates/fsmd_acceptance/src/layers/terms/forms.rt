@@ -3,8 +3,8 @@
 //! The words are those of trees, and more: `-` stands behind two sums and `neg` behind one; `#s` is the list s and `#0` the
 //! empty one, and `<<` stands behind a list and an item.
 
-use crate::terms::operators::{Operator, operator_of};
-use crate::terms::trees::{Tree, from_end, operand, position, put_last, tree_of};
+use crate::layers::terms::operators::{Operator, operator_of};
+use crate::layers::terms::trees::{Tree, from_end, operand, position, put_last, tree_of};
 use nf_arrays::division::{div, rem};
 use nf_arrays::pushes::push;
 use nf_arrays::reads::read;

@@ -1,6 +1,6 @@
 //! Assertions of rows, by the kind of what they say.
 
-use crate::terms::{calls, literals, measures, normal, operations, orders, substitutions};
+use crate::layers::terms::{calls, literals, measures, normal, operations, orders, substitutions};
 use nf_terms::stop::NfStop;
 use std::alloc::Global;
 use std::process::Abort;

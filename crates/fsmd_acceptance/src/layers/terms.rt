@@ -3,7 +3,7 @@
 //! The rows of each table are of one kind, and its first line has its name. A text in a row is a list of words, each behind what
 //! it works on, as in `a b + 2 *`.
 
-use crate::terms::rows::{Kind, each};
+use crate::layers::terms::rows::{Kind, each};
 
 mod calls;
 mod forms;

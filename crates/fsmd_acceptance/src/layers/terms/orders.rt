@@ -1,6 +1,6 @@
 //! The order of terms.
 
-use crate::terms::forms::form;
+use crate::layers::terms::forms::form;
 use nf_terms::form::Nf;
 use nf_terms::stop::NfStop;
 use std::alloc::Global;

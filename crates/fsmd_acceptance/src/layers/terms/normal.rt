@@ -1,7 +1,7 @@
 //! Which trees are normal forms.
 
-use crate::terms::forms::normal;
-use crate::terms::trees::tree_of;
+use crate::layers::terms::forms::normal;
+use crate::layers::terms::trees::tree_of;
 use nf_terms::stop::NfStop;
 use std::alloc::Global;
 

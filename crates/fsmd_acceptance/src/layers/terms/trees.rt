@@ -5,7 +5,7 @@
 //! behind two monomials, `/` and `%` behind a dividend and a divisor, `[]` behind an array and an index, and `{}` behind an
 //! array, an index and a value. `a^3` is the product of three a, and `m~3` is m read at m read at m read at 0.
 
-use crate::terms::operators::{Operator, operator_of};
+use crate::layers::terms::operators::{Operator, operator_of};
 use nf_terms::atoms::{make_quotient, make_read, make_remainder};
 use nf_terms::stop::NfStop;
 use nf_terms::tree::{ArrTree, Atom, Base, MonoTree, PolyTree, Pos, Side};

@@ -1,8 +1,8 @@
 //! Calls that take memory, each with ample memory.
 
-use crate::terms::forms::{form, normal, sum};
-use crate::terms::operations::is_written;
-use crate::terms::trees::{Tree, position};
+use crate::layers::terms::forms::{form, normal, sum};
+use crate::layers::terms::operations::is_written;
+use crate::layers::terms::trees::{Tree, position};
 use nf_bank::bank::{AtomId, Bank};
 use nf_substitution::vector::Vector;
 use nf_symbols::gathering::symbols_of_nf;

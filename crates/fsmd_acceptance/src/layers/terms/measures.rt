@@ -1,6 +1,6 @@
 //! Sizes, depths and weights.
 
-use crate::terms::forms::written_form;
+use crate::layers::terms::forms::written_form;
 use nf_terms::form::Nf;
 use nf_terms::stop::NfStop;
 use std::alloc::Global;

@@ -1,6 +1,6 @@
 //! What operations give, and where they stop.
 
-use crate::terms::forms::{form, written_form};
+use crate::layers::terms::forms::{form, written_form};
 use nf_sums::sums::number;
 use nf_terms::form::Nf;
 use nf_terms::stop::NfStop;

@@ -2,8 +2,8 @@
 
 ghost use Rattle.std.specs.Prelude.{◌<◌};
 
-use crate::terms::forms::{is_sum, sum};
-use crate::terms::trees::put_last;
+use crate::layers::terms::forms::{is_sum, sum};
+use crate::layers::terms::trees::put_last;
 use fs_model::parts::Rel;
 use nf_refutation::refutation::{Places, is_refuted, refuted};
 use nf_rel::clashes::{clash, implied, negate};
