@@ -9,6 +9,7 @@ ghost use Rattle.nf_terms.specs.TermLimits.{weight_limit};
 ghost use Rattle.nf_rel.specs.Gcd.{gcd};
 ghost use Rattle.nf_rel.specs.Literals.{common_divisor, divide_coefficients};
 
+use nf_sums::copies::push_term_copy;
 use nf_terms::constants::has_atoms;
 use nf_terms::stop::NoMemory;
 use nf_terms::tree::MonoTree;
@@ -58,8 +59,7 @@ fn push_divided(
         (map term_in out.new.items ≡ map term_in out.old.items ++ (monomial_in mono.now, int_div coefficient.now by.now) ∷ []) }
 {
     let quotient = *coefficient / *by;
-    out.push((mono.try_clone(alloc)?, quotient))?;
-    Ok(())
+    push_term_copy(alloc, out, mono, &quotient)
 }
 
 /// The monomials with atoms, each coefficient divided.

@@ -162,12 +162,20 @@ fn by_divisor(alloc: Global, form: Form, p: &Poly) -> Result<NLit, NoMemory>
 
 // The same, which is in normal form.
 #[tactic(auto, using(crate::proofs::NormalForms::form_normal))]
-fn literal_form(alloc: Global, form: Form, p: &Poly) -> Result<NLit, NoMemory>
-    ensures literal { IfOk result (λ l. literal_in l ≡ literal_form (form_in form) p.now) }
+fn literal_form(alloc: Global, form: Form, p: &Poly) -> Result<NLit, NfStop>
+    ensures literal { Answers (normal_literal_of result) (Done (literal_form (form_in form) p.now)) }
     ensures normal { IfOk result (λ l. IsNormalLiteral (literal_in l)) }
 {
     let _ = p.size();
-    by_divisor(alloc, form, p)
+    Ok(by_divisor(alloc, form, p)?)
+}
+
+// A polynomial less 1.
+fn less_one(alloc: Global, p: &Poly) -> Result<Poly, NfStop>
+    ensures { Answers result (normal_difference p.now one_form) }
+{
+    let one = Poly::number(alloc, 1)?;
+    sub(alloc, p, &one)
 }
 
 // The literal of a polynomial less 1, at least 0.
@@ -176,9 +184,8 @@ fn above_zero(alloc: Global, p: &Poly) -> Result<NLit, NfStop>
         (after (normal_difference p.now one_form) (λ q. Done (literal_form AtLeastZero q))) }
     ensures normal { IfOk result (λ l. IsNormalLiteral (literal_in l)) }
 {
-    let one = Poly::number(alloc, 1)?;
-    let less = sub(alloc, p, &one)?;
-    Ok(literal_form(alloc, Form::AtLeastZero, &less)?)
+    let less = less_one(alloc, p)?;
+    literal_form(alloc, Form::AtLeastZero, &less)
 }
 
 // The literal of a relation between a difference and 0.
@@ -187,13 +194,13 @@ fn against_zero(alloc: Global, relation: Rel, p: &Poly) -> Result<NLit, NfStop>
     ensures normal { IfOk result (λ l. IsNormalLiteral (literal_in l)) }
 {
     match relation {
-        Rel::Eq => Ok(literal_form(alloc, Form::IsZero, p)?),
-        Rel::Ne => Ok(literal_form(alloc, Form::IsNotZero, p)?),
-        Rel::Ge => Ok(literal_form(alloc, Form::AtLeastZero, p)?),
+        Rel::Eq => literal_form(alloc, Form::IsZero, p),
+        Rel::Ne => literal_form(alloc, Form::IsNotZero, p),
+        Rel::Ge => literal_form(alloc, Form::AtLeastZero, p),
         Rel::Gt => above_zero(alloc, p),
         Rel::Le => {
             let negation = neg(alloc, p)?;
-            Ok(literal_form(alloc, Form::AtLeastZero, &negation)?)
+            literal_form(alloc, Form::AtLeastZero, &negation)
         }
         Rel::Lt => {
             let negation = neg(alloc, p)?;
