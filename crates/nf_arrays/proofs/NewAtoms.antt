@@ -1,6 +1,12 @@
 -- New atoms.
-use Rattle.std.proofs.Common.{◌≡◌, ◌<◌, ◌^◌, ◌≤◌, ℤ, Bool, true, false, ◌&&◌, not, unsigned_abs, arith, ap, ◌∙◌, Option, None, Some, MatchOption}
+use Rattle.std.proofs.Common.{◌≡◌, ℕ, suc, ◌+◌, ◌*◌, ◌/◌, ◌%◌, ◌<◌, ◌^◌, ◌≤◌, ℤ, pos, negsuc, neg_ℤ, Bool, true, false, cond, ◌&&◌, not, unsigned_abs, arith}
+use Rattle.std.proofs.Common.{ap, sym, ◌∙◌, Option, None, Some, MatchOption}
+use Rattle.std.specs.Prelude.{◌≢◌, int_rem}
+use Rattle.std.specs.Ordering.{int_eq}
 use Rattle.std.proofs.lemmas.Bool.{leb-true, and_from}
+use Rattle.std.proofs.lemmas.Int.{ints}
+use Rattle.std.proofs.lemmas.Nat.{div-add-mod'}
+use Rattle.base_laws.specs.Division.{remainder}
 use Rattle.base_laws.proofs.Booleans.{and_first}
 use Rattle.nf_terms.specs.NormalTerms.{Polynomial, ArrayTerm, Read, Quotient, Remainder, One, Times, Zero, Plus}
 use Rattle.nf_terms.specs.Measures.{weight_of}
@@ -69,3 +75,26 @@ new_read a i m n s = record {
     joined : (x y z : Bool) → x ≡ true → (y && z) ≡ true → (x && y && z) ≡ true
     joined true y z p q = q
     joined false y z p q = cc
+
+-- ---- remainders of numbers
+
+sum_part : (t r n : ℕ) → t + r ≡ n → r ≤ n
+sum_part t r n e = omega (arith, e)
+
+mod_at_most : (n m : ℕ) → n % m ≤ n
+mod_at_most n m = sum_part (n / m * m) (n % m) n (div-add-mod' n m)
+
+rem_at_most : (a b : ℤ) → unsigned_abs (int_rem a b) ≤ unsigned_abs a
+rem_at_most (pos m) b = mod_at_most m (unsigned_abs b)
+rem_at_most (negsuc m) b = omega (arith, ints, mod_at_most (suc m) (unsigned_abs b))
+
+remainder_at_most : (a b : ℤ) → unsigned_abs (remainder a b) ≤ unsigned_abs a
+remainder_at_most a b = by_test (int_eq b (pos 0)) (rem_at_most a b)
+  where
+    by_test : (t : Bool) → unsigned_abs (int_rem a b) ≤ unsigned_abs a → unsigned_abs (cond t (pos 0) (int_rem a b)) ≤ unsigned_abs a
+    by_test true h = omega arith
+    by_test false h = h
+
+-- a remainder of a number that is small is not the least number
+pub remainder_is_small : (a b r : ℤ) → unsigned_abs a < 2 ^ 127 → r ≡ remainder a b → r ≢ neg_ℤ (pos (2 ^ 127))
+remainder_is_small a b r h e is = omega (arith, remainder_at_most a b, h, ap unsigned_abs (sym e ∙ is))
