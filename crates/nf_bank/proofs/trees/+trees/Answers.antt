@@ -1,10 +1,10 @@
-use Rattle.std.proofs.Common.{map, ap, ◌∙◌}
-use Rattle.nf_terms.specs.NormalTerms.{monomial_of, polynomial_of, writes_of, Over}
+use Rattle.std.proofs.Common.{◌≡◌, ◌≤◌, IfOk, map, ap, sym, subst, arith, ◌∙◌}
+use Rattle.nf_terms.specs.NormalTerms.{Read, Quotient, Remainder, monomial_of, polynomial_of, writes_of, Over}
 use Rattle.nf_terms.specs.View.{atom_in, monomial_in, polynomial_in, term_in, write_in}
 use Rattle.nf_terms.proofs.Degrees.{monomial_in-is}
 use Rattle.nf_terms.proofs.Loops.{all_there}
 use Rattle.nf_terms.proofs.TreeParts.{polynomial_of_terms, array_over_writes}
-use Rattle.nf_bank.specs.AtomNumbers.{atom_of_number, scaled_monomial_over, write_over, monomial_over, sum_over}
+use Rattle.nf_bank.specs.AtomNumbers.{bound_of_node, bound_of_sum, atom_of_number, atom_over, scaled_monomial_over, write_over, monomial_over, sum_over}
 use Rattle.nf_bank.proofs.Made.{one_made}
 use Rattle.nf_bank.proofs.trees.+trees.Goals as goal
 
@@ -51,3 +51,63 @@ array_tree-returns t c =
     (all_there (write_over b) (map write_in c.loop-write.writes.items) c.as_slice-write-items.result.now c.loop-write.write-index c.loop-write-test.false)
     ∙ ap (Over base) c.loop-write.invariant
     ∙ ap (λ ws. Over base (writes_of (map (write_over b) ws))) c.as_slice-write-items.ensures
+
+-- ---- an atom is made of the parts of its node, whose numbers are smaller
+
+pub atom_tree-array_tree-requires : goal.atom_tree-array_tree-requires
+atom_tree-array_tree-requires t c =
+    let within = subst (λ n. bound_of_node n ≤ c.args.id.0) c.in-Read.is c.node.ensures.within in
+    (omega (arith, within, c.decreases), omega (arith, within, c.requires))
+
+pub atom_tree-sum_tree-requires : goal.atom_tree-sum_tree-requires
+atom_tree-sum_tree-requires t c =
+    let within = subst (λ n. bound_of_node n ≤ c.args.id.0) c.in-Read.is c.node.ensures.within in
+    let same = ap bound_of_sum c.as_slice.ensures in
+    (omega (arith, within, same, c.decreases), omega (arith, within, same, c.requires))
+
+pub atom_tree-returns-in_ok-sum_tree-in-Read : goal.atom_tree-returns-in_ok-sum_tree-in-Read
+atom_tree-returns-in_ok-sum_tree-in-Read t c =
+    let b = c.args.bank.now in
+    let index = c.in_ok-sum_tree-in-Read.ensures ∙ ap (sum_over b) c.as_slice.ensures in
+    let parts = (λ j. Read (c.in_ok-array-in-Read.ensures j) (index j)) ∙ sym (ap (atom_over b) c.in-Read.is) ∙ c.node.ensures.atom in
+    subst (λ x. IfOk c.make_read.result (λ a. atom_in a ≡ x)) parts c.make_read.ensures
+
+pub atom_tree-sum_tree-requires-in-Div : goal.atom_tree-sum_tree-requires-in-Div
+atom_tree-sum_tree-requires-in-Div t c =
+    let within = subst (λ n. bound_of_node n ≤ c.args.id.0) c.in-Div.is c.node.ensures.within in
+    let same = ap bound_of_sum c.as_slice-in-Div.ensures in
+    (omega (arith, within, same, c.decreases), omega (arith, within, same, c.requires))
+
+pub atom_tree-sum_tree-requires-in-Div-2 : goal.atom_tree-sum_tree-requires-in-Div-2
+atom_tree-sum_tree-requires-in-Div-2 t c =
+    let within = subst (λ n. bound_of_node n ≤ c.args.id.0) c.in-Div.is c.node.ensures.within in
+    let same = ap bound_of_sum c.as_slice-in-Div-2.ensures in
+    (omega (arith, within, same, c.decreases), omega (arith, within, same, c.requires))
+
+pub atom_tree-returns-in_ok-sum_tree-in-Div : goal.atom_tree-returns-in_ok-sum_tree-in-Div
+atom_tree-returns-in_ok-sum_tree-in-Div t c =
+    let b = c.args.bank.now in
+    let left = c.in_ok-left-in-Div.ensures ∙ ap (sum_over b) c.as_slice-in-Div.ensures in
+    let right = c.in_ok-sum_tree-in-Div.ensures ∙ ap (sum_over b) c.as_slice-in-Div-2.ensures in
+    let parts = (λ j. Quotient (left j) (right j)) ∙ sym (ap (atom_over b) c.in-Div.is) ∙ c.node.ensures.atom in
+    subst (λ x. IfOk c.make_quotient.result (λ a. atom_in a ≡ x)) parts c.make_quotient.ensures
+
+pub atom_tree-sum_tree-requires-in-Rem : goal.atom_tree-sum_tree-requires-in-Rem
+atom_tree-sum_tree-requires-in-Rem t c =
+    let within = subst (λ n. bound_of_node n ≤ c.args.id.0) c.in-Rem.is c.node.ensures.within in
+    let same = ap bound_of_sum c.as_slice-in-Rem.ensures in
+    (omega (arith, within, same, c.decreases), omega (arith, within, same, c.requires))
+
+pub atom_tree-sum_tree-requires-in-Rem-2 : goal.atom_tree-sum_tree-requires-in-Rem-2
+atom_tree-sum_tree-requires-in-Rem-2 t c =
+    let within = subst (λ n. bound_of_node n ≤ c.args.id.0) c.in-Rem.is c.node.ensures.within in
+    let same = ap bound_of_sum c.as_slice-in-Rem-2.ensures in
+    (omega (arith, within, same, c.decreases), omega (arith, within, same, c.requires))
+
+pub atom_tree-returns-in_ok-sum_tree-in-Rem : goal.atom_tree-returns-in_ok-sum_tree-in-Rem
+atom_tree-returns-in_ok-sum_tree-in-Rem t c =
+    let b = c.args.bank.now in
+    let left = c.in_ok-left-in-Rem.ensures ∙ ap (sum_over b) c.as_slice-in-Rem.ensures in
+    let right = c.in_ok-sum_tree-in-Rem.ensures ∙ ap (sum_over b) c.as_slice-in-Rem-2.ensures in
+    let parts = (λ j. Remainder (left j) (right j)) ∙ sym (ap (atom_over b) c.in-Rem.is) ∙ c.node.ensures.atom in
+    subst (λ x. IfOk c.make_remainder.result (λ a. atom_in a ≡ x)) parts c.make_remainder.ensures
