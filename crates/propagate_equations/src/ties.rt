@@ -3,11 +3,13 @@
 ghost use Rattle.std.specs.Prelude.{◌≡◌, cond, map, IfOk, Some, None};
 ghost use Rattle.nf_terms.specs.NormalTerms.{polynomial_of_symbol};
 ghost use Rattle.nf_terms.specs.Order.{same_polynomial};
+ghost use Rattle.nf_terms.specs.Forms.{same_form};
 ghost use Rattle.nf_terms.specs.Computed.{Answers, Done, after};
 ghost use Rattle.nf_terms.specs.declared.form.Nf.TheVariants as form;
 ghost use Rattle.nf_sums.specs.Operations.{normal_sum, normal_difference};
 ghost use Rattle.nf_substitution.specs.Vectors.{number_at};
 ghost use Rattle.nf_substitution.specs.Substitution.{polynomial_substituted};
+ghost use Rattle.sym_facts.specs.Entailment.{form_like as like};
 ghost use Rattle.propagate_equations.specs.Ties.{symbol_like, number_tied_to, is_alike, form_tied, tied_equation};
 ghost use Rattle.propagate_equations.specs.TieSteps.{join_tie};
 ghost use Rattle.propagate_equations.specs.View.{freed_in};
@@ -132,6 +134,20 @@ fn number_tied(
     Ok(None)
 }
 
+// Whether what arrives at a freed position is this form.
+fn arrives_alike(
+    alloc: Global,
+    v: &Vector,
+    arriving: &Nf,
+    other: &Freed<'_>,
+) -> Result<bool, NoMemory>
+    ensures { IfOk result
+        (λ b. b ≡ same_form arriving.now (like v.now (freed_in other.now).pos (freed_in other.now).old)) }
+{
+    let others = form_like(alloc, v, &other.pos, other.old)?;
+    Ok(arriving.is_same(&others))
+}
+
 // Whether a form and what arrives at its position are those of a freed position.
 fn is_alike(
     alloc: Global,
@@ -146,8 +162,7 @@ fn is_alike(
         return Ok(false);
     }
     let arriving = form_like(alloc, v, p, form)?;
-    let others = form_like(alloc, v, &other.pos, other.old)?;
-    Ok(arriving.is_same(&others))
+    arrives_alike(alloc, v, &arriving, other)
 }
 
 // The form of a position, tied to the first of the freed positions that is alike.
