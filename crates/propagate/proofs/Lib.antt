@@ -16,3 +16,4 @@ pub mod JoinPaired
 pub mod RebaseTurns
 pub mod Stops
 pub mod RebaseWhole
+pub mod PassTurns
