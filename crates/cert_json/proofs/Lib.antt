@@ -1,3 +1,4 @@
+pub mod Views
 mod Counts
 mod Turns
 pub mod FirstNames

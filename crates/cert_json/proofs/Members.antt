@@ -10,9 +10,9 @@ use Rattle.std.specs.List.Sorted.{IsStrictlySortedBy}
 use Rattle.std.specs.Map.{keys_of, lookup, set_value}
 use Rattle.std.specs.BTreeMap.{is_at}
 use Rattle.serde_json.specs.Data.{member, put}
-use Rattle.serde_json.specs.View.{view, members_view}
-use Rattle.serde_json.specs.declared.value.Value.{Value}
-use Rattle.serde_json.proofs.Views.{Entry}
+use Rattle.cert_json.specs.View.{view, members_view}
+use Rattle.cert_json.specs.declared.value.Value.{Value}
+use Rattle.cert_json.proofs.Views.{Entry}
 
 none_above : (name : List ℕ) (k : String Global) (es : List Entry) → slice_cmp nat_cmp name (string_bytes k) ≡ Less
     → AllByRecursion (λ y. string_cmp k y ≡ Less) (keys_of es) → lookup (is_at (λ j. slice_cmp nat_cmp name (string_bytes j))) es ≡ None

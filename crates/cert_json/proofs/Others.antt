@@ -11,8 +11,9 @@ use Rattle.std.proofs.lemmas.Map.Lookups.{exact_bytes}
 use Rattle.std.proofs.lemmas.Slice.Eq.{bytes_eq-Decides}
 use Rattle.serde_json.specs.Data.{Data, null, object, Members, put}
 use Rattle.serde_json.specs.Find.{get_member, as_str}
-use Rattle.serde_json.specs.View.{view, members_view}
-use Rattle.serde_json.proofs.Views.{Entry, get_member-put, get_member-put_other, member_here, member_later, view-lookup}
+use Rattle.cert_json.specs.View.{view, members_view}
+use Rattle.cert_json.proofs.Views.{Entry, member_here, member_later, view-lookup}
+use Rattle.serde_json.proofs.Views.{get_member-put, get_member-put_other}
 use Rattle.cert_json.specs.Shape.{name_texts}
 use Rattle.cert_json.specs.Trim.{first_names, short_equations}
 use Rattle.cert_json.specs.Objects.{AreAscending, TellsOthers, is_no_text}

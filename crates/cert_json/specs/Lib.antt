@@ -4,4 +4,5 @@ pub mod Objects
 pub mod Refusals
 pub mod Shape
 pub mod Trim
+pub mod View
 pub mod WrittenJson

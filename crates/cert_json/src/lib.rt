@@ -18,4 +18,5 @@ mod short_list;
 mod short_object;
 mod skip;
 mod trim;
+pub mod value;
 pub mod written;

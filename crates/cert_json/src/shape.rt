@@ -1,17 +1,18 @@
 //! The form of a certificate.
 
 ghost use Rattle.std.specs.Prelude.{◌≡◌, Option, option_map, option_and_then};
-ghost use Rattle.serde_json.specs.View.{view, items_view, members_view};
+ghost use Rattle.cert_json.specs.View.{view, items_view, members_view};
 ghost use Rattle.serde_json.specs.Find.{as_array, as_object, as_str};
 ghost use Rattle.cert_json.specs.Shape.{has_members, is_text, are_texts, name_texts, is_list_of_texts, is_map_of_texts, is_mode};
 ghost use Rattle.cert_json.specs.Shape.{is_within, whole_number_in, is_node, are_nodes, is_list_of_nodes, is_format, is_file};
 ghost use Rattle.cert_json.specs.Shape.{is_mode_name, has_more, some_has_many, some_of_file_has_many};
 ghost use Rattle.cert_json.specs.Shape.{has_too_many};
 
-use serde_json::{Map, Value};
+use crate::value::Value;
+use serde_json::Map;
 
 #[tactic(auto, using(crate::proofs::Counts::counts))]
-fn has(value: &Value, n: usize) -> bool
+fn has(value: &Value<'_>, n: usize) -> bool
     ensures { result ≡ has_members n (view value.now) }
 {
     match value.as_object() {
@@ -20,7 +21,7 @@ fn has(value: &Value, n: usize) -> bool
     }
 }
 
-fn are_texts(items: &Vec<Value>) -> bool
+fn are_texts(items: &Vec<Value<'_>>) -> bool
     ensures { result ≡ are_texts (items_view items.now.items) }
 {
     for item in items {
@@ -32,7 +33,7 @@ fn are_texts(items: &Vec<Value>) -> bool
 }
 
 // Whether each member is a text.
-fn name_texts(members: &Map<String, Value>) -> bool
+fn name_texts(members: &Map<String, Value<'_>>) -> bool
     ensures { result ≡ name_texts (members_view members.now.entries) }
 {
     for (_name, value) in members.iter() {
@@ -43,7 +44,7 @@ fn name_texts(members: &Map<String, Value>) -> bool
     true
 }
 
-fn is_list_of_texts(value: Option<&Value>) -> bool
+fn is_list_of_texts(value: Option<&Value<'_>>) -> bool
     ensures { result ≡ is_list_of_texts (option_and_then as_array (option_map (λ v. view v.now) value.entry)) }
 {
     match value {
@@ -55,7 +56,7 @@ fn is_list_of_texts(value: Option<&Value>) -> bool
     }
 }
 
-fn is_map_of_texts(value: Option<&Value>) -> bool
+fn is_map_of_texts(value: Option<&Value<'_>>) -> bool
     ensures { result ≡ is_map_of_texts (option_and_then as_object (option_map (λ v. view v.now) value.entry)) }
 {
     match value {
@@ -67,7 +68,7 @@ fn is_map_of_texts(value: Option<&Value>) -> bool
     }
 }
 
-fn is_text(value: Option<&Value>) -> bool
+fn is_text(value: Option<&Value<'_>>) -> bool
     ensures { result ≡ is_text (option_map (λ v. view v.now) value.entry) }
 {
     match value {
@@ -82,7 +83,7 @@ fn is_mode_name(text: &str) -> bool
     text == "both" || text == "left" || text == "right" || text == "end"
 }
 
-fn is_mode(value: Option<&Value>) -> bool
+fn is_mode(value: Option<&Value<'_>>) -> bool
     ensures { result ≡ is_mode (option_and_then as_str (option_map (λ v. view v.now) value.entry)) }
 {
     match value {
@@ -94,7 +95,7 @@ fn is_mode(value: Option<&Value>) -> bool
     }
 }
 
-fn is_rank(value: Option<&Value>) -> bool
+fn is_rank(value: Option<&Value<'_>>) -> bool
     ensures { result ≡ is_within 4096 (whole_number_in (option_map (λ v. view v.now) value.entry)) }
 {
     match value {
@@ -107,7 +108,7 @@ fn is_rank(value: Option<&Value>) -> bool
 }
 
 /// Whether a value has the form of a node.
-pub fn is_node(value: &Value) -> bool
+pub fn is_node(value: &Value<'_>) -> bool
     ensures { result ≡ is_node (view value.now) }
 {
     has(value, 6)
@@ -119,7 +120,7 @@ pub fn is_node(value: &Value) -> bool
         && is_text(value.get("right"))
 }
 
-fn are_nodes(items: &Vec<Value>) -> bool
+fn are_nodes(items: &Vec<Value<'_>>) -> bool
     ensures { result ≡ are_nodes (items_view items.now.items) }
 {
     for item in items {
@@ -130,7 +131,7 @@ fn are_nodes(items: &Vec<Value>) -> bool
     true
 }
 
-fn is_list_of_nodes(value: Option<&Value>) -> bool
+fn is_list_of_nodes(value: Option<&Value<'_>>) -> bool
     ensures { result ≡ is_list_of_nodes (option_and_then as_array (option_map (λ v. view v.now) value.entry)) }
 {
     match value {
@@ -142,7 +143,7 @@ fn is_list_of_nodes(value: Option<&Value>) -> bool
     }
 }
 
-fn is_format(value: Option<&Value>) -> bool
+fn is_format(value: Option<&Value<'_>>) -> bool
     ensures { result ≡ is_format (whole_number_in (option_map (λ v. view v.now) value.entry)) }
 {
     match value {
@@ -155,14 +156,14 @@ fn is_format(value: Option<&Value>) -> bool
 }
 
 /// Whether a value has the form of a certificate.
-pub fn is_file(value: &Value) -> bool
+pub fn is_file(value: &Value<'_>) -> bool
     ensures { result ≡ is_file (view value.now) }
 {
     has(value, 2) && is_format(value.get("format")) && is_list_of_nodes(value.get("nodes"))
 }
 
 #[tactic(auto, using(crate::proofs::Counts::item_count))]
-fn has_more(value: Option<&Value>, limit: usize) -> bool
+fn has_more(value: Option<&Value<'_>>, limit: usize) -> bool
     ensures { result ≡ has_more limit (option_and_then as_array (option_map (λ v. view v.now) value.entry)) }
 {
     match value {
@@ -174,7 +175,7 @@ fn has_more(value: Option<&Value>, limit: usize) -> bool
     }
 }
 
-fn some_has_many(items: &Vec<Value>) -> bool
+fn some_has_many(items: &Vec<Value<'_>>) -> bool
     ensures { result ≡ some_has_many (items_view items.now.items) }
 {
     for item in items {
@@ -185,7 +186,7 @@ fn some_has_many(items: &Vec<Value>) -> bool
     false
 }
 
-fn some_of_file_has_many(value: Option<&Value>) -> bool
+fn some_of_file_has_many(value: Option<&Value<'_>>) -> bool
     ensures { result ≡ some_of_file_has_many (option_and_then as_array (option_map (λ v. view v.now) value.entry)) }
 {
     match value {
@@ -198,7 +199,7 @@ fn some_of_file_has_many(value: Option<&Value>) -> bool
 }
 
 /// Whether a file has more than 4,096 nodes, or a node with more than 64 conditions.
-pub fn has_too_many(value: &Value) -> bool
+pub fn has_too_many(value: &Value<'_>) -> bool
     ensures { result ≡ has_too_many (view value.now) }
 {
     has_more(value.get("nodes"), 4096) || some_of_file_has_many(value.get("nodes"))

@@ -3,20 +3,20 @@
 ghost use Rattle.std.specs.Prelude.{◌≡◌, ◌&&◌, ◌||◌, is_some, IsTrue, OnOk};
 ghost use Rattle.serde_json.specs.Data.{Items, no_items};
 ghost use Rattle.serde_json.specs.Find.{as_str};
-ghost use Rattle.serde_json.specs.View.{view, items_view};
+ghost use Rattle.cert_json.specs.View.{view, items_view};
 ghost use Rattle.cert_json.specs.Shape.{is_node as is_node_in, are_texts};
 ghost use Rattle.cert_json.specs.Trim.{short_list};
 ghost use Rattle.cert_json.specs.Lists.{IsShort, join_items, add_item, add_below, most_items, settled};
 
 use crate::shape::is_node;
-use serde_json::Value;
+use crate::value::Value;
 use std::alloc::{AllocError, Global};
 
 /// What is kept of a list.
 #[derive(Drop)]
-pub struct ShortList {
+pub struct ShortList<'a> {
     /// The first of its items.
-    pub items: Vec<Value>,
+    pub items: Vec<Value<'a>>,
     /// Whether each item is a text.
     pub all_texts: bool,
     /// Whether each item is a node.
@@ -24,7 +24,7 @@ pub struct ShortList {
 }
 
 /// A list of no items.
-pub fn empty_list(alloc: Global) -> ShortList
+pub fn empty_list<'a>(alloc: Global) -> ShortList<'a>
     ensures { IsShort no_items result }
 {
     ShortList {
@@ -35,7 +35,7 @@ pub fn empty_list(alloc: Global) -> ShortList
 }
 
 // Notes what an item is.
-fn note_item(list: &mut ShortList, value: &Value)
+fn note_item(list: &mut ShortList<'_>, value: &Value<'_>)
     ensures texts { list.new.all_texts ≡ (list.old.all_texts && is_some (as_str (view value.now))) }
     ensures nodes { list.new.all_nodes ≡ (list.old.all_nodes && is_node_in (view value.now)) }
     ensures items { list.new.items ≡ list.old.items }
@@ -45,7 +45,7 @@ fn note_item(list: &mut ShortList, value: &Value)
 }
 
 // Whether anything is kept of a list.
-fn is_kept(list: &ShortList) -> bool
+fn is_kept(list: &ShortList<'_>) -> bool
     ensures { result ≡ (list.now.all_texts || list.now.all_nodes) }
 {
     list.all_texts || list.all_nodes
@@ -59,8 +59,12 @@ fn most_kept(all_texts: bool) -> usize
 }
 
 // Adds an item to fewer than so many.
-fn push_below(items: &mut Vec<Value>, value: Value, most: usize) -> Result<(), AllocError>
-    ensures { OnOk result (items_view items.new.items ≡ add_below most (items_view items.old.items) (view value)) }
+fn push_below<'a>(
+    items: &mut Vec<Value<'a>>,
+    value: Value<'a>,
+    most: usize,
+) -> Result<(), AllocError>
+    ensures { OnOk result (items_view items.new.items ≡ add_below most (items_view items.old.items) (view value.entry)) }
 {
     if items.len() < most {
         items.push(value)?;
@@ -69,8 +73,8 @@ fn push_below(items: &mut Vec<Value>, value: Value, most: usize) -> Result<(), A
 }
 
 /// Adds an item. The one refusal is out of memory.
-pub fn add_to_list(list: &mut ShortList, value: Value) -> Result<(), AllocError>
-    ensures { OnOk result ((ds : Items) → IsShort ds list.old → IsShort (add_item ds (view value)) list.new) }
+pub fn add_to_list<'a>(list: &mut ShortList<'a>, value: Value<'a>) -> Result<(), AllocError>
+    ensures { OnOk result ((ds : Items) → IsShort ds list.old → IsShort (add_item ds (view value.entry)) list.new) }
 {
     note_item(list, &value);
     if !is_kept(list) {
@@ -81,7 +85,7 @@ pub fn add_to_list(list: &mut ShortList, value: Value) -> Result<(), AllocError>
 }
 
 /// Whether what follows changes nothing of what is kept, but that it may not all be texts.
-pub fn is_settled(list: &ShortList) -> bool
+pub fn is_settled(list: &ShortList<'_>) -> bool
     ensures { IsTrue result
         → (ds rest : Items)
         → IsShort ds list.now → settled list.now (are_texts rest) ≡ short_list (join_items ds rest) }
@@ -94,8 +98,8 @@ pub fn is_settled(list: &ShortList) -> bool
 }
 
 /// The list of what was kept of a settled one, or null where it is one of no texts, or not all that follows are texts.
-pub fn value_of_settled(list: ShortList, texts: bool) -> Value
-    ensures { view result ≡ settled list texts }
+pub fn value_of_settled<'a>(list: ShortList<'a>, texts: bool) -> Value<'a>
+    ensures { view result ≡ settled list.entry texts }
 {
     if list.all_texts && texts {
         Value::Array(list.items)
@@ -105,8 +109,8 @@ pub fn value_of_settled(list: ShortList, texts: bool) -> Value
 }
 
 /// The list of what was kept, or null where it is neither one of texts nor one of nodes.
-pub fn value_of_list(list: ShortList) -> Value
-    ensures { (ds : Items) → IsShort ds list → view result ≡ short_list ds }
+pub fn value_of_list<'a>(list: ShortList<'a>) -> Value<'a>
+    ensures { (ds : Items) → IsShort ds list.entry → view result ≡ short_list ds }
 {
     if list.all_texts || list.all_nodes {
         Value::Array(list.items)

@@ -3,29 +3,30 @@
 ghost use Rattle.std.specs.Prelude.{◌≡◌, [], length, true, false, None, IsTrue, IfSome, OnOk, is_some};
 ghost use Rattle.serde_json.specs.Data.{Data, Members, no_members, put};
 ghost use Rattle.serde_json.specs.Find.{as_str};
-ghost use Rattle.serde_json.specs.View.{view, members_view};
+ghost use Rattle.cert_json.specs.View.{view, members_view};
 ghost use Rattle.cert_json.specs.Trim.{exceeds, first_names, short_object, short_equations};
 ghost use Rattle.cert_json.specs.Objects.{IsShortObject, AreAscending, TellsOthers};
 
 use crate::level::Level;
-use serde_json::{Map, Value};
+use crate::value::Value;
+use serde_json::Map;
 use std::alloc::{AllocError, Global};
 use std::cmp::Ordering;
 
 /// What is kept of an object.
 #[derive(Drop)]
-pub struct ShortObject {
+pub struct ShortObject<'a> {
     /// The members that are kept.
-    pub members: Map<String, Value>,
+    pub members: Map<String, Value<'a>>,
     /// Where the first names are kept: names of which the last value is no text.
-    pub others: Map<String, Value>,
+    pub others: Map<String, Value<'a>>,
     /// Whether such names were left out.
     pub is_partial: bool,
 }
 
 /// An object of no members.
 #[tactic(auto, using(crate::proofs::ObjectLaws::none_added))]
-pub fn empty_object(alloc: Global) -> ShortObject
+pub fn empty_object<'a>(alloc: Global) -> ShortObject<'a>
     ensures short { (level : Level) → IsShortObject level no_members result }
     ensures none { result.members.entries ≡ [] }
     ensures whole { result.is_partial ≡ false }
@@ -37,9 +38,24 @@ pub fn empty_object(alloc: Global) -> ShortObject
     }
 }
 
+// Puts a member in, over the value of its name where there is one, with a key of its own.
+#[inline(always)]
+fn insert_member<'a>(
+    alloc: Global,
+    found: &mut Map<String, Value<'a>>,
+    name: &str,
+    member: Value<'a>,
+) -> Result<(), AllocError>
+    ensures { OnOk result (members_view found.new.entries ≡ put name.now (view member.entry) (members_view found.old.entries)) }
+{
+    let key = String::from_str(alloc, name)?;
+    drop(found.insert(key, member)?);
+    Ok(())
+}
+
 // Whether a name comes behind all that are there, as most do in a file whose names ascend.
 #[inline(always)]
-fn is_last(found: &Map<String, Value>, name: &str) -> bool {
+fn is_last(found: &Map<String, Value<'_>>, name: &str) -> bool {
     match found.last_key_value() {
         Some((last, _)) => name.cmp(last.as_str()) == Ordering::Greater,
         None => true,
@@ -49,29 +65,29 @@ fn is_last(found: &Map<String, Value>, name: &str) -> bool {
 // Puts a member in, over the value of its name where there is one: a name that may be there is looked for, so that no key is
 // made for it again.
 #[inline(always)]
-fn put_member(
+fn put_member<'a>(
     alloc: Global,
-    found: &mut Map<String, Value>,
+    found: &mut Map<String, Value<'a>>,
     name: &str,
-    member: Value,
+    member: Value<'a>,
 ) -> Result<(), AllocError>
-    ensures { OnOk result (members_view found.new.entries ≡ put name.now (view member) (members_view found.old.entries)) }
+    ensures { OnOk result (members_view found.new.entries ≡ put name.now (view member.entry) (members_view found.old.entries)) }
 {
     if is_last(found, name) {
-        return serde_json::put(found, alloc, name, member);
+        return insert_member(alloc, found, name, member);
     }
     match found.get_mut(name) {
         Some(place) => {
             *place = member;
             Ok(())
         }
-        None => serde_json::put(found, alloc, name, member),
+        None => insert_member(alloc, found, name, member),
     }
 }
 
 // Whether a name comes behind as many as are kept.
 #[inline(always)]
-fn is_past(found: &Map<String, Value>, name: &str) -> bool
+fn is_past(found: &Map<String, Value<'_>>, name: &str) -> bool
     ensures { IsTrue result
         → (d : Data) → first_names (put name.now d (members_view found.now.entries))
         ≡ first_names (members_view found.now.entries) }
@@ -86,7 +102,7 @@ fn is_past(found: &Map<String, Value>, name: &str) -> bool
 }
 
 // Takes out the members behind the first.
-fn cut(found: &mut Map<String, Value>)
+fn cut(found: &mut Map<String, Value<'_>>)
     ensures { members_view found.new.entries ≡ first_names (members_view found.old.entries) }
 {
     while found.len() > 385 {
@@ -96,14 +112,14 @@ fn cut(found: &mut Map<String, Value>)
 
 // Puts a member in, of which nothing is kept behind the first names. The one refusal is out of memory.
 #[inline(always)]
-fn put_first(
+fn put_first<'a>(
     alloc: Global,
-    found: &mut Map<String, Value>,
+    found: &mut Map<String, Value<'a>>,
     name: &str,
-    member: Value,
+    member: Value<'a>,
 ) -> Result<(), AllocError>
     ensures { OnOk result (first_names (members_view found.new.entries)
-        ≡ first_names (put name.now (view member) (members_view found.old.entries))) }
+        ≡ first_names (put name.now (view member.entry) (members_view found.old.entries))) }
 {
     if is_past(found, name) {
         return Ok(());
@@ -118,7 +134,7 @@ fn put_first(
 #[inline(always)]
 fn note_value(
     alloc: Global,
-    object: &mut ShortObject,
+    object: &mut ShortObject<'_>,
     name: &str,
     is_text: bool,
     whole: bool,
@@ -143,16 +159,16 @@ fn note_value(
 /// Puts a member in, over the value of its name where there is one. Where `whole` is said, no name is left out of what is noted
 /// of values that are no texts. The one refusal is out of memory.
 #[inline(always)]
-pub fn add_member(
+pub fn add_member<'a>(
     alloc: Global,
-    object: &mut ShortObject,
+    object: &mut ShortObject<'a>,
     level: Level,
     name: &str,
-    member: Value,
+    member: Value<'a>,
     whole: bool,
 ) -> Result<(), AllocError>
     ensures short { OnOk result ((ms : Members)
-        → IsShortObject level ms object.old → IsShortObject level (put name.now (view member) ms) object.new) }
+        → IsShortObject level ms object.old → IsShortObject level (put name.now (view member.entry) ms) object.new) }
     ensures whole { OnOk result (whole ≡ true → object.old.is_partial ≡ false → object.new.is_partial ≡ false) }
 {
     if !level.keeps_first() {
@@ -163,11 +179,11 @@ pub fn add_member(
 }
 
 // The value of equations, or null where they are not all texts; none where what was left out would tell.
-fn value_of_equations(object: ShortObject) -> Option<Value>
+fn value_of_equations<'a>(object: ShortObject<'a>) -> Option<Value<'a>>
     ensures value { IfSome result (λ v. (ms : Members)
-        → first_names (members_view object.members.entries) ≡ first_names ms → AreAscending ms
-        → TellsOthers ms (members_view object.others.entries) object.is_partial → view v ≡ short_equations ms) }
-    ensures none { result ≡ None → object.is_partial ≡ true }
+        → first_names (members_view object.entry.members.entries) ≡ first_names ms → AreAscending ms
+        → TellsOthers ms (members_view object.entry.others.entries) object.entry.is_partial → view v ≡ short_equations ms) }
+    ensures none { result ≡ None → object.entry.is_partial ≡ true }
 {
     if !object.others.is_empty() {
         return Some(Value::Null);
@@ -182,10 +198,10 @@ fn value_of_equations(object: ShortObject) -> Option<Value>
 
 /// The object of what was kept, or null where the first names are kept and are not all texts. None where names were left out,
 /// of which one might have a value that is no text.
-pub fn value_of_object(object: ShortObject, level: Level) -> Option<Value>
-    ensures value { IfSome result (λ v. (ms : Members) → IsShortObject level ms object
-        → exceeds level (length object.members.entries) ≡ false → view v ≡ short_object level ms) }
-    ensures none { result ≡ None → object.is_partial ≡ true }
+pub fn value_of_object<'a>(object: ShortObject<'a>, level: Level) -> Option<Value<'a>>
+    ensures value { IfSome result (λ v. (ms : Members) → IsShortObject level ms object.entry
+        → exceeds level (length object.entry.members.entries) ≡ false → view v ≡ short_object level ms) }
+    ensures none { result ≡ None → object.entry.is_partial ≡ true }
 {
     if level.keeps_first() {
         value_of_equations(object)

@@ -4,7 +4,7 @@ ghost use Rattle.std.specs.Prelude.{◌≡◌, ◌<◌, length, false, Some, Non
 ghost use Rattle.json.specs.Json.{value, items, members};
 ghost use Rattle.serde_json.specs.Data.{Data, Items, Members, no_members};
 ghost use Rattle.serde_json.specs.Read.{of_json, of_items, of_members, converted, read as read_text};
-ghost use Rattle.serde_json.specs.View.{view};
+ghost use Rattle.cert_json.specs.View.{view};
 ghost use Rattle.cert_json.specs.Trim.{trim, trim_items, trim_members, short_list, short_object, below};
 ghost use Rattle.cert_json.specs.declared.level.Level.TheVariants.{File};
 
@@ -13,8 +13,8 @@ use crate::numbers::number_of;
 use crate::short_list::{add_to_list, empty_list, is_settled, value_of_list, value_of_settled};
 use crate::short_object::{add_member, empty_object, value_of_object};
 use crate::skip::{skip_items, skip_members};
+use crate::value::Value;
 use json::{Invalid, Reader, Scratch, Token};
-use serde_json::Value;
 use std::alloc::{AllocError, Global};
 
 /// Why no value is read.
@@ -52,13 +52,13 @@ impl From<AllocError> for Fault {
 
 #[cycle(read)]
 #[inline(always)]
-fn read(
+fn read<'a>(
     alloc: Global,
-    reader: &mut Reader<'_>,
+    reader: &mut Reader<'a>,
     depth: usize,
     level: Level,
     whole: bool,
-) -> Result<Value, Fault>
+) -> Result<Value<'a>, Fault>
     ensures ok { IfOk result
         (λ v. (d : Data) × (converted of_json (value depth reader.old) ≡ Some (d, reader.new)) × (view v ≡ trim level d)) }
     ensures shorter { OnOk result (length reader.new < length reader.old) }
@@ -67,7 +67,7 @@ fn read(
 {
     let token = reader.next().ok_or(Invalid)?;
     match token {
-        Token::String(text) => Ok(Value::String(String::from_str(alloc, text)?)),
+        Token::String(text) => Ok(Value::String(text)),
         Token::Number(text) => match number_of(text) {
             Some(number) => Ok(Value::Number(number)),
             None => Err(Fault::NotJson),
@@ -93,13 +93,13 @@ fn read(
 // Reads the items of a list, which stand at a level.
 #[cycle(read)]
 #[inline(never)]
-fn read_items(
+fn read_items<'a>(
     alloc: Global,
-    reader: &mut Reader<'_>,
+    reader: &mut Reader<'a>,
     depth: usize,
     level: Level,
     whole: bool,
-) -> Result<Value, Fault>
+) -> Result<Value<'a>, Fault>
     ensures ok { IfOk result
         (λ v. (ds : Items) × (converted of_items (items (value depth) (length reader.old) reader.old) ≡ Some (ds, reader.new))
         × (view v ≡ short_list (trim_items level ds))) }
@@ -123,13 +123,13 @@ fn read_items(
 // over.
 #[cycle(read)]
 #[inline(never)]
-fn read_members(
+fn read_members<'a>(
     alloc: Global,
-    reader: &mut Reader<'_>,
+    reader: &mut Reader<'a>,
     depth: usize,
     level: Level,
     whole: bool,
-) -> Result<Value, Fault>
+) -> Result<Value<'a>, Fault>
     ensures ok { IfOk result
         (λ v. (ms : Members)
         × (converted (λ es. of_members es no_members) (members (value depth) (length reader.old) reader.old)
@@ -158,13 +158,17 @@ fn read_members(
 ///
 /// `NotJson` comes only where the text is not JSON, `Again` only where names may be left out, which `whole` forbids, and
 /// `NoMemory` may come at any time.
-pub fn read_trimmed(alloc: Global, text: &str, whole: bool) -> Result<Value, Fault>
+pub fn read_trimmed<'a>(
+    alloc: Global,
+    text: &'a str,
+    scratch: &'a mut Scratch,
+    whole: bool,
+) -> Result<Value<'a>, Fault>
     ensures ok { IfOk result (λ v. (d : Data) × (read_text text.now ≡ Some d) × (view v ≡ trim File d)) }
     ensures err { result ≡ Err Fault.NotJson → read_text text.now ≡ None }
     ensures again { result ≡ Err Fault.Again → whole ≡ false }
 {
-    let mut scratch = Scratch::new(alloc);
-    let mut reader = Reader::new(text, &mut scratch)?;
+    let mut reader = Reader::new(text, scratch)?;
     let value = read(alloc, &mut reader, 127, Level::File, whole)?;
     if reader.next().is_some() {
         return Err(Fault::NotJson);

@@ -3,8 +3,8 @@ use Rattle.std.proofs.Common.{◌≡◌, ℕ, ◌+◌, true, false, ap, sym, sub
 use Rattle.std.specs.Prelude.{map}
 use Rattle.std.proofs.lemmas.List.{map_push}
 use Rattle.fs_model.proofs.Booleans.{and_first, and_second, neither_first, neither_second}
-use Rattle.serde_json.specs.View.{view, items_view}
-use Rattle.serde_json.specs.declared.value.Value.{Value}
+use Rattle.cert_json.specs.View.{view, items_view}
+use Rattle.cert_json.specs.declared.value.Value.{Value}
 use Rattle.fs_cut.specs.Paths.{Point}
 use Rattle.fs_cut.specs.View.{point_of}
 use Rattle.fs_cut.specs.declared.cover.Point.{Point as CodePoint}

@@ -3,7 +3,7 @@
 ghost use Rattle.std.specs.Prelude.{◌≡◌, ◌<◌, [], Ok, Some, length, map, IsTrue, IfOk, OnOk};
 ghost use Rattle.std.specs.List.{list_all, AllByRecursion};
 ghost use Rattle.cert_json.specs.JsonTexts.{named_texts_of};
-ghost use Rattle.serde_json.specs.View.{items_view, members_view};
+ghost use Rattle.cert_json.specs.View.{items_view, members_view};
 ghost use Rattle.nf_terms.specs.Forms.{sort_of_form};
 ghost use Rattle.nf_rel.specs.View.{literal_in};
 ghost use Rattle.sym_facts.specs.Facts.{may_be_kept};
@@ -21,6 +21,7 @@ ghost use Rattle.cert_text.specs.Within.{AreEquationsOf};
 use crate::faults::{CertError, Stop};
 use crate::forms::{read_condition, read_form};
 use crate::parts::text_of;
+use cert_json::value::Value;
 use cert_terms::names::{Places, is_in_format, place_of_key};
 use cert_terms::repeats::ReadText;
 use fs_model::parts::Sort;
@@ -30,7 +31,7 @@ use nf_terms::form::Nf;
 use nf_terms::seq::Seq;
 use nf_terms::stop::NoMemory;
 use nf_terms::tree::SeqBase;
-use serde_json::{Map, Value};
+use serde_json::Map;
 use std::alloc::Global;
 use sym_facts::shared_form::SharedForm;
 
@@ -125,7 +126,7 @@ pub fn put_equations(
     alloc: Global,
     places: &Places<'_>,
     node: u32,
-    members: &Map<String, Value>,
+    members: &Map<String, Value<'_>>,
     last: &mut Vec<Option<ReadText>>,
     forms: &mut Vec<Option<SharedForm>>,
 ) -> Result<(), Stop>
@@ -155,7 +156,7 @@ pub fn read_conditions(
     alloc: Global,
     places: &Places<'_>,
     node: u32,
-    items: &[Value],
+    items: &[Value<'_>],
 ) -> Result<Vec<NLit>, Stop>
     ensures told { Tells (λ ls. map literal_in ls.items) result
         (conditions_read (terms_in places.now) node [] (texts_of (items_view items.now))) }

@@ -2,7 +2,7 @@
 
 ghost use Rattle.std.specs.Prelude.{◌≡◌, ◌≤◌, ◌+◌, [], true, false, Ok, codes, length, map, IsTrue, IfOk, OnOk};
 ghost use Rattle.std.specs.List.{list_all, list_any, AllByRecursion};
-ghost use Rattle.serde_json.specs.View.{view, items_view};
+ghost use Rattle.cert_json.specs.View.{view, items_view};
 ghost use Rattle.nf_rel.specs.View.{literal_in};
 ghost use Rattle.sym_facts.specs.Facts.{may_be_kept, most_literals};
 ghost use Rattle.sym_facts.specs.Pairings.{IsFactOf};
@@ -27,10 +27,10 @@ use crate::faults::{CertError, Stop};
 use crate::parts::{items_at, members_at, number_at, text_at};
 use crate::points::read_points;
 use cert_bisimulation::mode::Mode;
+use cert_json::value::Value;
 use cert_model::cert::Node;
 use cert_terms::repeats::{ReadText, none_read};
 use nf_rel::literals::NLit;
-use serde_json::Value;
 use std::alloc::Global;
 use sym_facts::fact::{Fact, FactError};
 use sym_facts::shared_form::SharedForm;
@@ -56,7 +56,7 @@ fn read_equations(
     alloc: Global,
     c: &Context<'_>,
     node: u32,
-    value: &Value,
+    value: &Value<'_>,
     last: &mut Vec<Option<ReadText>>,
 ) -> Result<Vec<Option<SharedForm>>, Stop>
     requires { AreLast c.now.places last.old.items }
@@ -105,7 +105,7 @@ fn read_fact(
     alloc: Global,
     c: &Context<'_>,
     node: u32,
-    value: &Value,
+    value: &Value<'_>,
     last: &mut Vec<Option<ReadText>>,
 ) -> Result<Fact, Stop>
     requires pairing { c.now.pairing.now ≡ c.now.places.positions.now }
@@ -122,7 +122,7 @@ fn read_fact(
 
 // The rank of a node.
 #[tactic(auto, using(crate::proofs::Shapes::rank_low))]
-fn rank_of(value: &Value) -> u32
+fn rank_of(value: &Value<'_>) -> u32
     requires { is_node (view value.now) ≡ true }
     ensures same { result ≡ number_under (codes "rank") (view value.now) }
     ensures low { result ≤ most_rank }
@@ -137,7 +137,7 @@ fn read_node(
     c: &Context<'_>,
     node: u32,
     earlier: &[Node],
-    value: &Value,
+    value: &Value<'_>,
     last: &mut Vec<Option<ReadText>>,
 ) -> Result<Node, Stop>
     requires pairing { c.now.pairing.now ≡ c.now.places.positions.now }
@@ -173,7 +173,7 @@ fn push_node(
     c: &Context<'_>,
     node: u32,
     nodes: &mut Vec<Node>,
-    value: &Value,
+    value: &Value<'_>,
     last: &mut Vec<Option<ReadText>>,
 ) -> Result<(), Stop>
     requires pairing { c.now.pairing.now ≡ c.now.places.positions.now }
@@ -199,7 +199,7 @@ fn push_value(
     c: &Context<'_>,
     node: u32,
     nodes: &mut Vec<Node>,
-    value: Value,
+    value: Value<'_>,
     last: &mut Vec<Option<ReadText>>,
 ) -> Result<(), Stop>
     requires pairing { c.now.pairing.now ≡ c.now.places.positions.now }
@@ -207,7 +207,7 @@ fn push_value(
     requires few { has_many_conditions (view value) ≡ false }
     requires last { AreLast c.now.places last.old.items }
     ensures told { Tells (λ _. map node_of nodes.new.items) result
-        (node_added (context_in c.now) node (map node_of nodes.old.items) (node_text_in (view value))) }
+        (node_added (context_in c.now) node (map node_of nodes.old.items) (node_text_in (view value.entry))) }
     ensures lawful { OnOk result
         (AreNodesOf c.now.a.now c.now.b.now c.now.places.positions.now (map node_of nodes.old.items)
         → AreNodesOf c.now.a.now c.now.b.now c.now.places.positions.now (map node_of nodes.new.items)) }
@@ -221,15 +221,15 @@ fn push_value(
 
 /// The nodes of a file, in order. Each value is let go when its node is read, so that values and nodes are never all there at
 /// once.
-pub fn read_nodes(alloc: Global, c: &Context<'_>, values: Vec<Value>) -> Result<Vec<Node>, Stop>
+pub fn read_nodes(alloc: Global, c: &Context<'_>, values: Vec<Value<'_>>) -> Result<Vec<Node>, Stop>
     requires pairing { c.now.pairing.now ≡ c.now.places.positions.now }
     requires shape { are_nodes (items_view values.items) ≡ true }
     requires few { some_has_many (items_view values.items) ≡ false }
     requires count { length values.items ≤ most_nodes }
     ensures told { Tells (λ ns. map node_of ns.items) result
-        (nodes_read (context_in c.now) 0 [] (node_texts (items_view values.items))) }
+        (nodes_read (context_in c.now) 0 [] (node_texts (items_view values.entry.items))) }
     ensures of { IfOk result (λ ns. AreNodesOf c.now.a.now c.now.b.now c.now.places.positions.now (map node_of ns.items)) }
-    ensures count { IfOk result (λ ns. length ns.items ≡ length values.items) }
+    ensures count { IfOk result (λ ns. length ns.items ≡ length values.entry.items) }
 {
     let mut last = none_read(alloc, &c.places)?;
     let mut nodes = Vec::new(alloc);

@@ -2,17 +2,19 @@
 
 ghost use Rattle.std.specs.Prelude.{◌≡◌, option_map, option_and_then};
 ghost use Rattle.cert_json.specs.JsonTexts.{text_of as text_in};
+ghost use Rattle.serde_json.specs.Data.{no_items as none};
 ghost use Rattle.serde_json.specs.Find.{get, as_array, as_object};
-ghost use Rattle.serde_json.specs.View.{view, items_view, members_view};
+ghost use Rattle.cert_json.specs.View.{view, items_view, members_view};
 ghost use Rattle.cert_text.specs.JsonParts.{text_at as text_under, json_number as number_under};
 ghost use Rattle.cert_text.specs.JsonParts.{items_or_none};
 
-use serde_json::{Map, Value};
+use cert_json::value::Value;
+use serde_json::Map;
 use std::alloc::Global;
 use std::mem;
 
 /// The text of a value, empty where it is none.
-pub fn text_of(value: &Value) -> &str
+pub fn text_of<'a>(value: &Value<'a>) -> &'a str
     ensures { result.now ≡ text_in (view value.now) }
 {
     match value.as_str() {
@@ -22,7 +24,7 @@ pub fn text_of(value: &Value) -> &str
 }
 
 /// The text that a value has under a name, empty where there is none.
-pub fn text_at<'a>(value: &'a Value, key: &str) -> &'a str
+pub fn text_at<'a>(value: &Value<'a>, key: &str) -> &'a str
     ensures { result.now ≡ text_under key.now (view value.now) }
 {
     match value.get(key) {
@@ -32,7 +34,7 @@ pub fn text_at<'a>(value: &'a Value, key: &str) -> &'a str
 }
 
 /// The whole number that a value has under a name, 0 where there is none.
-pub fn number_at(value: &Value, key: &str) -> u64
+pub fn number_at(value: &Value<'_>, key: &str) -> u64
     ensures { result ≡ number_under key.now (view value.now) }
 {
     match value.get(key) {
@@ -44,34 +46,48 @@ pub fn number_at(value: &Value, key: &str) -> u64
     }
 }
 
+// No items.
+fn no_items<'v, 'a>() -> &'v [Value<'a>]
+    ensures { items_view result.now ≡ none }
+{
+    &[]
+}
+
 /// The items that a value has under a name.
-pub fn items_at<'a>(value: &'a Value, key: &str) -> &'a [Value]
+pub fn items_at<'v, 'a>(value: &'v Value<'a>, key: &str) -> &'v [Value<'a>]
     ensures { items_view result.now ≡ items_or_none (option_and_then as_array (get key.now (view value.now))) }
 {
     match value.get(key) {
         Some(value) => match value.as_array() {
             Some(items) => items.as_slice(),
-            None => &[],
+            None => no_items(),
         },
-        None => &[],
+        None => no_items(),
     }
 }
 
-/// The items that a value has under a name, taken out of it.
-pub fn take_items(alloc: Global, value: &mut Value, key: &str) -> Vec<Value>
+// The items of a value, where it is a list.
+fn items_of<'a>(alloc: Global, value: Option<Value<'a>>) -> Vec<Value<'a>>
+    ensures { items_view result.items ≡ items_or_none (option_and_then as_array (option_map view value.entry)) }
+{
+    match value {
+        Some(Value::Array(items)) => items,
+        _ => Vec::new(alloc),
+    }
+}
+
+/// The items that a value has under a name, taken out of it. Nothing is left of the value.
+pub fn take_items<'a>(alloc: Global, value: &mut Value<'a>, key: &str) -> Vec<Value<'a>>
     ensures { items_view result.items ≡ items_or_none (option_and_then as_array (get key.now (view value.old))) }
 {
-    match value.get_mut(key) {
-        Some(found) => match found.as_array_mut() {
-            Some(items) => mem::replace(items, Vec::new(alloc)),
-            None => Vec::new(alloc),
-        },
-        None => Vec::new(alloc),
+    match mem::replace(value, Value::Null) {
+        Value::Object(mut members) => items_of(alloc, members.remove(key)),
+        _ => Vec::new(alloc),
     }
 }
 
 /// The members that a value has under a name.
-pub fn members_at<'a>(value: &'a Value, key: &str) -> Option<&'a Map<String, Value>>
+pub fn members_at<'v, 'a>(value: &'v Value<'a>, key: &str) -> Option<&'v Map<String, Value<'a>>>
     ensures { option_map (λ m. members_view m.now.entries) result ≡ option_and_then as_object (get key.now (view value.now)) }
 {
     match value.get(key) {

@@ -1,7 +1,7 @@
 //! Reading a certificate.
 
 ghost use Rattle.std.specs.Prelude.{◌≡◌, ◌≤◌, ℕ, List, [], true, false, length, map, IfOk, IfErr};
-ghost use Rattle.serde_json.specs.View.{view};
+ghost use Rattle.cert_json.specs.View.{view};
 ghost use Rattle.fs_pair.specs.Positions.{positions};
 ghost use Rattle.cert_model.specs.Lawful.{IsLawful, most_nodes};
 ghost use Rattle.cert_model.specs.View.{node_of};
@@ -19,16 +19,16 @@ use crate::faults::{CertError, Stop};
 use crate::nodes::read_nodes;
 use crate::parts::{number_at, take_items};
 use cert_json::faults::FileError;
-use cert_json::reader::read_file;
+use cert_json::reader::{Room, read_file};
+use cert_json::value::Value;
 use cert_model::cert::Cert;
 use fs_ast::machine::Machine;
 use fs_pair::positions::Pairing;
-use serde_json::Value;
 use std::alloc::Global;
 
 // The certificate of a file, of which the nodes are taken out, over what it is read against.
 #[tactic(auto, using(crate::proofs::Shapes::file_shapes))]
-fn read_against(alloc: Global, c: &Context<'_>, value: &mut Value) -> Result<Cert, Stop>
+fn read_against(alloc: Global, c: &Context<'_>, value: &mut Value<'_>) -> Result<Cert, Stop>
     requires pairing { c.now.pairing.now ≡ c.now.places.positions.now }
     requires shape { is_file (view value.old) ≡ true }
     requires few { has_too_many (view value.old) ≡ false }
@@ -45,7 +45,7 @@ fn read_against(alloc: Global, c: &Context<'_>, value: &mut Value) -> Result<Cer
 // The certificate of a file, of which the nodes are taken out.
 fn read_value(
     alloc: Global,
-    value: &mut Value,
+    value: &mut Value<'_>,
     a: &Machine,
     b: &Machine,
     p: &Pairing,
@@ -56,8 +56,10 @@ fn read_value(
     ensures told { TellsNodes a.now b.now (view value.old) result }
     ensures lawful { IfOk result (λ c. IsLawful a.now b.now (map node_of c.nodes.items)) }
 {
-    let context = context_of(alloc, a, b, p, number_at(value, "format"))?;
-    read_against(alloc, &context, value)
+    match context_of(alloc, a, b, p, number_at(value, "format")) {
+        Ok(context) => read_against(alloc, &context, value),
+        Err(_) => Err(Stop::NoMemory),
+    }
 }
 
 // Why a file is refused before its nodes are looked at.
@@ -86,7 +88,7 @@ fn error_of(stop: Stop) -> CertError
 #[tactic(auto, using(crate::proofs::ShortFiles::spelled))]
 fn cert_of(
     alloc: Global,
-    file: Result<Value, FileError>,
+    file: Result<Value<'_>, FileError>,
     a: &Machine,
     b: &Machine,
     p: &Pairing,
@@ -94,11 +96,11 @@ fn cert_of(
     requires pairing { p.now ≡ positions a.now b.now }
     requires shape { IfOk file (λ v. is_file (view v) ≡ true) }
     requires few { IfOk file (λ v. has_too_many (view v) ≡ false) }
-    ensures spelled { IfOk result (λ c. (bytes : List ℕ) → IfOk file (λ v. IsShortFileOf bytes (view v))
+    ensures spelled { IfOk result (λ c. (bytes : List ℕ) → IfOk file.entry (λ v. IsShortFileOf bytes (view v))
         → SpellsNodes a.now b.now bytes (map node_of c.nodes.items)) }
     ensures lawful { IfOk result (λ c. IsLawful a.now b.now (map node_of c.nodes.items)) }
-    ensures refused { IfErr result (λ e. (bytes : List ℕ) → IfOk file (λ v. IsShortFileOf bytes (view v))
-        → IfErr file (IsRefusedAsShape bytes) → IsRefusedAsCertificate a.now b.now bytes e) }
+    ensures refused { IfErr result (λ e. (bytes : List ℕ) → IfOk file.entry (λ v. IsShortFileOf bytes (view v))
+        → IfErr file.entry (IsRefusedAsShape bytes) → IsRefusedAsCertificate a.now b.now bytes e) }
 {
     let mut value = match file {
         Ok(value) => value,
@@ -134,11 +136,12 @@ pub fn read_cert(
     ensures lawful { IfOk result (λ c. IsLawful a.now b.now (map node_of c.nodes.items)) }
     ensures refused { IfErr result (λ e. IsRefusedAsCertificate a.now b.now bytes.now e) }
 {
-    let file = read_file(alloc, bytes);
+    let mut room = Room::new(alloc);
+    let file = read_file(alloc, bytes, &mut room);
     cert_of(alloc, file, a, b, p)
 }
 
-/// The same of bytes that are let go before the nodes are read, so that bytes and nodes are never all there at once.
+/// The same of bytes that are let go then.
 pub fn read_owned_cert(
     alloc: Global,
     bytes: Vec<u8>,
@@ -151,7 +154,7 @@ pub fn read_owned_cert(
     ensures lawful { IfOk result (λ c. IsLawful a.now b.now (map node_of c.nodes.items)) }
     ensures refused { IfErr result (λ e. IsRefusedAsCertificate a.now b.now bytes.items e) }
 {
-    let file = read_file(alloc, bytes.as_slice());
+    let read = read_cert(alloc, bytes.as_slice(), a, b, p);
     drop(bytes);
-    cert_of(alloc, file, a, b, p)
+    read
 }

@@ -1,5 +1,5 @@
 use Rattle.std.proofs.Common.{◌≡◌, drop}
-use Rattle.serde_json.specs.View.{items_view}
+use Rattle.cert_json.specs.View.{items_view}
 use Rattle.cert_json.specs.Shape.{are_texts}
 use Rattle.cert_json.proofs.shape.are_texts.Given as goal
 

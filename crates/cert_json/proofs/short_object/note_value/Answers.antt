@@ -1,8 +1,8 @@
 use Rattle.std.proofs.Common.{sym, ◌∙◌, subst}
 use Rattle.std.proofs.lemmas.Result.{on_ok_weaker}
 use Rattle.serde_json.specs.Data.{put}
-use Rattle.serde_json.specs.View.{view, members_view}
-use Rattle.serde_json.specs.declared.value.Value.{Null}
+use Rattle.cert_json.specs.View.{view, members_view}
+use Rattle.cert_json.specs.declared.value.Value.{Null}
 use Rattle.cert_json.specs.Objects.{TellsOthers}
 use Rattle.cert_json.proofs.Others.{taken_out, left_out, put_in}
 use Rattle.cert_json.proofs.short_object.note_value.Goals as goal

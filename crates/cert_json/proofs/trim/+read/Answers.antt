@@ -6,8 +6,9 @@ use Rattle.json.specs.Reads.{token_of}
 use Rattle.json.proofs.Grammar.{value_is, value-begin_array, value-begin_object, read_key-shorter}
 use Rattle.serde_json.specs.Data.{null, boolean, number, string, array, object, no_items, item, put}
 use Rattle.serde_json.specs.Read.{of_json, of_items, converted}
-use Rattle.serde_json.specs.View.{view, number_view}
-use Rattle.serde_json.specs.declared.value.Value.{String, Number, Bool, Null, the_lemmas}
+use Rattle.cert_json.specs.View.{view}
+use Rattle.serde_json.specs.View.{number_view}
+use Rattle.cert_json.specs.declared.value.Value.{String, Number, Bool, Null, the_lemmas}
 use Rattle.serde_json.specs.Data.{no_members}
 use Rattle.cert_json.specs.Trim.{trim_items, trim_members, short_list, below, exceeds}
 use Rattle.cert_json.specs.Objects.{IsShortObject}
@@ -39,11 +40,11 @@ read-returns-then-depth-eq0-2-clause-err t c never =
     let none : c.args.depth ≡ 0 = omega arith in
     ap (converted of_json) (ap₂ value none (first ∙ ap (λ k. token_of k ∷ c.next.new.self) c.in-BeginObject.is))
 
-pub read-returns-in_ok-from_str-in-String-clause-ok : goal.read-returns-in_ok-from_str-in-String-clause-ok
-read-returns-in_ok-from_str-in-String-clause-ok t c =
+pub read-returns-in-String-clause-ok : goal.read-returns-in-String-clause-ok
+read-returns-in-String-clause-ok t c =
     let first : c.args.reader.now ≡ token_of c.in_ok-token.token ∷ c.next.new.self = grind arith in
     let is : c.args.reader.now ≡ Token.string c.in-String.text.now ∷ c.next.new.self = grind (arith, first) in
-    let seen : view (String c.in_ok-from_str-in-String.field-0) ≡ string c.in-String.text.now = search (rules, the_lemmas) in
+    let seen : view (String c.in-String.text) ≡ string c.in-String.text.now = search (rules, the_lemmas) in
     (string c.in-String.text.now, ap (converted of_json) (ap (value c.args.depth) is ∙ value_is c.args.depth _), seen)
 
 pub read-returns-in-Bool-clause-ok : goal.read-returns-in-Bool-clause-ok
