@@ -119,7 +119,7 @@ fn refused_certificate(file: Operand, error: CertError) -> Refused
     }
 }
 
-/// The certificate of two machines that the bytes of a file spell, or the answer that refuses them. The bytes are let go before
+/// The certificate of two machines that the bytes of a file spell, or the answer that refuses them. The bytes are let go once
 /// the nodes are read.
 pub fn read_certificate(
     alloc: Global,
