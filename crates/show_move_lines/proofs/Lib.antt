@@ -1,3 +1,4 @@
 pub mod Shown
 pub mod Facts
 pub mod Again
+mod Lookups
