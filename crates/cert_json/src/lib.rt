@@ -1,4 +1,4 @@
-//! Certificates as JSON: their form, and the values that they are written as.
+//! Certificates as JSON: their form, and the values that are read of them.
 //!
 //! Promises: the JSON of a certificate has its form and keeps its limits, or why not.
 //!
@@ -19,4 +19,3 @@ mod short_object;
 mod skip;
 mod trim;
 pub mod value;
-pub mod written;

@@ -12,3 +12,4 @@ mod nodes;
 mod points;
 mod texts;
 pub mod writer;
+mod written;

@@ -15,7 +15,7 @@ use crate::conditions::conditions_value;
 use crate::equations::equations_value;
 use crate::names::MachineNames;
 use crate::points::{mode_text, point_text};
-use cert_json::written::node_value;
+use crate::written::node_value;
 use cert_model::cert::Node;
 use nf_terms::stop::NoMemory;
 use serde_json::Value;

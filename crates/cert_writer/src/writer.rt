@@ -15,7 +15,7 @@ ghost use Rattle.cert_model.specs.Kept.{HasNormalFact};
 
 use crate::names::MachineNames;
 use crate::nodes::nodes_value;
-use cert_json::written::file_value;
+use crate::written::file_value;
 use cert_model::cert::Cert;
 use fs_ast::machine::Machine;
 use fs_model::parts::Sort;
