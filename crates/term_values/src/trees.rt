@@ -1,6 +1,6 @@
 //! From written terms to trees of terms.
 
-ghost use Rattle.std.specs.Prelude.{◌≡◌, ◌++◌, ◌∷◌, [], map, pos, List, IfOk, unsigned_abs};
+ghost use Rattle.std.specs.Prelude.{◌≡◌, ◌++◌, ◌∷◌, [], map, pos, List, IfOk, Ok, unsigned_abs};
 ghost use Rattle.nf_terms.specs.NormalTerms as terms;
 ghost use Rattle.nf_terms.specs.View as view;
 ghost use Rattle.term_text.specs.View as text;
@@ -41,6 +41,17 @@ fn signed_number(minus: bool, monomial: &WrittenMonomial<'_>) -> i128
     if minus { -number } else { number }
 }
 
+// Two trees, where both were made.
+fn both<A: Drop, B: Drop>(
+    left: Result<A, NoMemory>,
+    right: Result<B, NoMemory>,
+) -> Result<(A, B), NoMemory>
+    ensures left { IfOk result (λ p. left ≡ Ok p.0) }
+    ensures right { IfOk result (λ p. right ≡ Ok p.1) }
+{
+    Ok((left?, right?))
+}
+
 #[cycle(trees)]
 fn atom_tree<N: Names>(alloc: Global, names: &N, atom: &WrittenAtom<'_>) -> Result<Atom, NoMemory>
     ensures { IfOk result (λ a. view.atom_in a ≡ atom_value (within_limit (N.find names.now)) (text.written_atom_in atom.now)) }
@@ -48,36 +59,21 @@ fn atom_tree<N: Names>(alloc: Global, names: &N, atom: &WrittenAtom<'_>) -> Resu
     match atom {
         WrittenAtom::Symbol(side, name) => Ok(Atom::Sym(position(names, *side, name))),
         WrittenAtom::Read(array, index) => {
-            let array = array_tree(alloc, names, array)?;
-            make_read(alloc, array, polynomial_tree(alloc, names, index)?)
+            let array = array_tree(alloc, names, array);
+            let (array, index) = both(array, polynomial_tree(alloc, names, index))?;
+            make_read(alloc, array, index)
         }
         WrittenAtom::Quotient(left, right) => {
-            let left = polynomial_tree(alloc, names, left)?;
-            let (left, right) = add_tree(alloc, names, right, left)?;
+            let left = polynomial_tree(alloc, names, left);
+            let (left, right) = both(left, polynomial_tree(alloc, names, right))?;
             make_quotient(alloc, left, right)
         }
         WrittenAtom::Remainder(left, right) => {
-            let left = polynomial_tree(alloc, names, left)?;
-            let (left, right) = add_tree(alloc, names, right, left)?;
+            let left = polynomial_tree(alloc, names, left);
+            let (left, right) = both(left, polynomial_tree(alloc, names, right))?;
             make_remainder(alloc, left, right)
         }
     }
-}
-
-// A tree, and the tree of a polynomial.
-#[cycle(trees)]
-fn add_tree<N: Names>(
-    alloc: Global,
-    names: &N,
-    polynomial: &WrittenPolynomial<'_>,
-    tree: PolyTree,
-) -> Result<(PolyTree, PolyTree), NoMemory>
-    ensures same { IfOk result (λ p. view.polynomial_in p.0 ≡ view.polynomial_in tree) }
-    ensures tree { IfOk result
-        (λ p. view.polynomial_in p.1 ≡ polynomial_value (within_limit (N.find names.now))
-        (text.written_polynomial_in polynomial.now)) }
-{
-    Ok((tree, polynomial_tree(alloc, names, polynomial)?))
 }
 
 // One atom, as a list.
@@ -165,8 +161,8 @@ pub fn array_tree<N: Names>(
 {
     let mut writes = Vec::new(alloc);
     for (index, value) in &array.writes {
-        let index = polynomial_tree(alloc, names, index)?;
-        let (index, value) = add_tree(alloc, names, value, index)?;
+        let index = polynomial_tree(alloc, names, index);
+        let (index, value) = both(index, polynomial_tree(alloc, names, value))?;
         push_write(&mut writes, index, value)?;
     }
     Ok(ArrTree {

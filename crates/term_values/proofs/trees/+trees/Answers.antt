@@ -1,6 +1,7 @@
 use Rattle.std.proofs.Common.{[], ◌∷◌, ◌++◌, map, ap, ◌∙◌, FitsSigned, rules, sym}
 use Rattle.std.specs.Int.{w128}
 use Rattle.std.proofs.lemmas.Int.{to_z-of_z}
+use Rattle.std.proofs.lemmas.Result.{IfOk-at_ok}
 use Rattle.nf_terms.specs.NormalTerms as terms
 use Rattle.nf_terms.specs.View as view
 use Rattle.term_text.specs.declared.tree.WrittenArray.{out-WrittenArray}
@@ -37,10 +38,12 @@ pub array_tree-loop-index-preserved : goal.array_tree-loop-index-preserved
 array_tree-loop-index-preserved g t c =
     let r = within_limit (g.N.Names.find c.args.names.now) in
     let old = map view.write_in c.loop-index.writes.items in
+    let first = IfOk-at_ok _ c.in_ok-index.ensures.left c.polynomial_tree-index.ensures in
+    let second = IfOk-at_ok _ c.in_ok-index.ensures.right c.polynomial_tree.ensures in
     ap (λ ws. terms.Over (base_value r (text.base_in (out-WrittenArray c.args.array.now).base)) (terms.writes_of ws))
     (one_more text.written_write_in (write_value r) old _ c.deref-index-items.result.now c.loop-index.index-index c.loop-index-item.result
     c.loop-index-test.true c.loop-index-item.is
-    (c.in_ok-push_write.ensures ∙ (λ j. old ++ ((c.in_ok-index-2.ensures.same ∙ c.in_ok-index.ensures) j, c.in_ok-index-2.ensures.tree j) ∷ [])))
+    (c.in_ok-push_write.ensures ∙ (λ j. old ++ (first j, second j) ∷ [])))
     ∙ c.loop-index.invariant
 
 pub monomial_tree-returns : goal.monomial_tree-returns
