@@ -1,3 +1,4 @@
 pub mod Placed
 pub mod Declared
 pub mod Steps
+mod ReadParts

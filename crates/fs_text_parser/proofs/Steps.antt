@@ -1,5 +1,6 @@
 -- Readings that agree, and a token that is taken or refused.
-use Rattle.std.proofs.Common.{◌≡◌, ℕ, Bool, true, false, cond, List, [], ◌∷◌, Option, Some, None, Result, Ok, Err, refl, ◌∙◌}
+use Rattle.std.proofs.Common.{◌≡◌, ℕ, ◌<◌, length, Bool, true, false, cond, List, [], ◌∷◌, Option, Some, None, Bor, Result, Ok, Err}
+use Rattle.std.proofs.Common.{refl, ap, subst, arith, ◌∙◌}
 use Rattle.fs_expression_text.proofs.Steps.{taken}
 use Rattle.fs_model.specs.declared.parts.Role.TheVariants.{Output}
 use Rattle.fs_model.specs.declared.parts.Sort.TheVariants as sorts
@@ -7,12 +8,14 @@ use Rattle.fs_model.specs.Terms.{Guard}
 use Rattle.fs_model.specs.Source.{Declaration, Source}
 use Rattle.fs_grammar.specs.declared.fault.TextPlace.{TextPlace}
 use Rattle.fs_grammar.specs.declared.fault.TextFault.{TextFault}
+use Rattle.fs_grammar.specs.declared.fault.ReadError.{ReadError}
+use Rattle.fs_grammar.specs.declared.fault.ReadError.TheVariants.{Text, NoMemory}
 use Rattle.fs_grammar.specs.declared.format.Format.{Format}
 use Rattle.fs_grammar.specs.declared.format.Format.TheVariants.{One, Two}
 use Rattle.fs_grammar.specs.declared.token.TokenKind.{TokenKind}
 use Rattle.fs_grammar.specs.declared.token.TokenKind.TheVariants.{State, When, Goto, Emit, Port, Name, Number, End}
 use Rattle.fs_grammar.specs.declared.token.Token.{Token}
-use Rattle.fs_grammar.specs.Tokens.{kind_at, line_at, refusal, tokens_after, ◌>>=◌}
+use Rattle.fs_grammar.specs.Tokens.{kind_at, line_at, refusal, tokens_after, Gives, ParsesOn, ◌>>=◌}
 use Rattle.fs_grammar.specs.PartEnds.{EndsName, begins_transition, name_in}
 use Rattle.fs_grammar.specs.Grammar.{OpenState, OpenTransition, with_open_state, scalar, port, value, ParseState, at_format, at_semicolon, at_declaration}
 use Rattle.fs_grammar.specs.Grammar.{at_declared, at_reset, after_reset, at_state, at_state_name, after_state_name, at_transition, at_target, after_target}
@@ -56,6 +59,21 @@ took (t ∷ ts) rest w s n e f g =
     let is : t.kind ≡ w = cc in
     let i = taken t.past_limit _ ts rest g in
     rw (is, f, i.0, i.1) refl
+
+past : {X Y : Type 0} (past_limit : Bool) (f d : TextFault) (x : X) (r : Result Y TextFault) → cond past_limit (Err f) (Ok x) ≡ Err d
+    → cond past_limit (Err f) r ≡ Err d
+past true f d x r e = cc
+past false f d x r e = absurd cc
+
+-- a token that can follow, past the limit or not
+pub accepted : (ts : List Token) (w : TokenKind) (s n : ParseState) (r : Result (Bor (List Token)) ReadError) → kind_at ts ≡ Some w
+    → step s (line_at ts) w ≡ Some n → Gives (λ x. x.now) r (tokens_after ts) → ParsesOn r (reading ts s) (λ x. reading x.now n)
+accepted ts w s n (Ok x) e f g = took ts x.now w s n e f g
+accepted ts w s n (Err NoMemory) e f g = tt
+accepted [] w s n (Err (Text d)) e f g = absurd cc
+accepted (t ∷ ts) w s n (Err (Text d)) e f g =
+    let is : t.kind ≡ w = cc in
+    rw (is, f) (past t.past_limit _ d ts (reading ts n) g)
 
 refused_by : (w : TokenKind) (past_limit : Bool) (place : TextPlace) (ts : List Token) (s : ParseState) → step s place.line w ≡ None → finish_source s ≡ None
     → reading (record { kind = w; past_limit = past_limit; place = place } ∷ ts) s
@@ -176,3 +194,18 @@ pub name_reset : (ts : List Token) (f : Format) (ds : List Declaration) (m : ℕ
 name_reset ts f ds m =
     named_reading ts (at_reset f ds m) (λ x. after_reset f (record { declarations = ds; reset_line = m; reset = x; states = [] })) (λ n x. refl)
     (λ n. elim [ Name x ↦ λ i h. absurd h | _ ↦ λ i h. refl ]) refl
+
+-- what a name leaves is shorter
+abbrev left_by_name : Result (List ℕ × List Token) TextFault → List Token
+left_by_name (Ok x) = x.1
+left_by_name (Err f) = []
+
+name_left : (w : TokenKind) (past_limit : Bool) (place : TextPlace) (ts rest : List Token) (x : List ℕ)
+    → name_in (record { kind = w; past_limit = past_limit; place = place } ∷ ts) ≡ Ok (x, rest) → ts ≡ rest
+name_left (Name y) true place ts rest x e = absurd cc
+name_left (Name y) false place ts rest x e = ap left_by_name e
+name_left w past_limit place ts rest x e = absurd cc
+
+pub name_shorter : (ts rest : List Token) (x : List ℕ) → name_in ts ≡ Ok (x, rest) → length rest < length ts
+name_shorter [] rest x e = absurd cc
+name_shorter (t ∷ ts) rest x e = subst (λ r. length r < length (t ∷ ts)) (name_left t.kind t.past_limit t.place ts rest x e) (omega arith)

@@ -1,2 +1,3 @@
 pub mod DeclarationStarts
 pub mod Destinations
+pub mod ReadParts

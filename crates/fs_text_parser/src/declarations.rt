@@ -12,6 +12,7 @@ ghost use Rattle.fs_grammar.specs.Tokens.{ParsesOn, kind_at, line_at};
 ghost use Rattle.fs_grammar.specs.Grammar.{with_names, reading, at_declaration, at_sort, at_declared, at_reset, at_state};
 ghost use Rattle.fs_text_parser.specs.DeclarationStarts.{begins_declaration};
 
+use crate::parts::{join, push_read};
 use crate::words::semicolon;
 use fs_grammar::fault::ReadError;
 use fs_grammar::format::Format;
@@ -68,25 +69,21 @@ fn port(format: Format, tokens: &[Token]) -> Result<&[Token], ReadError>
 }
 
 // What stands before the names of a declaration.
-fn kind(format: Format, tokens: &[Token]) -> Result<(Role, Sort, &[Token]), ReadError>
+fn kind(format: Format, tokens: &[Token]) -> Result<(Role, (Sort, &[Token])), ReadError>
     requires { IsTrue (begins_declaration (kind_at tokens.now)) }
     ensures goes { (ds : List Declaration)
         → ParsesOn result (reading tokens.now (at_declaration format ds))
-        (λ x. reading x.2.now
-        (at_declared format ds (record { line = line_at tokens.now; role = x.0; sort = x.1; names = [] }))) }
-    ensures shorter { IfOk result (λ x. length x.2.now < length tokens.now) }
+        (λ x. reading x.1.1.now
+        (at_declared format ds (record { line = line_at tokens.now; role = x.0; sort = x.1.0; names = [] }))) }
+    ensures shorter { IfOk result (λ x. length x.1.1.now < length tokens.now) }
 {
     match front(tokens) {
         Some(TokenKind::Declare(role)) => {
             let role = *role;
             let rest = accept(tokens)?;
-            let (sort, rest) = sort(rest)?;
-            Ok((role, sort, rest))
+            join(role, sort(rest))
         }
-        Some(TokenKind::Port) => {
-            let rest = port(format, tokens)?;
-            Ok((Role::Output, Sort::Port, rest))
-        }
+        Some(TokenKind::Port) => join(Role::Output, join(Sort::Port, port(format, tokens))),
         _ => Err(refuse(tokens)),
     }
 }
@@ -103,7 +100,7 @@ fn declaration(
     ensures shorter { IfOk result (λ x. length x.1.now < length tokens.now) }
 {
     let line = line_of(tokens);
-    let (role, sort, rest) = kind(format, tokens)?;
+    let (role, (sort, rest)) = kind(format, tokens)?;
     let (names, rest) = names(alloc, rest)?;
     let read = Decl {
         line,
@@ -138,12 +135,10 @@ pub fn declarations(
     let mut all = Vec::new(alloc);
     let mut rest = tokens;
     'each: while begins_declaration(rest) {
-        let (one, after) = declaration(alloc, format, rest)?;
-        all.push(one)?;
-        rest = after;
+        rest = push_read(&mut all, declaration(alloc, format, rest))?;
     }
     let line = line_of(rest);
-    let rest = reset_word(rest)?;
+    let (all, rest) = join(all, reset_word(rest))?;
     Ok((all, line, rest))
 }
 
@@ -154,6 +149,5 @@ pub fn reset(alloc: Global, tokens: &[Token]) -> Result<(Name, &[Token]), ReadEr
         (λ x. reading x.1.now (at_state f (record { declarations = ds; reset_line = n; reset = x.0; states = [] }))) }
 {
     let (name, rest) = name(alloc, tokens)?;
-    let rest = semicolon(rest)?;
-    Ok((name, rest))
+    join(name, semicolon(rest))
 }

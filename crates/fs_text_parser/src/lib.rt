@@ -7,5 +7,6 @@
 
 pub mod declarations;
 mod expressions;
+mod parts;
 pub mod transitions;
 pub mod words;

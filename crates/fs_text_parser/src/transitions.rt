@@ -17,6 +17,7 @@ ghost use Rattle.fs_text_parser.specs.DeclarationStarts.{IsNoEmit};
 ghost use Rattle.fs_text_parser.specs.Destinations.{destination_of};
 
 use crate::expressions::{guard, sum};
+use crate::parts::{join, push_read};
 use fs_grammar::fault::ReadError;
 use fs_grammar::format::Format;
 use fs_grammar::token::{Token, TokenKind, accept, front, line_of, refuse};
@@ -83,18 +84,30 @@ fn index_end(tokens: &[Token]) -> Result<&[Token], ReadError>
     equals(rest)
 }
 
-// An element of an array as a destination, after the bracket that opens its index, up to the value.
+// The index of a destination in its brackets, up to the value.
+fn index(alloc: Global, tokens: &[Token]) -> Result<(Expr<Name>, &[Token]), ReadError>
+    requires { kind_at tokens.now ≡ Some kinds.OpenBracket }
+    ensures goes { (o : OpenTransition) (x : List ℕ) → ParsesOn result (reading tokens.now (after_assignment_name o x))
+        (λ i. reading i.1.now (at_sum (value o (grammar.element x (named_term i.0))))) }
+    ensures shorter { IfOk result (λ x. length x.1.now < length tokens.now) }
+{
+    let rest = accept(tokens)?;
+    let (index, rest) = sum(alloc, rest)?;
+    join(index, index_end(rest))
+}
+
+// An element of an array as a destination, after its name, up to the value.
 fn element(
     alloc: Global,
     name: Name,
     tokens: &[Token],
 ) -> Result<(Destination, &[Token]), ReadError>
-    ensures goes { (o : OpenTransition) → ParsesOn result (reading tokens.now (at_sum (write_index o name)))
+    requires { kind_at tokens.now ≡ Some kinds.OpenBracket }
+    ensures goes { (o : OpenTransition) → ParsesOn result (reading tokens.now (after_assignment_name o name))
         (λ x. reading x.1.now (at_sum (value o (destination_of x.0)))) }
     ensures shorter { IfOk result (λ x. length x.1.now < length tokens.now) }
 {
-    let (index, rest) = sum(alloc, tokens)?;
-    let rest = index_end(rest)?;
+    let (name, (index, rest)) = join(name, index(alloc, tokens))?;
     Ok((Destination::Element(name, index), rest))
 }
 
@@ -110,14 +123,8 @@ fn indexed(
     ensures shorter { IfOk result (λ x. length x.1.now < length tokens.now) }
 {
     match front(tokens) {
-        Some(TokenKind::OpenBracket) => {
-            let rest = accept(tokens)?;
-            element(alloc, name, rest)
-        }
-        _ => {
-            let rest = equals(tokens)?;
-            Ok((Destination::Scalar(name), rest))
-        }
+        Some(TokenKind::OpenBracket) => element(alloc, name, tokens),
+        _ => join(Destination::Scalar(name), equals(tokens)),
     }
 }
 
@@ -185,29 +192,25 @@ fn separator(tokens: &[Token]) -> Result<(bool, &[Token]), ReadError>
     ensures shorter { IfOk result (λ x. length x.1.now < length tokens.now) }
 {
     match front(tokens) {
-        Some(TokenKind::Comma) => {
-            let rest = accept(tokens)?;
-            Ok((true, rest))
-        }
-        Some(TokenKind::Semicolon) => {
-            let rest = accept(tokens)?;
-            Ok((false, rest))
-        }
+        Some(TokenKind::Comma) => join(true, accept(tokens)),
+        Some(TokenKind::Semicolon) => join(false, accept(tokens)),
         _ => Err(refuse(tokens)),
     }
 }
 
 // The value of an assignment or an emit, and whether one more follows.
-fn listed_value(alloc: Global, tokens: &[Token]) -> Result<(Expr<Name>, bool, &[Token]), ReadError>
+fn listed_value(
+    alloc: Global,
+    tokens: &[Token],
+) -> Result<(Expr<Name>, (bool, &[Token])), ReadError>
     ensures goes { (o : OpenTransition) (d : grammar.Destination)
         → ParsesOn result (reading tokens.now (at_sum (value o d)))
         (λ x. let next = with_assignments o (destination_assignment d (named_term x.0) ∷ []) in
-        reading x.2.now (cond x.1 (at_assignment next) (at_transition (close_transition next)))) }
-    ensures shorter { IfOk result (λ x. length x.2.now < length tokens.now) }
+        reading x.1.1.now (cond x.1.0 (at_assignment next) (at_transition (close_transition next)))) }
+    ensures shorter { IfOk result (λ x. length x.1.1.now < length tokens.now) }
 {
     let (value, rest) = sum(alloc, tokens)?;
-    let (more, rest) = separator(rest)?;
-    Ok((value, more, rest))
+    join(value, separator(rest))
 }
 
 // An assignment or an emit, and whether one more follows.
@@ -215,16 +218,16 @@ fn listed_assignment(
     alloc: Global,
     format: Format,
     tokens: &[Token],
-) -> Result<(Assign<Name>, bool, &[Token]), ReadError>
+) -> Result<(Assign<Name>, (bool, &[Token])), ReadError>
     ensures goes { (o : OpenTransition) → o.state.format ≡ format
         → ParsesOn result (reading tokens.now (at_assignment o))
         (λ x. let next = with_assignments o (named_assignment x.0 ∷ []) in
-        reading x.2.now (cond x.1 (at_assignment next) (at_transition (close_transition next)))) }
-    ensures shorter { IfOk result (λ x. length x.2.now < length tokens.now) }
+        reading x.1.1.now (cond x.1.0 (at_assignment next) (at_transition (close_transition next)))) }
+    ensures shorter { IfOk result (λ x. length x.1.1.now < length tokens.now) }
 {
     let (destination, rest) = value_destination(alloc, format, tokens)?;
-    let (value, more, rest) = listed_value(alloc, rest)?;
-    Ok((destination.assign(value), more, rest))
+    let (destination, (value, next)) = join(destination, listed_value(alloc, rest))?;
+    Ok((destination.assign(value), next))
 }
 
 // Assignments up to the end of their line.
@@ -241,8 +244,7 @@ fn assignments(
     let mut all = Vec::new(alloc);
     let mut rest = tokens;
     loop {
-        let (one, more, after) = listed_assignment(alloc, format, rest)?;
-        all.push(one)?;
+        let (more, after) = push_read(&mut all, listed_assignment(alloc, format, rest))?;
         if !more {
             return Ok((all, after));
         }
@@ -266,10 +268,7 @@ fn effects(
             let rest = accept(tokens)?;
             assignments(alloc, format, rest)
         }
-        Some(TokenKind::Semicolon) => {
-            let rest = accept(tokens)?;
-            Ok((Vec::new(alloc), rest))
-        }
+        Some(TokenKind::Semicolon) => join(Vec::new(alloc), accept(tokens)),
         _ => Err(refuse(tokens)),
     }
 }
@@ -279,18 +278,17 @@ fn target(
     alloc: Global,
     format: Format,
     tokens: &[Token],
-) -> Result<(Name, Vec<Assign<Name>>, &[Token]), ReadError>
+) -> Result<(Name, (Vec<Assign<Name>>, &[Token])), ReadError>
     ensures goes { (d : OpenState) (n : ℕ) (g : Option (terms.Guard (List ℕ))) → d.format ≡ format
         → ParsesOn result (reading tokens.now (at_target d n g))
-        (λ x. reading x.2.now
+        (λ x. reading x.1.1.now
         (at_transition
         (close_transition
-        (record { state = d; line = n; guard = g; target = x.0; assignments = map named_assignment x.1.items })))) }
-    ensures shorter { IfOk result (λ x. length x.2.now < length tokens.now) }
+        (record { state = d; line = n; guard = g; target = x.0; assignments = map named_assignment x.1.0.items })))) }
+    ensures shorter { IfOk result (λ x. length x.1.1.now < length tokens.now) }
 {
     let (name, rest) = name(alloc, tokens)?;
-    let (assigns, rest) = effects(alloc, format, rest)?;
-    Ok((name, assigns, rest))
+    join(name, effects(alloc, format, rest))
 }
 
 fn begins_transition(tokens: &[Token]) -> bool
@@ -318,15 +316,14 @@ fn goto(tokens: &[Token]) -> Result<&[Token], ReadError>
 }
 
 // The guard of a line and the word `goto`, after `when`.
-fn guarded(alloc: Global, tokens: &[Token]) -> Result<(Guard, &[Token]), ReadError>
+fn guarded(alloc: Global, tokens: &[Token]) -> Result<(Option<Guard>, &[Token]), ReadError>
     ensures goes { (d : OpenState) (n : ℕ)
         → ParsesOn result (reading tokens.now (at_guard (grammar.transition_guard d n)))
-        (λ x. reading x.1.now (at_target d n (Some (named_guard x.0)))) }
+        (λ x. reading x.1.now (at_target d n (option_map named_guard x.0))) }
     ensures shorter { IfOk result (λ x. length x.1.now < length tokens.now) }
 {
     let (guard, rest) = guard(alloc, tokens)?;
-    let rest = goto(rest)?;
-    Ok((guard, rest))
+    join(Some(guard), goto(rest))
 }
 
 // The guard of a line, or none, and the word `goto`.
@@ -339,13 +336,9 @@ fn condition(alloc: Global, tokens: &[Token]) -> Result<(Option<Guard>, &[Token]
     match front(tokens) {
         Some(TokenKind::When) => {
             let rest = accept(tokens)?;
-            let (guard, rest) = guarded(alloc, rest)?;
-            Ok((Some(guard), rest))
+            guarded(alloc, rest)
         }
-        Some(TokenKind::Goto) => {
-            let rest = accept(tokens)?;
-            Ok((None, rest))
-        }
+        Some(TokenKind::Goto) => join(None, accept(tokens)),
         _ => Err(refuse(tokens)),
     }
 }
@@ -363,7 +356,7 @@ fn transition(
 {
     let line = line_of(tokens);
     let (guard, rest) = condition(alloc, tokens)?;
-    let (target, assigns, rest) = target(alloc, format, rest)?;
+    let (guard, (target, (assigns, rest))) = join(guard, target(alloc, format, rest))?;
     let read = RawLine {
         line,
         guard,
@@ -388,9 +381,7 @@ pub fn transitions(
     let mut all = Vec::new(alloc);
     let mut rest = tokens;
     'each: while begins_transition(rest) {
-        let (one, after) = transition(alloc, format, rest)?;
-        all.push(one)?;
-        rest = after;
+        rest = push_read(&mut all, transition(alloc, format, rest))?;
     }
     Ok((all, rest))
 }

@@ -1,9 +1,10 @@
 use Rattle.std.proofs.Common.{[], ap, ◌∙◌}
 use Rattle.fs_grammar.specs.PartEnds.{name_in}
 use Rattle.fs_grammar.specs.Tokens.{◌>>=◌}
-use Rattle.fs_grammar.specs.Grammar.{reading, after_reset}
+use Rattle.fs_grammar.specs.Grammar.{reading, after_reset, at_state}
 use Rattle.fs_text_parser.proofs.Steps.{name_reset}
-use Rattle.fs_phrase_text.proofs.PassedOn.{refused, stopped}
+use Rattle.fs_text_parser.proofs.ReadParts.{joined}
+use Rattle.fs_phrase_text.proofs.PassedOn.{stopped}
 use Rattle.fs_text_parser.proofs.declarations.reset.Goals as goal
 
 pub returns-in_err-name : goal.returns-in_err-name
@@ -13,16 +14,12 @@ returns-in_err-name c =
     (λ x. reading x.1 (after_reset f (record { declarations = ds; reset_line = n; reset = x.0; states = [] }))) _
     c.from_residual.ensures.1 (name_reset ts f ds n) c.in_err-name.ensures
 
-pub returns-in_err-rest : goal.returns-in_err-rest
-returns-in_err-rest c =
-    let ts = c.args.tokens.now in
-    λ f ds n. refused c.from_residual-in_err-rest.result c.in_err-rest.field-0.0 _ c.from_residual-in_err-rest.ensures.1 (name_reset ts f ds n
-    ∙ ap (λ q. q >>= λ x. reading x.1 (after_reset f (record { declarations = ds; reset_line = n; reset = x.0; states = [] }))) c.in_ok-name.ensures)
-    (c.in_err-rest.ensures.reset f (record { declarations = ds; reset_line = n; reset = c.in_ok-name.name; states = [] }))
-
 pub returns : goal.returns
 returns c =
     let ts = c.args.tokens.now in
-    λ f ds n. name_reset ts f ds n
-    ∙ ap (λ q. q >>= λ x. reading x.1 (after_reset f (record { declarations = ds; reset_line = n; reset = x.0; states = [] }))) c.in_ok-name.ensures
-    ∙ c.in_ok-rest.ensures.reset f (record { declarations = ds; reset_line = n; reset = c.in_ok-name.name; states = [] })
+    let name = c.in_ok-name.name in
+    λ f ds n. joined c.join.result name c.semicolon.result
+    (λ x. reading x.1.now (at_state f (record { declarations = ds; reset_line = n; reset = x.0; states = [] }))) c.join.ensures
+    (name_reset ts f ds n
+    ∙ ap (λ q. q >>= λ x. reading x.1 (after_reset f (record { declarations = ds; reset_line = n; reset = x.0; states = [] }))) c.in_ok-name.ensures)
+    (c.semicolon.ensures.reset f (record { declarations = ds; reset_line = n; reset = name; states = [] }))

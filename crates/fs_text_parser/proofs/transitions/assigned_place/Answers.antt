@@ -1,8 +1,9 @@
-use Rattle.std.proofs.Common.{ap, ◌∙◌}
+use Rattle.std.proofs.Common.{◌<◌, length, ap, ◌∙◌, arith}
+use Rattle.std.proofs.lemmas.Result.{IfOk-weaker}
 use Rattle.fs_grammar.specs.PartEnds.{name_in}
 use Rattle.fs_grammar.specs.Tokens.{◌>>=◌}
 use Rattle.fs_grammar.specs.Grammar.{reading, after_assignment_name}
-use Rattle.fs_text_parser.proofs.Steps.{name_assignment}
+use Rattle.fs_text_parser.proofs.Steps.{name_assignment, name_shorter}
 use Rattle.fs_phrase_text.proofs.PassedOn.{stopped, goes_after}
 use Rattle.fs_text_parser.proofs.transitions.assigned_place.Goals as goal
 
@@ -18,3 +19,10 @@ returns-clause-goes c =
     let ts = c.args.tokens.now in
     λ o. goes_after c.indexed.result _ (name_assignment ts o c.requires
     ∙ ap (λ q. q >>= λ x. reading x.1 (after_assignment_name o x.0)) c.in_ok-name.ensures) (c.indexed.ensures.goes o)
+
+pub returns-clause-shorter : goal.returns-clause-shorter
+returns-clause-shorter c =
+    let ts = c.args.tokens.now in
+    let rest = c.in_ok-name.rest.now in
+    IfOk-weaker c.indexed.result (λ x. length x.1.now < length rest) (λ x. length x.1.now < length ts)
+    (λ x h. omega (arith, h, name_shorter ts rest c.in_ok-name.name c.in_ok-name.ensures)) c.indexed.ensures.shorter

@@ -1,15 +1,18 @@
-use Rattle.std.proofs.Common.{◌≡◌, Some, ap, sym, refl, ◌∙◌}
-use Rattle.fs_grammar.specs.declared.token.TokenKind.{TokenKind}
-use Rattle.fs_grammar.specs.declared.token.TokenKind.TheVariants.{OpenBracket}
-use Rattle.fs_grammar.specs.Tokens.{kind_at}
-use Rattle.fs_grammar.specs.Grammar.{after_assignment_name, at_sum, write_index}
-use Rattle.fs_text_parser.proofs.Steps.{took}
+use Rattle.std.proofs.Common.{rules}
+use Rattle.fs_grammar.specs.PartEnds.{EndsName}
+use Rattle.fs_grammar.specs.Grammar.{reading, scalar, at_sum, value}
+use Rattle.fs_text_parser.specs.Destinations.{destination_of}
+use Rattle.fs_text_parser.specs.declared.transitions.Destination.TheVariants.{Scalar}
+use Rattle.fs_text_parser.proofs.Steps.{scalar_ends}
+use Rattle.fs_text_parser.proofs.ReadParts.{joined, if_joined}
 use Rattle.fs_text_parser.proofs.transitions.indexed.Goals as goal
 
-pub returns-in_ok-rest-in-Some-OpenBracket-clause-goes : goal.returns-in_ok-rest-in-Some-OpenBracket-clause-goes
-returns-in_ok-rest-in-Some-OpenBracket-clause-goes c =
-    let is : kind_at c.args.tokens.now ≡ Some OpenBracket = sym c.in-Some-OpenBracket.ensures
-    ∙ ap (λ (w : TokenKind). Some w) c.in-Some-OpenBracket.field-0-is in
-    λ o. rw
-    (took c.args.tokens.now c.in_ok-rest-in-Some-OpenBracket.rest.now OpenBracket (after_assignment_name o c.args.name)
-    (at_sum (write_index o c.args.name)) is refl c.in_ok-rest-in-Some-OpenBracket.ensures.gives) (c.element.ensures.goes o)
+pub returns-in_default-clause-goes : goal.returns-in_default-clause-goes
+returns-in_default-clause-goes c =
+    let ends : EndsName c.args.tokens.now = search rules in
+    λ o. joined c.join.result (Scalar c.args.name) c.equals.result (λ x. reading x.1.now (at_sum (value o (destination_of x.0)))) c.join.ensures
+    (scalar_ends c.args.tokens.now o c.args.name ends) (c.equals.ensures.goes o (scalar c.args.name))
+
+pub returns-in_default-clause-shorter : goal.returns-in_default-clause-shorter
+returns-in_default-clause-shorter c =
+    if_joined c.join.result (Scalar c.args.name) c.equals.result _ _ c.join.ensures c.equals.ensures.shorter (λ y h. h)

@@ -1,22 +1,33 @@
-use Rattle.std.proofs.Common.{[], ◌∷◌, refl, ap, sym, cond, ◌∙◌}
-use Rattle.fs_grammar.specs.Grammar.{reading, at_assignment, at_transition, close_transition, with_assignments}
+use Rattle.std.proofs.Common.{[], ◌∷◌, ◌<◌, length, refl, ap, sym, ◌∙◌, arith}
+use Rattle.fs_model.specs.View.{named_term}
+use Rattle.fs_grammar.specs.Grammar.{destination_assignment, with_assignments}
 use Rattle.fs_text_parser.specs.Destinations.{destination_of}
 use Rattle.fs_phrase_text.proofs.PassedOn.{refused}
+use Rattle.fs_text_parser.proofs.ReadParts.{joined, if_joined, after_assignment}
 use Rattle.fs_text_parser.proofs.transitions.listed_assignment.Goals as goal
 
 pub returns-in_err-destination-clause-goes : goal.returns-in_err-destination-clause-goes
 returns-in_err-destination-clause-goes c =
     λ o e. refused c.from_residual.result c.in_err-destination.field-0.0 _ c.from_residual.ensures.1 refl (c.in_err-destination.ensures.goes o e)
 
-pub returns-in_err-value-clause-goes : goal.returns-in_err-value-clause-goes
-returns-in_err-value-clause-goes c =
-    λ o e. refused c.from_residual-in_err-value.result c.in_err-value.field-0.0 _ c.from_residual-in_err-value.ensures.1
-    (c.in_ok-destination.ensures.goes o e) (c.in_err-value.ensures.goes o (destination_of c.in_ok-destination.destination))
+pub returns-in_err-destination-2-clause-goes : goal.returns-in_err-destination-2-clause-goes
+returns-in_err-destination-2-clause-goes c =
+    let d = c.in_ok-destination.destination in
+    λ o e. refused c.from_residual-in_err-destination-2.result c.in_err-destination-2.field-0.0 _ c.from_residual-in_err-destination-2.ensures.1
+    (c.in_ok-destination.ensures.goes o e)
+    (joined _ d c.listed_value.result (λ x. after_assignment (with_assignments o (destination_assignment (destination_of x.0) (named_term x.1.0) ∷ [])) x.1.1)
+    c.in_err-destination-2.ensures refl (c.listed_value.ensures.goes o (destination_of d)))
 
 pub returns-clause-goes : goal.returns-clause-goes
 returns-clause-goes c =
-    let rest = c.in_ok-value.rest.now in
-    let more = c.in_ok-value.more in
-    λ o e. c.in_ok-destination.ensures.goes o e ∙ c.in_ok-value.ensures.goes o (destination_of c.in_ok-destination.destination)
-    ∙ ap (λ a. reading rest (cond more (at_assignment (with_assignments o (a ∷ []))) (at_transition (close_transition (with_assignments o (a ∷ []))))))
-    (sym c.assign.ensures)
+    let d = c.in_ok-destination.destination in
+    λ o e. c.in_ok-destination.ensures.goes o e
+    ∙ joined _ d c.listed_value.result (λ x. after_assignment (with_assignments o (destination_assignment (destination_of x.0) (named_term x.1.0) ∷ [])) x.1.1)
+    c.in_ok-destination-2.ensures refl (c.listed_value.ensures.goes o (destination_of d))
+    ∙ ap (λ a. after_assignment (with_assignments o (a ∷ [])) c.in_ok-destination-2.next) (sym c.assign.ensures)
+
+pub returns-clause-shorter : goal.returns-clause-shorter
+returns-clause-shorter c =
+    if_joined _ c.in_ok-destination.destination c.listed_value.result (λ x. length x.1.1.1.now < length c.args.tokens.now) _
+    c.in_ok-destination-2.ensures c.listed_value.ensures.shorter
+    (λ y h. omega (arith, h, c.in_ok-destination.ensures.shorter))

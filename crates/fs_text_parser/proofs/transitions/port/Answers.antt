@@ -2,7 +2,7 @@ use Rattle.std.proofs.Common.{ap, ◌∙◌}
 use Rattle.fs_grammar.specs.PartEnds.{name_in}
 use Rattle.fs_grammar.specs.Tokens.{◌>>=◌}
 use Rattle.fs_grammar.specs.Grammar.{port, value, at_sum, reading}
-use Rattle.fs_text_parser.proofs.Steps.{name_port}
+use Rattle.fs_text_parser.proofs.Steps.{name_port, name_shorter}
 use Rattle.fs_phrase_text.proofs.PassedOn.{stopped}
 use Rattle.fs_text_parser.proofs.transitions.port.Goals as goal
 
@@ -16,3 +16,6 @@ returns-in_err-name-clause-goes c =
 pub returns-clause-goes : goal.returns-clause-goes
 returns-clause-goes c =
     λ o. name_port c.args.tokens.now o ∙ ap (λ q. q >>= λ x. reading x.1 (at_sum (value o (port x.0)))) c.in_ok-name.ensures
+
+pub returns-clause-shorter : goal.returns-clause-shorter
+returns-clause-shorter c = name_shorter c.args.tokens.now c.in_ok-name.rest.now c.in_ok-name.name c.in_ok-name.ensures
