@@ -13,3 +13,4 @@ pub mod LineTexts
 pub mod WholeTexts
 pub mod Again
 pub mod BareTexts
+mod Loops
