@@ -3,12 +3,9 @@ use Rattle.std.proofs.Common.{◌≡◌, ◌<◌, ◌≤◌, ℕ, List, Bor, len
 use Rattle.std.specs.Result.{IsErrAnd, IfOk}
 use Rattle.term_text.specs.declared.fault.ReadError.{ReadError}
 use Rattle.term_text.specs.declared.fault.ReadError.TheVariants.{BadTerm, NoMemory}
-use Rattle.term_text.specs.declared.starts.DivisionKind.{DivisionKind}
-use Rattle.term_text.specs.declared.starts.DivisionKind.TheVariants as kinds
-use Rattle.term_text.specs.TermTexts.{Atom, Polynomial, TermSyntax}
-use Rattle.term_text.specs.Machine.{ForAtom, Goes, dividend, divisor, modulend, modulus, at_polynomial, after_polynomial, atom_done}
-use Rattle.term_text.specs.Machine.{term_reading}
-use Rattle.term_text.specs.AtomStarts.{MadeFrom, left_side, right_side}
+use Rattle.term_text.specs.TermTexts.{Atom, TermSyntax}
+use Rattle.term_text.specs.Machine.{ForAtom, Goes, atom_done, term_reading}
+use Rattle.term_text.specs.AtomStarts.{MadeFrom}
 
 pub still : {X Y : Type 0} (e : ReadError) (text : Option TermSyntax) (go : X → Option TermSyntax) (on : Y → Option TermSyntax)
     → Goes {X = Y} (Err e) text on → Goes {X = X} (Err e) text go
@@ -67,15 +64,6 @@ pub same_atom : {a b : Atom} {bs cs : List ℕ} (k : ForAtom) → (b ≡ a) × (
     → term_reading bs (atom_done a k) ≡ term_reading cs (atom_done b k)
 same_atom k m = λ j. term_reading (sym m.1 j) (atom_done (sym m.0 j) k)
 
--- the comma of a division
-pub comma_goes : (d : DivisionKind) (r : Result (Bor (List ℕ)) ReadError) (bs : List ℕ)
-    → ((p : Polynomial) (k : ForAtom) → Goes r (term_reading bs (after_polynomial p (dividend k))) (λ x. term_reading x.now (at_polynomial (divisor p k))))
-    → ((p : Polynomial) (k : ForAtom) → Goes r (term_reading bs (after_polynomial p (modulend k))) (λ x. term_reading x.now (at_polynomial (modulus p k))))
-    → (p : Polynomial) (k : ForAtom)
-    → Goes r (term_reading bs (after_polynomial p (left_side d k))) (λ x. term_reading x.now (at_polynomial (right_side d p k)))
-comma_goes kinds.Quotient r bs quotient remainder p k = quotient p k
-comma_goes kinds.Remainder r bs quotient remainder p k = remainder p k
-
 -- ---- what is left is shorter
 
 -- nothing is left of what is refused
@@ -88,17 +76,6 @@ pub less_left : {X : Type 0} {a b : ℕ} (r : Result (X × Bor (List ℕ)) ReadE
 less_left (Ok x) less h = omega (arith, less, h)
 less_left (Err e) less h = tt
 
-pub at_most_left : {X : Type 0} {a b : ℕ} (r : Result (X × Bor (List ℕ)) ReadError) → a < b
-    → IfOk r (λ x. length x.1.now ≤ a) → IfOk r (λ x. length x.1.now < b)
-at_most_left (Ok x) less h = omega (arith, less, h)
-at_most_left (Err e) less h = tt
-
-pub less_again : {a b c : ℕ} → a < b → b < c → a < c
-less_again less h = omega (arith, less, h)
-
-pub at_most_less : {a b c : ℕ} → a ≤ b → b < c → a < c
-at_most_less at_most h = omega (arith, at_most, h)
-
 -- what is left behind what is made
 pub less_made : {X Y : Type 0} {a b : ℕ} (same : X × Bor (List ℕ) → Y × Bor (List ℕ) → Type 0) (r : Result (X × Bor (List ℕ)) ReadError)
     (s : Result (Y × Bor (List ℕ)) ReadError) → MadeFrom r s (λ x y. same x y × (y.1.now ≡ x.1.now)) → a ≤ b → IfOk r (λ x. length x.1.now < a)
@@ -107,6 +84,15 @@ less_made same (Ok x) (Ok y) m n h = omega (arith, n, h, ap length m.1)
 less_made same (Ok x) (Err e) m n h = tt
 less_made same (Err d) (Ok y) m n h = absurd m
 less_made same (Err d) (Err e) m n h = tt
+
+-- what is left behind a part and what was read behind it
+pub less_beside : {X Y : Type 0} {a b : ℕ} (part : X) (r : Result (Y × Bor (List ℕ)) ReadError) (s : Result (X × Y × Bor (List ℕ)) ReadError)
+    → MadeFrom r s (λ y p. (p.0 ≡ part) × (p.1 ≡ y.0) × (p.2.now ≡ y.1.now)) → a ≤ b → IfOk r (λ x. length x.1.now < a)
+    → IfOk s (λ p. length p.2.now < b)
+less_beside part (Ok y) (Ok p) m less h = omega (arith, ap length m.2, h, less)
+less_beside part (Ok y) (Err e) m less h = tt
+less_beside part (Err d) (Ok p) m less h = absurd m
+less_beside part (Err d) (Err e) m less h = tt
 
 pub less_on : {X Y : Type 0} (r : Result X ReadError) (y : Y) (is : X → Y → Type 0) {P : X → Type 0} {A : Type 0} → MadeFrom r (Ok y) is → IfOk r P
     → ((x : X) → is x y → P x → A) → A

@@ -11,7 +11,7 @@ use Rattle.fs_model.specs.declared.sides.Side.{Side}
 use Rattle.term_text.specs.TermTexts.{Atom, Monomial, Sum, Polynomial, ArrayTerm, ListSyntax, Symbol, Read, Number, Times, Of, Bare, Written, BareList, Pushed}
 use Rattle.term_text.specs.declared.starts.DivisionKind.{DivisionKind}
 use Rattle.term_text.specs.declared.starts.DivisionKind.TheVariants as kinds
-use Rattle.term_text.specs.AtomStarts.{right_side, division_of}
+use Rattle.term_text.specs.AtomStarts.{left_side, right_side, division_of}
 use Rattle.term_text.specs.declared.tree.WrittenAtom.{WrittenAtom}
 use Rattle.term_text.specs.declared.tree.WrittenMonomial.{WrittenMonomial}
 use Rattle.term_text.specs.declared.tree.WrittenPolynomial.{WrittenPolynomial}
@@ -192,6 +192,25 @@ closes_right kinds.Quotient l k (b ∷ bs) p = refl
 closes_right kinds.Remainder l k [] p = refl
 closes_right kinds.Remainder l k (b ∷ bs) p = refl
 
+-- ---- the bytes that open the place of a polynomial
+
+pub opens_index : (a : ArrayTerm) (k : ForAtom) (bs : List ℕ) → EndsWrites bs
+    → term_reading bs (after_array a (read_of k)) ≡ term_reading bs (expect 91 (at_polynomial (index a k)))
+opens_index a k [] h = refl
+opens_index a k (b ∷ bs) h = rw h refl
+
+pub opens_value : (i : Polynomial) (a : ArrayTerm) (k : ForArray) (bs : List ℕ)
+    → term_reading bs (after_polynomial i (place a k)) ≡ term_reading bs (expect 58 (expect 32 (at_polynomial (value a i k))))
+opens_value i a k [] = refl
+opens_value i a k (b ∷ bs) = refl
+
+pub opens_right : (d : DivisionKind) (l : Polynomial) (k : ForAtom) (bs : List ℕ)
+    → term_reading bs (after_polynomial l (left_side d k)) ≡ term_reading bs (expect 44 (expect 32 (at_polynomial (right_side d l k))))
+opens_right kinds.Quotient l k [] = refl
+opens_right kinds.Quotient l k (b ∷ bs) = refl
+opens_right kinds.Remainder l k [] = refl
+opens_right kinds.Remainder l k (b ∷ bs) = refl
+
 -- ---- what stands behind a byte
 
 first_byte : (t : Bool) (c b : ℕ) (bs rest : List ℕ) → (b == c) ≡ t → cond t (Some bs) None ≡ Some rest → ((b == c) ≡ true) × (bs ≡ rest)
@@ -279,6 +298,10 @@ pub monomial_more : (ts : List (Bool × WrittenMonomial)) (t : Bool × WrittenMo
 monomial_more [] t h = absurd (omega (arith, h))
 monomial_more (x ∷ ts) t h = ap (sum_all (first_sum (written_term_in x))) (map_push written_term_in ts t)
     ∙ sum_more (first_sum (written_term_in x)) (map written_term_in ts) (written_term_in t)
+
+pub some_there : {X : Type 0} (old new : List X) (x : X) → new ≡ old ++ x ∷ [] → 0 < length new
+some_there [] new x e = omega (arith, ap length e)
+some_there (y ∷ old) new x e = omega (arith, ap length e)
 
 pub sum_whole : (ts : List (Bool × WrittenMonomial)) → 0 < length ts → polynomial_all (map written_term_in ts) ≡ Of (sum_of (map written_term_in ts))
 sum_whole [] h = absurd (omega (arith, h))

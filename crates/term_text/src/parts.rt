@@ -1,24 +1,42 @@
 //! Making the parts of written terms.
 
-ghost use Rattle.std.specs.Prelude.{◌≡◌, ◌<◌, map, length, IfOk};
-ghost use Rattle.term_text.specs.Machine.{TermMadeAs};
+ghost use Rattle.std.specs.Prelude.{◌≡◌, ◌++◌, ◌∷◌, []};
 ghost use Rattle.term_text.specs.AtomStarts.{MadeFrom, division_of};
-ghost use Rattle.term_text.specs.TermTexts.{Monomial, ArrayTerm, One, Times, Read, Written};
-ghost use Rattle.term_text.specs.View.{written_atom_in, head_in, written_monomial_in, written_polynomial_in, written_array_in};
-ghost use Rattle.term_text.specs.View.{written_term_in, written_write_in, times_all, written_all, sum_of, first_sum};
-ghost use Rattle.term_text.specs.View.{more_sum};
+ghost use Rattle.term_text.specs.TermTexts.{One, Read};
+ghost use Rattle.term_text.specs.View.{written_atom_in, head_in, written_polynomial_in, written_array_in};
 
 use crate::fault::ReadError;
 use crate::starts::DivisionKind;
-use crate::tree::{WrittenArray, WrittenAtom, WrittenHead, WrittenMonomial, WrittenPolynomial};
+use crate::tree::{WrittenArray, WrittenAtom, WrittenHead, WrittenPolynomial};
 use nf_terms::atoms::both_boxed;
 use std::alloc::Global;
 
-/// The head of an atom.
-pub fn one<'a>(first: WrittenAtom<'a>) -> WrittenHead<'a>
-    ensures { head_in result ≡ One (written_atom_in first.entry) }
+/// What a monomial begins with, where an atom was read.
+#[inline(always)]
+pub fn one<'a>(
+    first: Result<(WrittenAtom<'a>, &'a [u8]), ReadError>,
+) -> Result<(WrittenHead<'a>, &'a [u8]), ReadError>
+    ensures { MadeFrom first.entry result
+        (λ a h. (head_in h.0 ≡ One (written_atom_in a.0)) × (h.1.now ≡ a.1.now)) }
 {
-    WrittenHead::One(first)
+    match first {
+        Ok((first, rest)) => Ok((WrittenHead::One(first), rest)),
+        Err(error) => Err(error),
+    }
+}
+
+/// A part, and what was read behind it.
+#[inline(always)]
+pub fn beside<'a, A: Drop, B: Drop>(
+    part: A,
+    read: Result<(B, &'a [u8]), ReadError>,
+) -> Result<(A, B, &'a [u8]), ReadError>
+    ensures { MadeFrom read.entry result (λ b p. (p.0 ≡ part) × (p.1 ≡ b.0) × (p.2.now ≡ b.1.now)) }
+{
+    match read {
+        Ok((next, rest)) => Ok((part, next, rest)),
+        Err(error) => Err(error),
+    }
 }
 
 /// What is read of an array, where its index was read.
@@ -62,78 +80,34 @@ pub fn make_division<'a>(
     }
 }
 
-/// Adds the atom that was read to a monomial, and gives what follows it.
-#[tactic(auto, using(crate::proofs::Steps::atom_more))]
-pub fn push_atom<'a>(
-    atoms: &mut Vec<WrittenAtom<'a>>,
-    next: Result<(WrittenAtom<'a>, &'a [u8]), ReadError>,
+/// Adds what was read to a list, and gives what follows it.
+pub fn push_read<'a, A: Drop>(
+    out: &mut Vec<A>,
+    next: Result<(A, &'a [u8]), ReadError>,
 ) -> Result<&'a [u8], ReadError>
-    ensures { MadeFrom next.entry result
-        (λ a rest. ((m : Monomial) → times_all m (map written_atom_in atoms.new.items)
-        ≡ Times (times_all m (map written_atom_in atoms.old.items)) (written_atom_in a.0)) × (rest.now ≡ a.1.now)) }
+    ensures { MadeFrom next.entry result (λ x rest. (out.new.items ≡ out.old.items ++ x.0 ∷ []) × (rest.now ≡ x.1.now)) }
 {
     match next {
-        Ok((atom, rest)) => {
-            atoms.push(atom)?;
+        Ok((part, rest)) => {
+            out.push(part)?;
             Ok(rest)
         }
         Err(error) => Err(error),
     }
 }
 
-/// Adds the monomial that was read to a sum, and gives what follows it.
-#[tactic(auto, using(crate::proofs::Steps::monomial_more))]
-pub fn push_monomial<'a>(
-    monomials: &mut Vec<(bool, WrittenMonomial<'a>)>,
-    next: Result<(bool, WrittenMonomial<'a>, &'a [u8]), ReadError>,
+/// Adds two parts that were read, one behind the other, to a list, and gives what follows them.
+pub fn push_both<'a, A: Drop, B: Drop>(
+    out: &mut Vec<(A, B)>,
+    next: Result<(A, B, &'a [u8]), ReadError>,
 ) -> Result<&'a [u8], ReadError>
-    requires { 0 < length monomials.old.items }
-    ensures sum { MadeFrom next.entry result
-        (λ m rest. (sum_of (map written_term_in monomials.new.items)
-        ≡ more_sum (sum_of (map written_term_in monomials.old.items)) (m.0, written_monomial_in m.1)) × (rest.now ≡ m.2.now)) }
-    ensures some { IfOk result (λ _. 0 < length monomials.new.items) }
+    ensures { MadeFrom next.entry result (λ x rest. (out.new.items ≡ out.old.items ++ (x.0, x.1) ∷ []) × (rest.now ≡ x.2.now)) }
 {
     match next {
-        Ok((minus, monomial, rest)) => {
-            monomials.push((minus, monomial))?;
+        Ok((first, second, rest)) => {
+            out.push((first, second))?;
             Ok(rest)
         }
         Err(error) => Err(error),
     }
-}
-
-/// Adds a write to an array, where its value was read, and gives what follows it.
-#[tactic(auto, using(crate::proofs::Steps::write_more))]
-pub fn push_write<'a>(
-    writes: &mut Vec<(WrittenPolynomial<'a>, WrittenPolynomial<'a>)>,
-    index: WrittenPolynomial<'a>,
-    value: Result<(WrittenPolynomial<'a>, &'a [u8]), ReadError>,
-) -> Result<&'a [u8], ReadError>
-    ensures { MadeFrom value.entry result
-        (λ v rest. ((a : ArrayTerm) → written_all a (map written_write_in writes.new.items)
-        ≡ Written (written_all a (map written_write_in writes.old.items)) (written_polynomial_in index.entry)
-        (written_polynomial_in v.0)) × (rest.now ≡ v.1.now)) }
-{
-    match value {
-        Ok((value, rest)) => {
-            writes.push((index, value))?;
-            Ok(rest)
-        }
-        Err(error) => Err(error),
-    }
-}
-
-/// The sum of one monomial. The one refusal is out of memory.
-pub fn first_of<'a>(
-    alloc: Global,
-    minus: bool,
-    first: WrittenMonomial<'a>,
-) -> Result<Vec<(bool, WrittenMonomial<'a>)>, ReadError>
-    ensures sum { TermMadeAs result
-        (λ monomials. sum_of (map written_term_in monomials.items) ≡ first_sum (minus, written_monomial_in first.entry)) }
-    ensures some { TermMadeAs result (λ monomials. 0 < length monomials.items) }
-{
-    let mut monomials = Vec::new(alloc);
-    monomials.push((minus, first))?;
-    Ok(monomials)
 }

@@ -1,6 +1,6 @@
 //! Single bytes, words and numbers.
 
-ghost use Rattle.std.specs.Prelude.{◌≡◌, ◌<◌, ◌≤◌, true, List, length, IfOk};
+ghost use Rattle.std.specs.Prelude.{◌≡◌, ◌<◌, ◌≤◌, true, length, IfOk};
 ghost use Rattle.std.specs.List.{prefix_len};
 ghost use Rattle.fs_model.specs.Words.{is_digit, is_letter, is_word_byte, is_reserved};
 ghost use Rattle.fs_model.specs.declared.sides.Side.{Side};
@@ -26,6 +26,16 @@ pub fn expect(bytes: &[u8], b: u8) -> Result<&[u8], ReadError>
     }
 }
 
+/// Takes two bytes, which must come one after the other.
+pub fn expect_two(bytes: &[u8], first: u8, second: u8) -> Result<&[u8], ReadError>
+    ensures goes { (s : Owed) → Goes result (term_reading bytes.now (expect first (expect second s)))
+        (λ r. term_reading r.now s) }
+    ensures shorter { IfOk result (λ r. length r.now < length bytes.now) }
+{
+    let rest = expect(bytes, first)?;
+    expect(rest, second)
+}
+
 /// Takes three bytes, which must come one after another.
 pub fn expect_three(bytes: &[u8], first: u8, second: u8, third: u8) -> Result<&[u8], ReadError>
     ensures goes { (s : Owed) → Goes result (term_reading bytes.now (expect first (expect second (expect third s))))
@@ -33,8 +43,7 @@ pub fn expect_three(bytes: &[u8], first: u8, second: u8, third: u8) -> Result<&[
     ensures shorter { IfOk result (λ r. length r.now < length bytes.now) }
 {
     let rest = expect(bytes, first)?;
-    let rest = expect(rest, second)?;
-    expect(rest, third)
+    expect_two(rest, second, third)
 }
 
 fn digits_len(bytes: &[u8]) -> usize

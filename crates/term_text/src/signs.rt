@@ -2,12 +2,9 @@
 
 ghost use Rattle.std.specs.Prelude.{◌≡◌, ◌==◌, ◌||◌, ◌<◌, ℕ, Option, length, option_map, IfOk, IfSome};
 ghost use Rattle.fs_model.specs.Words.{is_digit};
-ghost use Rattle.term_text.specs.Machine.{Owed, ForPolynomial, ForArray, ForAtom, term_reading, begins, rest_after, Goes};
-ghost use Rattle.term_text.specs.Machine.{EndsWrites, IsNoArray};
-ghost use Rattle.term_text.specs.Machine.{at_polynomial, at_monomial, at_sign, after_array, after_polynomial};
-ghost use Rattle.term_text.specs.Machine.{monomial_of_sum, read_of, dividend, divisor, modulend, modulus, index};
-ghost use Rattle.term_text.specs.Machine.{place, value};
-ghost use Rattle.term_text.specs.TermTexts.{Sum, Polynomial, ArrayTerm, TermSyntax};
+ghost use Rattle.term_text.specs.Machine.{Owed, ForPolynomial, term_reading, begins, rest_after, Goes, IsNoArray};
+ghost use Rattle.term_text.specs.Machine.{at_monomial, at_sign, after_polynomial, monomial_of_sum};
+ghost use Rattle.term_text.specs.TermTexts.{Sum, Polynomial, TermSyntax};
 ghost use Rattle.term_text.specs.AtomStarts.{Closes};
 ghost use Rattle.term_text.specs.View.{written_polynomial_in};
 
@@ -15,35 +12,6 @@ use crate::fault::ReadError;
 use crate::scan::expect;
 use crate::tree::WrittenPolynomial;
 use fs_model::name::is_digit;
-
-/// Takes `, `, between the two sides of a division.
-pub(crate) fn comma(bytes: &[u8]) -> Result<&[u8], ReadError>
-    ensures quotient { (p : Polynomial) (k : ForAtom)
-        → Goes result (term_reading bytes.now (after_polynomial p (dividend k)))
-        (λ r. term_reading r.now (at_polynomial (divisor p k))) }
-    ensures remainder { (p : Polynomial) (k : ForAtom)
-        → Goes result (term_reading bytes.now (after_polynomial p (modulend k)))
-        (λ r. term_reading r.now (at_polynomial (modulus p k))) }
-    ensures shorter { IfOk result (λ r. length r.now < length bytes.now) }
-{
-    match bytes {
-        [b',', rest @ ..] => expect(rest, b' '),
-        _ => Err(ReadError::BadTerm),
-    }
-}
-
-/// Takes `: `, between the index and the value of a write.
-pub(crate) fn colon(bytes: &[u8]) -> Result<&[u8], ReadError>
-    ensures goes { (p : Polynomial) (a : ArrayTerm) (k : ForArray)
-        → Goes result (term_reading bytes.now (after_polynomial p (place a k)))
-        (λ r. term_reading r.now (at_polynomial (value a p k))) }
-    ensures shorter { IfOk result (λ r. length r.now < length bytes.now) }
-{
-    match bytes {
-        [b':', rest @ ..] => expect(rest, b' '),
-        _ => Err(ReadError::BadTerm),
-    }
-}
 
 /// Takes the byte that ends a polynomial, behind the polynomial that was read.
 pub(crate) fn close<'a>(
@@ -61,19 +29,6 @@ pub(crate) fn close<'a>(
             Err(error) => Err(error),
         },
         Err(error) => Err(error),
-    }
-}
-
-/// Takes `[`, after an array that is read.
-pub(crate) fn open_bracket(bytes: &[u8]) -> Result<&[u8], ReadError>
-    requires { EndsWrites bytes.now }
-    ensures goes { (a : ArrayTerm) (k : ForAtom)
-        → Goes result (term_reading bytes.now (after_array a (read_of k))) (λ r. term_reading r.now (at_polynomial (index a k))) }
-    ensures shorter { IfOk result (λ r. length r.now < length bytes.now) }
-{
-    match bytes {
-        [b'[', rest @ ..] => Ok(rest),
-        _ => Err(ReadError::BadTerm),
     }
 }
 

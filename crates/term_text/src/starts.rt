@@ -26,7 +26,6 @@ pub enum AtomStart<'a> {
 }
 
 // A symbol after the letter of its side, or the array that it is the base of.
-#[tactic(auto, using(crate::proofs::Steps::atom_ends, crate::proofs::Steps::array_goes))]
 #[inline(always)]
 fn begin_symbol<'a>(side: Side, bytes: &'a [u8]) -> Result<(AtomStart<'a>, &'a [u8]), ReadError>
     ensures goes { (k : ForAtom) → Goes result (term_reading bytes.now (expect 46 (at_symbol side (in_atom k))))

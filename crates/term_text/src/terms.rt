@@ -8,15 +8,12 @@ ghost use Rattle.term_text.specs.Machine.{monomial_done};
 ghost use Rattle.term_text.specs.AtomStarts.{Closes, left_side, rest_length};
 ghost use Rattle.term_text.specs.TermTexts.{Monomial, Sum, Polynomial, ArrayTerm, ListSyntax, TermSyntax, Written, Pushed};
 ghost use Rattle.term_text.specs.View.{written_atom_in, head_in, written_monomial_in, written_polynomial_in, written_array_in};
-ghost use Rattle.term_text.specs.View.{base_in, times_all, first_sum, more_sum};
+ghost use Rattle.term_text.specs.View.{base_in, times_all, more_sum};
 
 use crate::fault::ReadError;
-use crate::parts::{first_of, make_division, make_read, one, push_atom, push_monomial, push_write};
-use crate::scan::number;
-use crate::signs::{
-    begins_with_digit, begins_with_zero_or_minus, close, colon, comma, open_bracket, rest_after,
-    sign,
-};
+use crate::parts::{beside, make_division, make_read, one, push_both, push_read};
+use crate::scan::{expect, expect_two, number};
+use crate::signs::{begins_with_digit, begins_with_zero_or_minus, close, rest_after, sign};
 use crate::starts::{AtomStart, DivisionKind, begin_atom};
 use crate::tree::{
     WrittenArray, WrittenAtom, WrittenBase, WrittenHead, WrittenMonomial, WrittenPolynomial,
@@ -69,7 +66,7 @@ fn read<'a>(
     ensures shorter { IfOk result (λ x. length x.1.now < length bytes.now) }
 {
     let (array, rest) = writes(alloc, base, bytes)?;
-    make_read(alloc, array, inside(alloc, open_bracket(rest), b']'))
+    make_read(alloc, array, inside(alloc, expect(rest, b'['), b']'))
 }
 
 /// An array after its base, and what follows it.
@@ -90,7 +87,10 @@ pub fn writes<'a>(
         match rest_after(rest, b'{') {
             Some(after) => {
                 let (index, after) = polynomial(alloc, after)?;
-                rest = push_write(&mut writes, index, inside(alloc, colon(after), b'}'))?;
+                rest = push_both(
+                    &mut writes,
+                    beside(index, inside(alloc, expect_two(after, b':', b' '), b'}')),
+                )?;
             }
             None => return Ok((WrittenArray { base, writes }, rest)),
         }
@@ -125,12 +125,16 @@ fn division<'a>(
     ensures shorter { IfOk result (λ x. length x.1.now < length bytes.now) }
 {
     let (left, rest) = polynomial(alloc, bytes)?;
-    make_division(alloc, kind, left, inside(alloc, comma(rest), b')'))
+    make_division(
+        alloc,
+        kind,
+        left,
+        inside(alloc, expect_two(rest, b',', b' '), b')'),
+    )
 }
 
 // A number, or the first atom of a monomial.
 #[cycle(terms)]
-#[tactic(auto, using(crate::proofs::Steps::monomial_starts))]
 #[inline(always)]
 fn head<'a>(alloc: Global, bytes: &'a [u8]) -> Result<(WrittenHead<'a>, &'a [u8]), ReadError>
     ensures goes { (k : ForMonomial) → Goes result (term_reading bytes.now (at_monomial k))
@@ -141,8 +145,7 @@ fn head<'a>(alloc: Global, bytes: &'a [u8]) -> Result<(WrittenHead<'a>, &'a [u8]
         let (digits, rest) = number(bytes)?;
         Ok((WrittenHead::Number(digits), rest))
     } else {
-        let (first, rest) = atom(alloc, bytes)?;
-        Ok((one(first), rest))
+        one(atom(alloc, bytes))
     }
 }
 
@@ -159,7 +162,7 @@ fn atoms<'a>(alloc: Global, bytes: &'a [u8]) -> Result<(Vec<WrittenAtom<'a>>, &'
     loop {
         match rest_after(rest, b'*') {
             Some(after) => {
-                rest = push_atom(&mut atoms, atom(alloc, after))?;
+                rest = push_read(&mut atoms, atom(alloc, after))?;
             }
             None => return Ok((atoms, rest)),
         }
@@ -177,14 +180,13 @@ pub fn monomial<'a>(
         (λ x. term_reading x.1.now (monomial_done (written_monomial_in x.0) k)) }
     ensures shorter { IfOk result (λ x. length x.1.now < length bytes.now) }
 {
-    let (head, rest) = head(alloc, bytes)?;
-    let (atoms, rest) = atoms(alloc, rest)?;
+    let (first, rest) = head(alloc, bytes)?;
+    let (head, atoms, rest) = beside(first, atoms(alloc, rest))?;
     Ok((WrittenMonomial { head, atoms }, rest))
 }
 
 /// A monomial that is not the first of a sum, from its sign on.
 #[cycle(terms)]
-#[tactic(auto, using(crate::proofs::Steps::next_monomial))]
 #[inline(always)]
 pub fn further<'a>(
     alloc: Global,
@@ -196,38 +198,11 @@ pub fn further<'a>(
     ensures shorter { IfOk result (λ x. length x.2.now < length bytes.now) }
 {
     let (minus, rest) = sign(bytes)?;
-    let (next, rest) = monomial(alloc, rest)?;
-    Ok((minus, next, rest))
-}
-
-// A sum after its first monomial.
-#[cycle(terms)]
-fn monomials<'a>(
-    alloc: Global,
-    minus: bool,
-    first: WrittenMonomial<'a>,
-    bytes: &'a [u8],
-) -> Result<(WrittenPolynomial<'a>, &'a [u8]), ReadError>
-    ensures goes { (k : ForPolynomial)
-        → Goes result (term_reading bytes.now (after_sum (first_sum (minus, written_monomial_in first.entry)) k))
-        (λ x. term_reading x.1.now (after_polynomial (written_polynomial_in x.0) k)) }
-    ensures shorter { IfOk result (λ x. length x.1.now ≤ length bytes.now) }
-{
-    let mut monomials = first_of(alloc, minus, first)?;
-    let mut rest = bytes;
-    loop {
-        match rest_after(rest, b' ') {
-            Some(after) => {
-                rest = push_monomial(&mut monomials, further(alloc, after))?;
-            }
-            None => return Ok((WrittenPolynomial { monomials }, rest)),
-        }
-    }
+    beside(minus, monomial(alloc, rest))
 }
 
 // A sum, after the sign of its first monomial.
 #[cycle(terms)]
-#[tactic(auto, using(crate::proofs::Steps::first_monomial))]
 fn sum<'a>(
     alloc: Global,
     minus: bool,
@@ -237,13 +212,20 @@ fn sum<'a>(
         (λ x. term_reading x.1.now (after_polynomial (written_polynomial_in x.0) k)) }
     ensures shorter { IfOk result (λ x. length x.1.now < length bytes.now) }
 {
-    let (first, rest) = monomial(alloc, bytes)?;
-    monomials(alloc, minus, first, rest)
+    let mut monomials = Vec::new(alloc);
+    let mut rest = push_both(&mut monomials, beside(minus, monomial(alloc, bytes)))?;
+    loop {
+        match rest_after(rest, b' ') {
+            Some(after) => {
+                rest = push_both(&mut monomials, further(alloc, after))?;
+            }
+            None => return Ok((WrittenPolynomial { monomials }, rest)),
+        }
+    }
 }
 
 /// A polynomial at the beginning of bytes, and what follows it.
 #[cycle(terms)]
-#[tactic(auto, using(crate::proofs::Steps::polynomial_starts))]
 #[inline(never)]
 pub fn polynomial<'a>(
     alloc: Global,

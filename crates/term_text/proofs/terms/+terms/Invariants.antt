@@ -1,7 +1,8 @@
 use Rattle.std.proofs.Common.{◌≡◌, ◌<◌, ◌≤◌, length, map, ◌+◌, ◌*◌}
-use Rattle.term_text.specs.Machine.{ForPolynomial, ForArray, ForMonomial, term_reading, after_monomial, after_sum, after_array}
+use Rattle.term_text.specs.Machine.{ForPolynomial, ForArray, ForMonomial, term_reading, at_monomial, first_monomial_for, after_monomial, after_sum}
+use Rattle.term_text.specs.Machine.{after_array}
 use Rattle.term_text.specs.TermTexts.{Monomial}
-use Rattle.term_text.specs.View.{times_all, written_all, sum_of, first_sum, written_atom_in, written_monomial_in, written_term_in, written_write_in, base_in}
+use Rattle.term_text.specs.View.{times_all, written_all, sum_of, written_atom_in, written_term_in, written_write_in, base_in}
 use Rattle.term_text.proofs.Openings.{opened_measure}
 use Rattle.term_text.proofs.terms.+terms.Given as goal
 
@@ -26,9 +27,6 @@ decreases-monomial l = 8 * length l.bytes.now + 3
 abbrev pub decreases-further : goal.decreases-further
 decreases-further l = 8 * length l.bytes.now + 4
 
-abbrev pub decreases-monomials : goal.decreases-monomials
-decreases-monomials l = 8 * length l.bytes.now
-
 abbrev pub decreases-sum : goal.decreases-sum
 decreases-sum l = 8 * length l.bytes.now + 5
 
@@ -49,13 +47,13 @@ invariant-atoms-loop-after l =
 abbrev pub decreases-atoms-loop-after : goal.decreases-atoms-loop-after
 decreases-atoms-loop-after l = length l.rest
 
-abbrev pub invariant-monomials-loop-after : goal.invariant-monomials-loop-after
-invariant-monomials-loop-after l =
-    ((k : ForPolynomial) → term_reading l.bytes (after_sum (first_sum (l.minus, written_monomial_in l.fn.first)) k)
-    ≡ term_reading l.rest (after_sum (sum_of (map written_term_in l.monomials.items)) k)) × (length l.rest ≤ length l.bytes) × (0 < length l.monomials.items)
+abbrev pub invariant-sum-loop-after : goal.invariant-sum-loop-after
+invariant-sum-loop-after l =
+    ((k : ForPolynomial) → term_reading l.bytes (at_monomial (first_monomial_for l.minus k))
+    ≡ term_reading l.rest (after_sum (sum_of (map written_term_in l.monomials.items)) k)) × (length l.rest < length l.bytes) × (0 < length l.monomials.items)
 
-abbrev pub decreases-monomials-loop-after : goal.decreases-monomials-loop-after
-decreases-monomials-loop-after l = length l.rest
+abbrev pub decreases-sum-loop-after : goal.decreases-sum-loop-after
+decreases-sum-loop-after l = length l.rest
 
 abbrev pub invariant-writes-loop-after : goal.invariant-writes-loop-after
 invariant-writes-loop-after l =
