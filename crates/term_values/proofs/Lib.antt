@@ -1,4 +1,5 @@
 mod Lists
+mod WrittenParts
 mod Normal
 mod Exact
 mod ListForms

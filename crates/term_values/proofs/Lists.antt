@@ -1,15 +1,21 @@
 -- A test of what a list makes is the test of its parts, and its value is made of theirs.
 use Rattle.std.proofs.Common.{◌≡◌, ℕ, ◌+◌, ◌<◌, ◌≤◌, Bool, true, false, ◌&&◌, List, [], ◌∷◌, ◌++◌, map, drop, length, get_or, refl, sym, ap, ◌∙◌}
-use Rattle.std.proofs.Common.{append_assoc}
-use Rattle.std.proofs.lemmas.List.{drop_all, append-nil}
+use Rattle.std.proofs.Common.{append_assoc, Result, Ok, Err}
+use Rattle.std.specs.Result.{IfOk}
+use Rattle.std.proofs.lemmas.List.{drop_all, append-nil, map_push}
+use Rattle.std.proofs.lemmas.Result.{IfOk-at_ok}
 use Rattle.fs_model.proofs.Lists.{map_drop_next}
 use Rattle.nf_terms.specs.NormalTerms as terms
+use Rattle.nf_terms.specs.declared.stop.NoMemory.{NoMemory}
+use Rattle.nf_terms.specs.declared.tree.Atom.{Atom as AtomTree}
+use Rattle.nf_terms.specs.View.{atom_in}
+use Rattle.term_text.specs.declared.tree.WrittenAtom.{WrittenAtom}
 use Rattle.term_text.specs.declared.tree.WrittenBase.{WrittenBase}
 use Rattle.term_text.specs.declared.tree.WrittenBase.TheVariants as bases
 use Rattle.term_text.specs.declared.tree.WrittenList.{WrittenList}
 use Rattle.term_text.specs.declared.tree.WrittenListBase.{WrittenListBase}
 use Rattle.term_text.specs.declared.tree.WrittenListBase.TheVariants as list_bases
-use Rattle.term_text.specs.TermTexts.{Atom, Monomial, Sum, Polynomial, ArrayTerm, ListSyntax, Times, Written, Pushed}
+use Rattle.term_text.specs.TermTexts.{Atom, Monomial, Sum, Polynomial, ArrayTerm, ListSyntax, One, Times, Written, Pushed}
 use Rattle.term_text.specs.declared.tree.WrittenMonomial.{WrittenMonomial, out-WrittenMonomial}
 use Rattle.term_text.specs.declared.tree.WrittenPolynomial.{WrittenPolynomial, out-WrittenPolynomial}
 use Rattle.term_text.specs.declared.tree.WrittenArray.{WrittenArray, out-WrittenArray}
@@ -21,6 +27,7 @@ use Rattle.term_values.specs.Checks.{Test, atom_passes, monomial_passes, sum_pas
 use Rattle.term_values.specs.TermValues.{Interpretation, coefficient, atom_value, atoms_of, sum_value, polynomial_value, array_value, list_base, list_items}
 use Rattle.term_values.specs.TermValues.{list_value}
 use Rattle.term_values.specs.ListParts.{has_first_atom, stands, atoms_pass, monomials_pass, writes_pass, items_pass, term_value, write_value, base_value}
+use Rattle.term_values.specs.ListParts.{IsPushed}
 
 and_assoc : (a b c : Bool) → ((a && b) && c) ≡ (a && (b && c))
 and_assoc true b c = refl
@@ -29,6 +36,11 @@ and_assoc false b c = refl
 and_nil : (a : Bool) → a ≡ (a && true)
 and_nil true = refl
 and_nil false = refl
+
+-- an atom stands where others follow it
+pub atom_stands : (t : Test) (a : Atom) (followed : Bool) → (atom_passes t a && stands t (One a) followed) ≡ atom_passes t a
+atom_stands t a true = sym (and_nil (atom_passes t a))
+atom_stands t a false = sym (and_nil (atom_passes t a))
 
 later_atoms : (t : Test) (m : Monomial) (a : Atom) (followed : Bool) → stands t (Times m a) followed ≡ true
 later_atoms t m a true = refl
@@ -94,6 +106,23 @@ array_tree t a =
     ap (array_passes t)
     (fold_out-WrittenArray Atom Monomial ArrayTerm Monomial Polynomial written_atom_step head_step array_step monomial_step polynomial_step a)
     ∙ writes_all t (base_in (out-WrittenArray a).base) (map written_write_in (out-WrittenArray a).writes.items)
+
+-- a monomial whose head was tested
+module _ (t : Test) (m : WrittenMonomial) (begun followed : Bool) (atoms : List WrittenAtom)
+    (begins : begun ≡ (monomial_passes t (head_in (out-WrittenMonomial m).head) && stands t (head_in (out-WrittenMonomial m).head) followed))
+    (more : followed ≡ has_first_atom (map written_atom_in atoms)) (are : atoms ≡ (out-WrittenMonomial m).atoms.items) where
+  all_of : monomial_passes t (written_monomial_in m) ≡ (begun && atoms_pass t (map written_atom_in atoms))
+  all_of =
+      let head = head_in (out-WrittenMonomial m).head in
+      let follows = more ∙ ap (λ xs. has_first_atom (map written_atom_in xs)) are in
+      monomial_tree t m ∙ (λ j. (monomial_passes t head && stands t head (sym follows j)) && atoms_pass t (map written_atom_in (sym are j)))
+      ∙ ap (λ b. b && atoms_pass t (map written_atom_in atoms)) (sym begins)
+
+  pub monomial_stops : begun ≡ false → false ≡ monomial_passes t (written_monomial_in m)
+  monomial_stops e = sym (all_of ∙ ap (λ b. b && atoms_pass t (map written_atom_in atoms)) e)
+
+  pub monomial_goes_on : begun ≡ true → monomial_passes t (written_monomial_in m) ≡ atoms_pass t (map written_atom_in atoms)
+  monomial_goes_on e = all_of ∙ ap (λ b. b && atoms_pass t (map written_atom_in atoms)) e
 
 -- ---- values
 
@@ -194,6 +223,32 @@ one_more f g old new xs i x h e n =
     ap (λ l. l ++ map g (map f (drop (i + 1) xs))) n
     ∙ append_assoc old (g (f x) ∷ []) (map g (map f (drop (i + 1) xs)))
     ∙ ap (λ l. old ++ map g l) (sym (map_drop_next f xs i x h e))
+
+-- the same where the item is what was made
+pub one_made : {T X Y A : Type 0} (view : T → A) (f : X → Y) (g : Y → A) (made : Result T NoMemory) (old new : List T) (xs : List X) (i : ℕ) (x : X)
+    → i < length xs → x ≡ get_or xs i x → IsPushed made old new → IfOk made (λ t. view t ≡ g (f x))
+    → map view new ++ map g (map f (drop (i + 1) xs)) ≡ map view old ++ map g (map f (drop i xs))
+one_made view f g (Ok t) old new xs i x h e n m = one_more f g (map view old) (map view new) xs i x h e
+    (ap (map view) n ∙ map_push view old t ∙ ap (λ a. map view old ++ a ∷ []) m)
+one_made view f g (Err d) old new xs i x h e n m = absurd n
+
+pub both_made : {A B X Y : Type 0} (view : A → X) (see : B → Y) (left : Result A NoMemory) (right : Result B NoMemory) (made : Result (A × B) NoMemory)
+    (x : X) (y : Y) → IfOk made (λ p. left ≡ Ok p.0) → IfOk made (λ p. right ≡ Ok p.1) → IfOk left (λ a. view a ≡ x) → IfOk right (λ b. see b ≡ y)
+    → IfOk made (λ p. ◌≡◌ {A = X × Y} (view p.0, see p.1) (x, y))
+both_made view see left right (Ok p) x y e h l r =
+    let first = IfOk-at_ok (λ a. view a ≡ x) e l in
+    let second = IfOk-at_ok (λ b. see b ≡ y) h r in
+    λ j. (first j, second j)
+both_made view see left right (Err d) x y e h l r = tt
+
+-- the atom that a monomial begins with, as a list
+pub atom_first : {V : Type 0} (items : V → List AtomTree) (out : Result V NoMemory) (made : Result AtomTree NoMemory) (r : Interpretation) (h : Monomial)
+    (a : Atom) → IfOk out (λ v. IsPushed made [] (items v)) → IfOk made (λ t. atom_in t ≡ atom_value r a) → h ≡ One a
+    → IfOk out (λ v. (rest : List terms.Atom) → terms.monomial_of (map atom_in (items v) ++ rest) ≡ atoms_of r h (terms.monomial_of rest))
+atom_first items (Ok v) (Ok t) r h a n m e = λ rest. ap (λ xs. terms.monomial_of (map atom_in xs ++ rest)) n
+    ∙ ap (λ x. terms.Times x (terms.monomial_of rest)) m ∙ sym (ap (λ x. atoms_of r x (terms.monomial_of rest)) e)
+atom_first items (Ok v) (Err d) r h a n m e = absurd n
+atom_first items (Err d) made r h a n m e = tt
 
 pub whole_list : {X Y A : Type 0} (f : X → Y) (g : Y → A) (done : List A) (xs : List X) (i : ℕ) → length xs ≤ i
     → done ++ map g (map f (drop i xs)) ≡ done

@@ -96,6 +96,3 @@ condition_refused view find bytes c (Err NotNormal) s e j =
           (fault_by (λ test. written_condition_passes test c) find) e (ap is_normal_literal (sym x) ∙ j);
     }
 condition_refused view find bytes c (Err NoMemory) s e j = tt
-
--- which comparisons are in normal form
-pub ruleset literal_forms = (inner_in_range, literal_normal, outer_bound, no_direction)

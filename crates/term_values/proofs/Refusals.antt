@@ -1,6 +1,6 @@
 -- What a text is read as, and why it is refused.
-use Rattle.std.proofs.Common.{◌≡◌, ℕ, Bool, true, false, List, Option, Some, None, Result, Ok, Err, refl, sym, ap, ◌∙◌}
-use Rattle.std.specs.Prelude.{IfOk, IfErr}
+use Rattle.std.proofs.Common.{◌≡◌, ℕ, Bool, true, false, List, Option, Some, None, Result, Ok, Err, refl, sym, subst, ap, ◌∙◌}
+use Rattle.std.specs.Prelude.{IfOk, IfErr, IsErrAnd}
 use Rattle.std.specs.Option.{option_or}
 use Rattle.nf_terms.specs.NormalTerms as terms
 use Rattle.nf_terms.specs.Lists as lists
@@ -13,7 +13,7 @@ use Rattle.term_values.specs.TermValues.{within_limit, exact, polynomial_value, 
 use Rattle.term_values.specs.Checks.{Test, numbers_fit}
 use Rattle.nf_rel.specs.NormalLiterals.{is_normal}
 use Rattle.term_values.specs.TermFaults.{is_normal_array, is_normal_list, sort_of_term, term_passes, stands_normal, unless, fault_by, term_fault}
-use Rattle.term_values.specs.TermFaults.{IsPolynomialOf, ReadsAsArray, ReadsAsList, IsRefusedAsTerm, IsJudgedText}
+use Rattle.term_values.specs.TermFaults.{IsPolynomialOf, ReadsAsArray, ReadsAsList, IsRefusedAsTerm, IsJudgedText, IsJudgedAs}
 use Rattle.term_values.proofs.Exact.{polynomial_exact, array_exact, list_exact}
 
 some_is_none : (e : TermError) → Some e ≡ None → ⊥
@@ -92,3 +92,18 @@ list_read find bytes w (Ok l) s e j = record {
   value = j.0 ∙ list_exact find w (fits (λ test. term_passes test (list w)) find e);
 }
 list_read find bytes w (Err d) s e j = tt
+
+judged_so : {X Y Z : Type 0} (view : Z → Y) (e : TermError) (b c : Bool) (v : X) (w : Y) → IsJudgedText {X = X} (Err e) b v → (b ≡ false → c ≡ false)
+    → IsJudgedAs {X = Z} view (Err e) c w
+judged_so view BadTerm b c v w j f = absurd j
+judged_so view NumberTooBig b c v w j f = absurd j
+judged_so view UnknownName b c v w j f = absurd j
+judged_so view SortOf b c v w j f = absurd j
+judged_so view NotNormal b c v w j f = f j
+judged_so view NoMemory b c v w j f = tt
+
+-- the refusal of a part is that of the whole
+pub judged_too : {X Y Z : Type 0} (view : Z → Y) (r : Result Z TermError) (e : TermError) (b c : Bool) (v : X) (w : Y) → IsErrAnd r (λ d. d ≡ e)
+    → IsJudgedText {X = X} (Err e) b v → (b ≡ false → c ≡ false) → IsJudgedAs view r c w
+judged_too view (Ok x) e b c v w h j f = absurd h
+judged_too {Z = Z} view (Err d) e b c v w h j f = subst (λ (x : TermError). IsJudgedAs {X = Z} view (Err x) c w) (sym h) (judged_so view e b c v w j f)

@@ -1,17 +1,21 @@
 -- A sum whose monomials are read one by one, and why one that is too long is refused.
 use Rattle.std.proofs.Common.{◌≡◌, ℕ, suc, ◌≤◌, ◌<◌, nat_le, Bool, true, false, cond, ◌&&◌, List, [], ◌∷◌}
-use Rattle.std.proofs.Common.{Some, None, Err, refl, sym, ap, subst, ◌∙◌, arith}
+use Rattle.std.proofs.Common.{Some, None, Bor, Result, Ok, Err, length, refl, sym, ap, subst, ◌∙◌, arith}
+use Rattle.std.specs.Result.{IfOk, IfErr, IsErrAnd}
 use Rattle.std.specs.Option.{option_or}
 use Rattle.nf_terms.specs.TermLimits.{size_limit, depth_limit}
 use Rattle.nf_terms.specs.declared.symbols.Sort.TheVariants as sort
 use Rattle.nf_rel.specs.NormalLiterals.{is_normal}
 use Rattle.term_text.specs.declared.fault.ReadError.{ReadError}
 use Rattle.term_text.specs.declared.fault.ReadError.TheVariants as unread
-use Rattle.term_text.specs.Machine.{ForPolynomial, term_reading, at_polynomial, whole_polynomial, after_sum, at_sign}
+use Rattle.term_text.specs.AtomStarts.{MadeFrom}
+use Rattle.term_text.specs.Machine.{ForPolynomial, Goes, rest_after, term_reading, at_polynomial, whole_polynomial, after_sum, at_sign}
 use Rattle.term_text.specs.TermTexts.{Monomial, Sum, TermSyntax, Of, polynomial, array, list}
-use Rattle.term_text.specs.View.{first_sum, more_sum}
+use Rattle.term_text.specs.declared.tree.WrittenMonomial.{WrittenMonomial}
+use Rattle.term_text.specs.View.{written_monomial_in, first_sum, more_sum}
 use Rattle.term_text.specs.Brackets.{most_open}
 use Rattle.term_text.proofs.Sound.{polynomial_is_spelled}
+use Rattle.term_text.proofs.Steps.{sum_goes_on, sum_ended, not_ended}
 use Rattle.term_text.proofs.Walks.{read_again}
 use Rattle.term_values.specs.declared.sums.Tally.{Tally}
 use Rattle.term_values.specs.declared.faults.TermError.{TermError}
@@ -20,7 +24,7 @@ use Rattle.term_values.specs.NameMeanings.{Find}
 use Rattle.term_values.specs.Checks.{numbers_fit, names_known, sorts_fit, ones_left_out, faultless, monomial_passes, sum_passes}
 use Rattle.term_values.specs.TermValues.{exact, polynomial_value}
 use Rattle.term_values.specs.TermFaults.{unless, term_fault, of_reading, HasFault, IsRefusedAsTerm}
-use Rattle.term_values.specs.SumTallies.{monomial_count, tally_fault, HasTally, IsTallied}
+use Rattle.term_values.specs.SumTallies.{monomial_count, tally_fault, Counts, HasTally, IsTallied}
 use Rattle.term_values.proofs.Faultless.{monomial_too, is_known}
 use Rattle.term_values.proofs.Lists.{first_passes, more_passes}
 use Rattle.term_values.proofs.Sizes.{too_long}
@@ -44,9 +48,6 @@ pub sorts_stay : (find : Find) (m : Monomial) (a : Bool) → monomial_passes (fa
 sorts_stay find m a e = stays a (monomial_passes (sorts_fit find) m)
     (monomial_too (faultless find) (sorts_fit find) (record { number = λ ds d. refl; factor = λ ds d. refl; name = λ wanted s x d. d }) m e)
 
--- all three
-pub ruleset tests_stay = (numbers_stay, names_stay, sorts_stay)
-
 -- ---- the tally of a sum
 
 first_count : (m : Bool × Monomial) → monomial_count (first_sum m) ≡ 1
@@ -56,13 +57,6 @@ first_count (false, m) = refl
 more_count : (s : Sum) (m : Bool × Monomial) → monomial_count (more_sum s m) ≡ suc (monomial_count s)
 more_count s (true, m) = refl
 more_count s (false, m) = refl
-
--- what one monomial makes of the tally before it
-pub record Counts (find : Find) (old new : Tally) (m : Monomial) : Type 0 where
-  pub count : new.count ≤ suc old.count
-  pub numbers : new.numbers ≡ (old.numbers && monomial_passes numbers_fit m)
-  pub names : new.names ≡ (old.names && monomial_passes (names_known find) m)
-  pub sorts : new.sorts ≡ (old.sorts && monomial_passes (sorts_fit find) m)
 
 most_one : (a b n : ℕ) → a ≤ suc b → b ≡ 0 → n ≡ 1 → a ≤ n
 most_one a b n h e f = omega (arith, h, e, f)
@@ -95,31 +89,74 @@ more_tally find bytes rest signed_at left old new m h e goes c = record {
   sorts = c.sorts ∙ ap (λ b. b && monomial_passes (sorts_fit find) m.1) h.sorts ∙ sym (more_passes (sorts_fit find) h.sum m);
 }
 
--- where the first monomial is refused, the answer is that refusal
-pub first_refused : {X : Type 0} (bytes : List ℕ) (holds : X → Type 0) (d : ReadError)
-    → (d ≡ unread.BadTerm → (k : ForPolynomial) → term_reading bytes (at_polynomial k) ≡ None) → IsTallied bytes (Err d) holds
-first_refused bytes holds unread.BadTerm goes = goes refl whole_polynomial
-first_refused bytes holds unread.NoMemory goes = tt
+-- where the first monomial was read, or refused
+pub first_tallied : (find : Find) (bytes : List ℕ) (r : Result (Bool × WrittenMonomial × Bor (List ℕ)) ReadError) (s : Result (Tally × Bor (List ℕ)) ReadError)
+    → ((k : ForPolynomial) → Goes r (term_reading bytes (at_polynomial k)) (λ x. term_reading x.2.now (after_sum (first_sum (x.0, written_monomial_in x.1)) k)))
+    → MadeFrom r s (λ m x. Counts find (record { count = 0; numbers = true; names = true; sorts = true }) x.0 (written_monomial_in m.1) × (x.1.now ≡ m.2.now))
+    → IsTallied bytes s (λ x. HasTally find bytes x.1.now x.0)
+first_tallied find bytes (Ok m) (Ok x) goes made =
+    subst (λ rest. HasTally find bytes rest x.0) (sym made.1) (first_tally find bytes m.2.now x.0 (m.0, written_monomial_in m.1) goes made.0)
+first_tallied find bytes (Ok m) (Err unread.BadTerm) goes made = absurd made
+first_tallied find bytes (Ok m) (Err unread.NoMemory) goes made = tt
+first_tallied find bytes (Err d) (Ok x) goes made = absurd made
+first_tallied find bytes (Err unread.BadTerm) (Err unread.BadTerm) goes made = goes whole_polynomial
+first_tallied find bytes (Err unread.NoMemory) (Err unread.BadTerm) goes made = absurd cc
+first_tallied find bytes (Err d) (Err unread.NoMemory) goes made = tt
 
--- where the next monomial is refused, the answer is that refusal
-pub next_refused : {X : Type 0} (find : Find) (bytes rest signed_at : List ℕ) (t : Tally) (holds : X → Type 0) (d : ReadError)
-    → HasTally find bytes rest t → rest ≡ 32 ∷ signed_at
-    → (d ≡ unread.BadTerm → (s : Sum) (k : ForPolynomial) → term_reading signed_at (at_sign s k) ≡ None) → IsTallied bytes (Err d) holds
-next_refused find bytes rest signed_at t holds unread.BadTerm h e goes =
-    h.goes ∙ ap (λ (bs : List ℕ). term_reading bs (after_sum h.sum whole_polynomial)) e ∙ goes refl h.sum whole_polynomial
-next_refused find bytes rest signed_at t holds unread.NoMemory h e goes = tt
+-- where the next monomial was read, or refused
+pub next_tallied : (find : Find) (whole bytes : List ℕ) (t : Tally) (r : Result (Bool × WrittenMonomial × Bor (List ℕ)) ReadError)
+    (s : Result (Tally × Bor (List ℕ)) ReadError) → HasTally find whole (32 ∷ bytes) t
+    → ((s : Sum) (k : ForPolynomial) → Goes r (term_reading bytes (at_sign s k))
+    (λ x. term_reading x.2.now (after_sum (more_sum s (x.0, written_monomial_in x.1)) k)))
+    → MadeFrom r s (λ m x. Counts find t x.0 (written_monomial_in m.1) × (x.1.now ≡ m.2.now)) → IsTallied whole s (λ x. HasTally find whole x.1.now x.0)
+next_tallied find whole bytes t (Ok m) (Ok x) h goes made =
+    subst (λ rest. HasTally find whole rest x.0) (sym made.1)
+    (more_tally find whole (32 ∷ bytes) bytes m.2.now t x.0 (m.0, written_monomial_in m.1) h refl goes made.0)
+next_tallied find whole bytes t (Ok m) (Err unread.BadTerm) h goes made = absurd made
+next_tallied find whole bytes t (Ok m) (Err unread.NoMemory) h goes made = tt
+next_tallied find whole bytes t (Err d) (Ok x) h goes made = absurd made
+next_tallied find whole bytes t (Err unread.BadTerm) (Err unread.BadTerm) h goes made = h.goes ∙ goes h.sum whole_polynomial
+next_tallied find whole bytes t (Err unread.NoMemory) (Err unread.BadTerm) h goes made = absurd cc
+next_tallied find whole bytes t (Err d) (Err unread.NoMemory) h goes made = tt
+
+pub tallied_shorter : (n : ℕ) (find : Find) (t : Tally) (r : Result (Bool × WrittenMonomial × Bor (List ℕ)) ReadError)
+    (s : Result (Tally × Bor (List ℕ)) ReadError) → IfOk r (λ x. length x.2.now < n)
+    → MadeFrom r s (λ m x. Counts find t x.0 (written_monomial_in m.1) × (x.1.now ≡ m.2.now)) → IfOk s (λ x. length x.1.now < n)
+tallied_shorter n find t (Ok m) (Ok x) h made = omega (arith, h, ap length made.1)
+tallied_shorter n find t (Ok m) (Err e) h made = tt
+tallied_shorter n find t (Err d) (Ok x) h made = absurd made
+tallied_shorter n find t (Err d) (Err e) h made = tt
 
 refused_too : {X Y : Type 0} (bytes : List ℕ) (before : X → Type 0) (holds : Y → Type 0) (d : ReadError)
     → IsTallied bytes (Err d) before → IsTallied bytes (Err d) holds
 refused_too bytes before holds unread.BadTerm h = h
 refused_too bytes before holds unread.NoMemory h = tt
 
--- the refusal of the next monomial, passed on
-pub refusal_passes : {X Y : Type 0} (find : Find) (bytes rest signed_at : List ℕ) (t : Tally) (before : X → Type 0) (holds : Y → Type 0) (d : ReadError)
-    → HasTally find bytes rest t → rest ≡ 32 ∷ signed_at → (HasTally find bytes (32 ∷ signed_at) t → IsTallied bytes (Err d) before)
-    → IsTallied bytes (Err d) holds
-refusal_passes find bytes rest signed_at t before holds d h e goes =
-    refused_too bytes before holds d (goes (subst (λ bs. HasTally find bytes bs t) e h))
+-- a refusal that is passed on
+pub refusal_passes : {X Y : Type 0} (bytes : List ℕ) (before : X → Type 0) (holds : Y → Type 0) (r : Result Y ReadError) (d : ReadError)
+    → IsErrAnd r (λ e. e ≡ d) → IsTallied bytes (Err d) before → IsTallied bytes r holds
+refusal_passes bytes before holds (Ok y) d h t = absurd h
+refusal_passes bytes before holds (Err e) d h t = subst (λ f. IsTallied bytes (Err f) holds) (sym h) (refused_too bytes before holds d t)
+
+-- where a space follows
+pub at_space : (find : Find) (bytes rest after : List ℕ) (t : Tally) → HasTally find bytes rest t → rest_after 32 rest ≡ Some after
+    → HasTally find bytes (32 ∷ after) t
+at_space find bytes rest after t h e = record {
+  sum = h.sum;
+  goes = h.goes ∙ sum_goes_on rest after h.sum whole_polynomial e;
+  count = h.count;
+  numbers = h.numbers;
+  names = h.names;
+  sorts = h.sorts;
+}
+
+-- where none follows, the sum is whole or there is none
+pub ends : (find : Find) (bytes rest : List ℕ) (t : Tally) (r : Result Tally ReadError) → HasTally find bytes rest t → rest_after 32 rest ≡ None
+    → IfOk r (λ u. (u ≡ t) × (rest ≡ [])) → IfErr r (λ e. (e ≡ unread.BadTerm) × (0 < length rest)) → IsTallied bytes r (HasTally find bytes [])
+ends find bytes rest t (Ok u) h e whole more = subst (λ v. HasTally find bytes [] v) (sym whole.0) (subst (λ bs. HasTally find bytes bs t) whole.1 h)
+ends find bytes rest t (Err unread.BadTerm) h e whole more =
+    h.goes ∙ sum_ended rest h.sum whole_polynomial e ∙ not_ended rest (Of h.sum) more.1
+ends find bytes rest t (Err unread.NoMemory) h e whole more = tt
 
 -- ---- why a text is refused
 

@@ -1,8 +1,10 @@
 -- Tests of the parts of lists, and the values of lists of parts.
-use Rattle.std.specs.Prelude.{Bool, true, false, ◌&&◌, ◌||◌, not, ℤ, pos, neg_ℤ, cond, List, [], ◌∷◌, ℕ}
+use Rattle.std.specs.Prelude.{◌≡◌, Bool, true, false, ◌&&◌, ◌||◌, not, ℤ, pos, neg_ℤ, cond, List, [], ◌∷◌, ◌++◌, ℕ}
+use Rattle.std.specs.Prelude.{Result, Ok, Err}
 use Rattle.nf_terms.specs.declared.tree.Base.{Base}
 use Rattle.nf_terms.specs.declared.tree.Base.TheVariants as bases
 use Rattle.nf_terms.specs.NormalTerms as terms
+use Rattle.nf_terms.specs.declared.stop.NoMemory.{NoMemory}
 use Rattle.term_text.specs.TermTexts.{Atom, Monomial, Polynomial, ArrayTerm, ZeroArray, Bare, Written}
 use Rattle.term_values.specs.TermValues.{Interpretation, coefficient, atoms_of, polynomial_value}
 use Rattle.term_values.specs.Checks.{Test, factor_passes, atom_passes, monomial_passes, polynomial_passes}
@@ -48,3 +50,8 @@ abbrev pub base_value : Interpretation → ArrayTerm → Base
 base_value r ZeroArray = bases.Zero
 base_value r (Bare s x) = bases.Sym (r.place s x)
 base_value r (Written a i v) = base_value r a
+
+-- a list with what was made behind it
+abbrev pub IsPushed : {T : Type 0} → Result T NoMemory → List T → List T → Type 0
+IsPushed (Ok x) old new = new ≡ old ++ x ∷ []
+IsPushed (Err e) old new = ⊥

@@ -1,11 +1,10 @@
 //! A test of each number and each name of a written term.
 
-ghost use Rattle.std.specs.Prelude.{◌≡◌, map};
+ghost use Rattle.std.specs.Prelude.{◌≡◌, ◌&&◌, map};
 ghost use Rattle.term_values.specs.ListParts.{has_first_atom, stands};
 ghost use Rattle.term_text.specs.View.{written_atom_in, head_in, written_monomial_in, written_polynomial_in, written_array_in};
 ghost use Rattle.term_text.specs.View.{written_list_in, base_in, list_base_in};
 ghost use Rattle.term_values.specs.Checks.{atom_passes, monomial_passes, polynomial_passes, array_passes, list_passes};
-ghost use Rattle.term_values.specs.Checks.{factor_passes};
 
 use nf_terms::symbols::Sort;
 use nf_terms::tree::Side;
@@ -48,24 +47,6 @@ fn atom_passes<C: Check>(check: &C, atom: &WrittenAtom<'_>) -> bool
     }
 }
 
-// A number stands before an atom where atoms follow it.
-fn factor_passes<C: Check>(check: &C, head: &WrittenHead<'_>) -> bool
-    ensures { result ≡ factor_passes (C.test check.now) (head_in head.now) }
-{
-    match head {
-        WrittenHead::Number(digits) => check.factor(digits),
-        WrittenHead::One(_) => true,
-    }
-}
-
-// What a monomial begins with stands where atoms follow it.
-#[inline(always)]
-fn stands<C: Check>(check: &C, head: &WrittenHead<'_>, followed: bool) -> bool
-    ensures { result ≡ stands (C.test check.now) (head_in head.now) followed }
-{
-    !followed || factor_passes(check, head)
-}
-
 #[inline(always)]
 fn has_more(atoms: &[WrittenAtom<'_>]) -> bool
     ensures { result ≡ has_first_atom (map written_atom_in atoms.now) }
@@ -76,27 +57,25 @@ fn has_more(atoms: &[WrittenAtom<'_>]) -> bool
     }
 }
 
+// What a monomial begins with. A number stands before an atom where atoms follow it.
 #[cycle(checks)]
 #[inline(always)]
-fn head_passes<C: Check>(check: &C, head: &WrittenHead<'_>) -> bool
-    ensures { result ≡ monomial_passes (C.test check.now) (head_in head.now) }
+fn head_passes<C: Check>(check: &C, head: &WrittenHead<'_>, followed: bool) -> bool
+    ensures { result ≡ (monomial_passes (C.test check.now) (head_in head.now)
+        && stands (C.test check.now) (head_in head.now) followed) }
 {
     match head {
-        WrittenHead::Number(digits) => check.number(digits),
+        WrittenHead::Number(digits) => check.number(digits) && (!followed || check.factor(digits)),
         WrittenHead::One(atom) => atom_passes(check, atom),
     }
 }
 
 /// Whether each number and each name of a monomial passes.
 #[cycle(checks)]
-#[tactic(auto, using(crate::proofs::Lists::monomial_tree))]
 pub fn monomial_passes<C: Check>(check: &C, monomial: &WrittenMonomial<'_>) -> bool
     ensures { result ≡ monomial_passes (C.test check.now) (written_monomial_in monomial.now) }
 {
-    if !head_passes(check, &monomial.head) {
-        return false;
-    }
-    if !stands(check, &monomial.head, has_more(&monomial.atoms)) {
+    if !head_passes(check, &monomial.head, has_more(&monomial.atoms)) {
         return false;
     }
     for atom in &monomial.atoms {
@@ -109,7 +88,6 @@ pub fn monomial_passes<C: Check>(check: &C, monomial: &WrittenMonomial<'_>) -> b
 
 /// Whether each number and each name of a polynomial passes.
 #[cycle(checks)]
-#[tactic(auto, using(crate::proofs::Lists::polynomial_tree))]
 #[inline(never)]
 pub fn polynomial_passes<C: Check>(check: &C, polynomial: &WrittenPolynomial<'_>) -> bool
     ensures { result ≡ polynomial_passes (C.test check.now) (written_polynomial_in polynomial.now) }
@@ -133,7 +111,6 @@ fn base_passes<C: Check>(check: &C, base: &WrittenBase<'_>) -> bool
 
 /// Whether each number and each name of an array passes.
 #[cycle(checks)]
-#[tactic(auto, using(crate::proofs::Lists::array_tree))]
 pub fn array_passes<C: Check>(check: &C, array: &WrittenArray<'_>) -> bool
     ensures { result ≡ array_passes (C.test check.now) (written_array_in array.now) }
 {
@@ -161,7 +138,6 @@ fn list_base_passes<C: Check>(check: &C, base: &WrittenListBase<'_>) -> bool
 }
 
 /// Whether each number and each name of a list passes.
-#[tactic(auto, using(crate::proofs::Lists::items_all))]
 pub fn list_passes<C: Check>(check: &C, list: &WrittenList<'_>) -> bool
     ensures { result ≡ list_passes (C.test check.now) (written_list_in list.now) }
 {

@@ -35,7 +35,7 @@ fn integer(written: &WrittenInteger<'_>) -> i128
 }
 
 // The literal of a direction and a bound, where it is in normal form.
-#[tactic(auto, using(crate::proofs::LiteralForms::literal_forms))]
+#[tactic(auto, using(crate::proofs::LiteralForms::inner_in_range))]
 fn bound_direction(dir: Poly, kind: Kind, bound: &i128) -> Result<NLit, TermError>
     ensures { IsJudgedAs literal_in result (is_normal_literal (literals.Is dir kind bound.now)) (literals.Is dir kind bound.now) }
 {

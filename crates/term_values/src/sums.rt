@@ -1,12 +1,14 @@
 //! Sums that are too long to be normal: read monomial by monomial, so that none need be kept.
 
-ghost use Rattle.std.specs.Prelude.{◌≡◌, ◌==◌, ◌<◌, ◌≤◌, ◌&&◌, ℕ, suc, false, List, [], ◌∷◌, length, IfOk, IfSome};
+ghost use Rattle.std.specs.Prelude.{◌≡◌, ◌==◌, ◌<◌, ◌≤◌, ◌&&◌, ℕ, suc, false, List, [], ◌∷◌, length, IfOk, IfErr, IfSome};
 ghost use Rattle.nf_terms.specs.declared.symbols.Sort.TheVariants as sort;
+ghost use Rattle.term_text.specs.declared.fault.ReadError.TheVariants as refusals;
+ghost use Rattle.term_text.specs.AtomStarts.{MadeFrom};
 ghost use Rattle.term_text.specs.Machine.{begins};
 ghost use Rattle.term_text.specs.View.{written_monomial_in};
 ghost use Rattle.term_values.specs.Checks.{numbers_fit, names_known, sorts_fit, monomial_passes};
 ghost use Rattle.term_values.specs.TermFaults.{IsRefusedAsTerm};
-ghost use Rattle.term_values.specs.SumTallies.{tally_fault, HasTally, IsTallied};
+ghost use Rattle.term_values.specs.SumTallies.{tally_fault, Counts, HasTally, IsTallied};
 
 use crate::checks::monomial_passes;
 use crate::faults::TermError;
@@ -17,6 +19,7 @@ use std::alloc::Global;
 use term_condition_text::brackets::is_shallow;
 use term_condition_text::sums::{first_term, next_term};
 use term_text::fault::ReadError;
+use term_text::signs::rest_after;
 use term_text::tree::WrittenMonomial;
 
 /// How many monomials of a sum were read, and whether all their numbers fit, all their names are known and all sorts fit.
@@ -41,7 +44,6 @@ fn begins_with_zero(bytes: &[u8]) -> bool
 }
 
 // The tally with one monomial more.
-#[tactic(auto, using(crate::proofs::Tallies::tests_stay))]
 #[inline(always)]
 fn with_monomial<N: Names>(names: &N, tally: Tally, monomial: &WrittenMonomial<'_>) -> Tally
     ensures count { result.count ≤ suc tally.count }
@@ -63,6 +65,22 @@ fn with_monomial<N: Names>(names: &N, tally: Tally, monomial: &WrittenMonomial<'
     }
 }
 
+// The tally with a monomial that was read, and what follows it.
+#[inline(always)]
+fn tally_with<'a, N: Names>(
+    names: &N,
+    tally: Tally,
+    term: Result<(bool, WrittenMonomial<'a>, &'a [u8]), ReadError>,
+) -> Result<(Tally, &'a [u8]), ReadError>
+    ensures { MadeFrom term.entry result
+        (λ m x. Counts (N.find names.now) tally x.0 (written_monomial_in m.1) × (x.1.now ≡ m.2.now)) }
+{
+    match term {
+        Ok((_minus, monomial, rest)) => Ok((with_monomial(names, tally, &monomial), rest)),
+        Err(error) => Err(error),
+    }
+}
+
 // The tally of the first monomial of a sum, and what follows it.
 fn first_tally<'a, N: Names>(
     alloc: Global,
@@ -78,8 +96,7 @@ fn first_tally<'a, N: Names>(
         names: true,
         sorts: true,
     };
-    let (_minus, first, rest) = first_term(alloc, bytes)?;
-    Ok((with_monomial(names, none, &first), rest))
+    tally_with(names, none, first_term(alloc, bytes))
 }
 
 // The tally with the monomial that stands behind a space, from its sign on, and what follows it.
@@ -94,8 +111,18 @@ fn next_tally<'a, N: Names>(
         → IsTallied whole result (λ x. HasTally (N.find names.now) whole x.1.now x.0) }
     ensures shorter { IfOk result (λ x. length x.1.now < length bytes.now) }
 {
-    let (_minus, next, rest) = next_term(alloc, bytes)?;
-    Ok((with_monomial(names, tally, &next), rest))
+    tally_with(names, tally, next_term(alloc, bytes))
+}
+
+// The tally, where nothing is left behind the sum.
+fn whole_tally(tally: Tally, rest: &[u8]) -> Result<Tally, ReadError>
+    ensures whole { IfOk result (λ t. (t ≡ tally) × (rest.now ≡ [])) }
+    ensures more { IfErr result (λ e. (e ≡ refusals.BadTerm) × (0 < length rest.now)) }
+{
+    match rest {
+        [] => Ok(tally),
+        _ => Err(ReadError::BadTerm),
+    }
 }
 
 // The tally of the sum that all bytes are read as.
@@ -105,14 +132,13 @@ fn tally_of<N: Names>(alloc: Global, names: &N, bytes: &[u8]) -> Result<Tally, R
 {
     let (mut tally, mut rest) = first_tally(alloc, names, bytes)?;
     loop {
-        match rest {
-            [] => return Ok(tally),
-            [b' ', after @ ..] => {
+        match rest_after(rest, b' ') {
+            Some(after) => {
                 let (next, after) = next_tally(alloc, names, tally, after)?;
                 tally = next;
                 rest = after;
             }
-            _ => return Err(ReadError::BadTerm),
+            None => return whole_tally(tally, rest),
         }
     }
 }

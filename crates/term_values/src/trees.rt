@@ -1,17 +1,16 @@
 //! From written terms to trees of terms.
 
-ghost use Rattle.std.specs.Prelude.{◌≡◌, ◌++◌, ◌∷◌, [], map, pos, List, IfOk, Ok, unsigned_abs};
+ghost use Rattle.std.specs.Prelude.{◌≡◌, ◌++◌, [], map, pos, List, IfOk, OnOk, Ok, unsigned_abs};
 ghost use Rattle.nf_terms.specs.NormalTerms as terms;
 ghost use Rattle.nf_terms.specs.View as view;
 ghost use Rattle.term_text.specs.View as text;
 ghost use Rattle.term_condition_text.specs.DigitNumbers.{clipped_number};
 ghost use Rattle.term_values.specs.TermValues.{within_limit, coefficient, atom_value, atoms_of, polynomial_value, array_value};
 ghost use Rattle.term_values.specs.TermValues.{list_base};
-ghost use Rattle.term_values.specs.ListParts.{under_sign, base_value};
+ghost use Rattle.term_values.specs.ListParts.{under_sign, base_value, IsPushed};
 
 use crate::names::{Names, position};
 use nf_terms::atoms::{make_quotient, make_read, make_remainder};
-use nf_terms::copies::{push_atom, push_term, push_write};
 use nf_terms::stop::NoMemory;
 use nf_terms::tree::{ArrTree, Atom, Base, MonoTree, PolyTree, SeqBase};
 use std::alloc::Global;
@@ -41,7 +40,7 @@ fn signed_number(minus: bool, monomial: &WrittenMonomial<'_>) -> i128
     if minus { -number } else { number }
 }
 
-// Two trees, where both were made.
+// Two values, where both were made.
 fn both<A: Drop, B: Drop>(
     left: Result<A, NoMemory>,
     right: Result<B, NoMemory>,
@@ -50,6 +49,14 @@ fn both<A: Drop, B: Drop>(
     ensures right { IfOk result (λ p. right ≡ Ok p.1) }
 {
     Ok((left?, right?))
+}
+
+// Adds a value to a list, where it was made.
+fn push_made<T: Drop>(out: &mut Vec<T>, made: Result<T, NoMemory>) -> Result<(), NoMemory>
+    ensures { OnOk result (IsPushed made out.old.items out.new.items) }
+{
+    out.push(made?)?;
+    Ok(())
 }
 
 #[cycle(trees)]
@@ -76,13 +83,13 @@ fn atom_tree<N: Names>(alloc: Global, names: &N, atom: &WrittenAtom<'_>) -> Resu
     }
 }
 
-// One atom, as a list.
-fn one_atom(alloc: Global, atom: Atom) -> Result<Vec<Atom>, NoMemory>
-    ensures { IfOk result (λ v. map view.atom_in v.items ≡ view.atom_in atom ∷ []) }
+// A list of one value, where that was made.
+fn one<T: Drop>(alloc: Global, made: Result<T, NoMemory>) -> Result<Vec<T>, NoMemory>
+    ensures { IfOk result (λ v. IsPushed made [] v.items) }
 {
-    let mut atoms = Vec::new(alloc);
-    push_atom(&mut atoms, atom)?;
-    Ok(atoms)
+    let mut out = Vec::new(alloc);
+    push_made(&mut out, made)?;
+    Ok(out)
 }
 
 // The atom that a monomial begins with, if it does.
@@ -98,12 +105,11 @@ fn head_atoms<N: Names>(
 {
     match head {
         WrittenHead::Number(_) => Ok(Vec::new(alloc)),
-        WrittenHead::One(atom) => one_atom(alloc, atom_tree(alloc, names, atom)?),
+        WrittenHead::One(atom) => one(alloc, atom_tree(alloc, names, atom)),
     }
 }
 
 #[cycle(trees)]
-#[tactic(auto, using(crate::proofs::Lists::monomial_is))]
 fn monomial_tree<N: Names>(
     alloc: Global,
     names: &N,
@@ -114,14 +120,13 @@ fn monomial_tree<N: Names>(
 {
     let mut atoms = head_atoms(alloc, names, &monomial.head)?;
     for atom in &monomial.atoms {
-        push_atom(&mut atoms, atom_tree(alloc, names, atom)?)?;
+        push_made(&mut atoms, atom_tree(alloc, names, atom))?;
     }
     Ok(MonoTree { atoms })
 }
 
 /// The tree of a polynomial. The one refusal is out of memory.
 #[cycle(trees)]
-#[tactic(auto, using(crate::proofs::Lists::polynomial_is))]
 pub fn polynomial_tree<N: Names>(
     alloc: Global,
     names: &N,
@@ -134,7 +139,10 @@ pub fn polynomial_tree<N: Names>(
     let mut monos = Vec::new(alloc);
     for (minus, monomial) in &polynomial.monomials {
         let number = signed_number(*minus, monomial);
-        push_term(&mut monos, monomial_tree(alloc, names, monomial)?, &number)?;
+        push_made(
+            &mut monos,
+            both(monomial_tree(alloc, names, monomial), Ok(number)),
+        )?;
     }
     Ok(PolyTree { monos })
 }
@@ -150,7 +158,6 @@ fn base_tree<N: Names>(names: &N, base: &WrittenBase<'_>) -> Base
 
 /// The tree of an array. The one refusal is out of memory.
 #[cycle(trees)]
-#[tactic(auto, using(crate::proofs::Lists::array_is))]
 pub fn array_tree<N: Names>(
     alloc: Global,
     names: &N,
@@ -162,8 +169,10 @@ pub fn array_tree<N: Names>(
     let mut writes = Vec::new(alloc);
     for (index, value) in &array.writes {
         let index = polynomial_tree(alloc, names, index);
-        let (index, value) = both(index, polynomial_tree(alloc, names, value))?;
-        push_write(&mut writes, index, value)?;
+        push_made(
+            &mut writes,
+            both(index, polynomial_tree(alloc, names, value)),
+        )?;
     }
     Ok(ArrTree {
         base: base_tree(names, &array.base),

@@ -1,15 +1,10 @@
-use Rattle.std.proofs.Common.{◌∷◌, refl}
-use Rattle.term_text.specs.View.{written_monomial_in}
-use Rattle.term_values.proofs.Tallies.{more_tally}
+use Rattle.term_values.proofs.Tallies.{next_tallied, tallied_shorter}
 use Rattle.term_values.proofs.sums.next_tally.Goals as goal
 
 pub returns-clause-tallied : goal.returns-clause-tallied
-returns-clause-tallied g c = λ whole h.
-    more_tally (g.N.Names.find c.args.names.now) whole (32 ∷ c.args.bytes.now) c.args.bytes.now c.in_ok-_minus.rest.now
-    c.args.tally c.with_monomial.result (c.in_ok-_minus._minus, written_monomial_in c.in_ok-_minus.next)
-    h refl c.in_ok-_minus.ensures.goes (record {
-      count = c.with_monomial.ensures.count;
-      numbers = c.with_monomial.ensures.numbers;
-      names = c.with_monomial.ensures.names;
-      sorts = c.with_monomial.ensures.sorts;
-    })
+returns-clause-tallied g c = λ whole h. next_tallied (g.N.Names.find c.args.names.now) whole c.args.bytes.now c.args.tally c.next_term.result
+    c.tally_with.result h c.next_term.ensures.goes c.tally_with.ensures
+
+pub returns-clause-shorter : goal.returns-clause-shorter
+returns-clause-shorter g c = tallied_shorter _ (g.N.Names.find c.args.names.now) c.args.tally c.next_term.result c.tally_with.result
+    c.next_term.ensures.shorter c.tally_with.ensures

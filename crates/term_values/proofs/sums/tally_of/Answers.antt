@@ -1,14 +1,46 @@
-use Rattle.std.proofs.Common.{◌≡◌, [], Err, sym, subst, rules, arith}
-use Rattle.std.proofs.lemmas.Grind.{common_steps}
-use Rattle.term_values.specs.SumTallies.{HasTally, IsTallied}
-use Rattle.term_values.proofs.Tallies.{refusal_passes}
+use Rattle.std.proofs.Common.{[], arith}
+use Rattle.term_text.proofs.Steps.{found, missing, rest_after_shorter}
+use Rattle.term_values.specs.SumTallies.{HasTally}
+use Rattle.term_values.proofs.Tallies.{refusal_passes, at_space, ends}
 use Rattle.term_values.proofs.sums.tally_of.Goals as goal
 
-pub returns-in_err-next-in-32 : goal.returns-in_err-next-in-32
-returns-in_err-next-in-32 g c =
+pub loop-after-init : goal.loop-after-init
+loop-after-init g c = c.in_ok-tally.ensures
+
+pub loop-after-preserved : goal.loop-after-preserved
+loop-after-preserved g c =
     let find = g.N.Names.find c.args.names.now in
     let bytes = c.args.bytes.now in
-    let passed : c.from_residual-in_err-next-in-32.result ≡ Err c.in_err-next-in-32.field-0.0 = search rules in
-    subst (λ r. IsTallied bytes r (HasTally find bytes [])) (sym passed)
-    (refusal_passes find bytes c.loop-rest.rest.now _ c.loop-rest.tally _ (HasTally find bytes []) c.in_err-next-in-32.field-0.0
-    c.loop-rest.invariant (grind (arith, common_steps)) (c.in_err-next-in-32.ensures.tallied bytes))
+    let rest = c.loop-after.rest.now in
+    let there = found c.rest_after.result c.in-Some.after 32 rest c.rest_after.ensures.rest c.in-Some.is in
+    c.in_ok-next-in-Some.ensures.tallied bytes (at_space find bytes rest c.in-Some.after.now c.loop-after.tally c.loop-after.invariant there)
+
+pub loop-after-smaller : goal.loop-after-smaller
+loop-after-smaller g c =
+    let rest = c.loop-after.rest.now in
+    let there = found c.rest_after.result c.in-Some.after 32 rest c.rest_after.ensures.rest c.in-Some.is in
+    omega (arith, rest_after_shorter 32 rest c.in-Some.after.now there, c.in_ok-next-in-Some.ensures.shorter)
+
+pub returns-in_err-tally : goal.returns-in_err-tally
+returns-in_err-tally g c =
+    let find = g.N.Names.find c.args.names.now in
+    let bytes = c.args.bytes.now in
+    refusal_passes bytes (λ x. HasTally find bytes x.1.now x.0) (HasTally find bytes []) c.from_residual.result c.in_err-tally.field-0.0
+    c.from_residual.ensures.1 c.in_err-tally.ensures
+
+pub returns-in_err-next-in-Some : goal.returns-in_err-next-in-Some
+returns-in_err-next-in-Some g c =
+    let find = g.N.Names.find c.args.names.now in
+    let bytes = c.args.bytes.now in
+    let rest = c.loop-after.rest.now in
+    let there = found c.rest_after.result c.in-Some.after 32 rest c.rest_after.ensures.rest c.in-Some.is in
+    refusal_passes bytes (λ x. HasTally find bytes x.1.now x.0) (HasTally find bytes []) c.from_residual-in_err-next-in-Some.result
+    c.in_err-next-in-Some.field-0.0 c.from_residual-in_err-next-in-Some.ensures.1
+    (c.in_err-next-in-Some.ensures.tallied bytes (at_space find bytes rest c.in-Some.after.now c.loop-after.tally c.loop-after.invariant there))
+
+pub returns-in-None : goal.returns-in-None
+returns-in-None g c =
+    let rest = c.loop-after.rest.now in
+    let nothing = missing c.rest_after.result 32 rest c.rest_after.ensures.rest c.in-None.is in
+    ends (g.N.Names.find c.args.names.now) c.args.bytes.now rest c.loop-after.tally c.whole_tally.result c.loop-after.invariant nothing
+    c.whole_tally.ensures.whole c.whole_tally.ensures.more
