@@ -26,6 +26,11 @@ stops stop.NoMemory c next e = tt
 pub stopped : {T : Type 0} (r : Result T NfStop) (event : NfStop) (c : Computed T) → r ≡ Err event → Answers {T = T} (Err event) c → Answers {T = T} r c
 stopped {T = T} r event c e h = subst (λ s. Answers {T = T} s c) (sym e) h
 
+-- an operation on what another gave
+pub goes : {S T : Type 0} (a : Computed S) (next : S → Computed T) (s : S) (r : Result T NfStop) → a ≡ Done s → Answers {T = T} r (next s)
+    → Answers {T = T} r (after a next)
+goes {T = T} a next s r e h = subst (λ c. Answers {T = T} r (after c next)) (sym e) h
+
 -- two operations and one of their results are done before what follows
 pub behind : {S T U V : Type 0} (a : Computed S) (b : Computed T) (f : S → T → Computed U) (next : U → Computed V)
     → after a (λ s. after b (λ t. after (f s t) next)) ≡ after (after a (λ s. after b (λ t. f s t))) next
@@ -34,102 +39,6 @@ behind (Done s) (Wide l r) f next = refl
 behind (Done s) (Large u d) f next = refl
 behind (Wide l r) b f next = refl
 behind (Large u d) b f next = refl
-
--- an element that is there is not the default
-pub same_there : {X : Type 0} (xs : List X) (i : ℕ) (a b : X) → i < length xs → get_or xs i a ≡ get_or xs i b
-same_there [] i a b h = absurd (omega arith)
-same_there (x ∷ xs) zero a b h = refl
-same_there (x ∷ xs) (suc i) a b h = same_there xs i a b (omega arith)
-
-module _ (v : List (Pos × Nf)) (bank : List Atom) where
-  pub factor_step : (ids : List AtomId) (i : ℕ) (default : AtomId) (so_far factor product : Polynomial) → i < length ids
-      → atom_substituted v (atom_of_number bank (get_or ids i default)) ≡ Done factor → normal_product so_far factor ≡ Done product
-      → atoms_substituted v (monomial_of (map (atom_of_number bank) (drop (i + 1) ids))) product
-      ≡ atoms_substituted v (monomial_of (map (atom_of_number bank) (drop i ids))) so_far
-  factor_step ids i default so_far factor product h a p =
-      let id = get_or ids i default in
-      let rest = monomial_of (map (atom_of_number bank) (drop (i + 1) ids)) in
-      sym (ap (λ xs. atoms_substituted v (monomial_of xs) so_far) (map_drop_next (atom_of_number bank) ids i id h (same_there ids i default id h))
-      ∙ ap (λ c. after c (λ f. after (normal_product so_far f) (λ q. atoms_substituted v rest q))) a
-      ∙ ap (λ c. after c (λ q. atoms_substituted v rest q)) p)
-
-  pub term_step : (terms : List Term) (i : ℕ) (t : Term) (so_far value sum : Polynomial) → i < length terms → t ≡ get_or terms i t
-      → after (number t.coefficient) (atoms_substituted v (monomial_over bank t.atoms)) ≡ Done value → normal_sum so_far value ≡ Done sum
-      → terms_substituted v (polynomial_of (map (scaled_monomial_over bank) (drop (i + 1) terms))) sum
-      ≡ terms_substituted v (polynomial_of (map (scaled_monomial_over bank) (drop i terms))) so_far
-  term_step terms i t so_far value sum h e a p =
-      let rest = polynomial_of (map (scaled_monomial_over bank) (drop (i + 1) terms)) in
-      sym (ap (λ xs. terms_substituted v (polynomial_of xs) so_far) (map_drop_next (scaled_monomial_over bank) terms i t h e)
-      ∙ ap (λ c. after c (λ x. after (normal_sum so_far x) (λ s. terms_substituted v rest s))) a
-      ∙ ap (λ c. after c (λ s. terms_substituted v rest s)) p)
-
-  pub write_step : (writes : List Write) (i : ℕ) (w : Write) (so_far array : ArrayTerm) → i < length writes → w ≡ get_or writes i w
-      → after (polynomial_substituted v (sum_over bank w.index)) (λ j. after (polynomial_substituted v (sum_over bank w.value)) (λ y. write_array so_far j y))
-      ≡ Done array
-      → writes_substituted v (writes_of (map (write_over bank) (drop (i + 1) writes))) array
-      ≡ writes_substituted v (writes_of (map (write_over bank) (drop i writes))) so_far
-  write_step writes i w so_far array h e a =
-      let rest = writes_of (map (write_over bank) (drop (i + 1) writes)) in
-      let next : ArrayTerm → Computed ArrayTerm = λ r. writes_substituted v rest r in
-      sym (ap (λ xs. writes_substituted v (writes_of xs) so_far) (map_drop_next (write_over bank) writes i w h e)
-      ∙ behind (polynomial_substituted v (sum_over bank w.index)) (polynomial_substituted v (sum_over bank w.value)) (λ j y. write_array so_far j y) next
-      ∙ ap (λ c. after c next) a)
-
-  pub factor_stops : (ids : List AtomId) (i : ℕ) (default : AtomId) (so_far : Polynomial) (event : NfStop) → i < length ids
-      → Answers {T = Polynomial} (Err event) (atom_substituted v (atom_of_number bank (get_or ids i default)))
-      → Answers {T = Polynomial} (Err event) (atoms_substituted v (monomial_of (map (atom_of_number bank) (drop i ids))) so_far)
-  factor_stops ids i default so_far event h a =
-      let id = get_or ids i default in
-      let rest = monomial_of (map (atom_of_number bank) (drop (i + 1) ids)) in
-      subst (λ xs. Answers {T = Polynomial} (Err event) (atoms_substituted v (monomial_of xs) so_far))
-      (sym (map_drop_next (atom_of_number bank) ids i id h (same_there ids i default id h)))
-      (stops event (atom_substituted v (atom_of_number bank id)) (λ f. after (normal_product so_far f) (λ q. atoms_substituted v rest q)) a)
-
-  pub product_stops : (ids : List AtomId) (i : ℕ) (default : AtomId) (so_far factor : Polynomial) (event : NfStop) → i < length ids
-      → atom_substituted v (atom_of_number bank (get_or ids i default)) ≡ Done factor → Answers {T = Polynomial} (Err event) (normal_product so_far factor)
-      → Answers {T = Polynomial} (Err event) (atoms_substituted v (monomial_of (map (atom_of_number bank) (drop i ids))) so_far)
-  product_stops ids i default so_far factor event h a p =
-      let id = get_or ids i default in
-      let rest = monomial_of (map (atom_of_number bank) (drop (i + 1) ids)) in
-      subst (Answers {T = Polynomial} (Err event))
-      (sym (ap (λ xs. atoms_substituted v (monomial_of xs) so_far) (map_drop_next (atom_of_number bank) ids i id h (same_there ids i default id h))
-      ∙ ap (λ c. after c (λ f. after (normal_product so_far f) (λ q. atoms_substituted v rest q))) a))
-      (stops event (normal_product so_far factor) (λ q. atoms_substituted v rest q) p)
-
-  pub term_stops : (terms : List Term) (i : ℕ) (t : Term) (so_far : Polynomial) (event : NfStop) → i < length terms → t ≡ get_or terms i t
-      → Answers {T = Polynomial} (Err event) (after (number t.coefficient) (atoms_substituted v (monomial_over bank t.atoms)))
-      → Answers {T = Polynomial} (Err event) (terms_substituted v (polynomial_of (map (scaled_monomial_over bank) (drop i terms))) so_far)
-  term_stops terms i t so_far event h e a =
-      let rest = polynomial_of (map (scaled_monomial_over bank) (drop (i + 1) terms)) in
-      subst (λ xs. Answers {T = Polynomial} (Err event) (terms_substituted v (polynomial_of xs) so_far))
-      (sym (map_drop_next (scaled_monomial_over bank) terms i t h e))
-      (stops event (after (number t.coefficient) (atoms_substituted v (monomial_over bank t.atoms)))
-      (λ x. after (normal_sum so_far x) (λ s. terms_substituted v rest s)) a)
-
-  pub sum_stops : (terms : List Term) (i : ℕ) (t : Term) (so_far value : Polynomial) (event : NfStop) → i < length terms → t ≡ get_or terms i t
-      → after (number t.coefficient) (atoms_substituted v (monomial_over bank t.atoms)) ≡ Done value
-      → Answers {T = Polynomial} (Err event) (normal_sum so_far value)
-      → Answers {T = Polynomial} (Err event) (terms_substituted v (polynomial_of (map (scaled_monomial_over bank) (drop i terms))) so_far)
-  sum_stops terms i t so_far value event h e a p =
-      let rest = polynomial_of (map (scaled_monomial_over bank) (drop (i + 1) terms)) in
-      subst (Answers {T = Polynomial} (Err event))
-      (sym (ap (λ xs. terms_substituted v (polynomial_of xs) so_far) (map_drop_next (scaled_monomial_over bank) terms i t h e)
-      ∙ ap (λ c. after c (λ x. after (normal_sum so_far x) (λ s. terms_substituted v rest s))) a))
-      (stops event (normal_sum so_far value) (λ s. terms_substituted v rest s) p)
-
-  pub write_stops : (writes : List Write) (i : ℕ) (w : Write) (so_far : ArrayTerm) (event : NfStop) → i < length writes → w ≡ get_or writes i w
-      → Answers {T = ArrayTerm} (Err event)
-      (after (polynomial_substituted v (sum_over bank w.index)) (λ j. after (polynomial_substituted v (sum_over bank w.value)) (λ y. write_array so_far j y)))
-      → Answers {T = ArrayTerm} (Err event) (writes_substituted v (writes_of (map (write_over bank) (drop i writes))) so_far)
-  write_stops writes i w so_far event h e a =
-      let rest = writes_of (map (write_over bank) (drop (i + 1) writes)) in
-      let next : ArrayTerm → Computed ArrayTerm = λ r. writes_substituted v rest r in
-      let index = polynomial_substituted v (sum_over bank w.index) in
-      let value = polynomial_substituted v (sum_over bank w.value) in
-      subst (Answers {T = ArrayTerm} (Err event))
-      (sym (ap (λ xs. writes_substituted v (writes_of xs) so_far) (map_drop_next (write_over bank) writes i w h e)
-      ∙ behind index value (λ j y. write_array so_far j y) next))
-      (stops event (after index (λ j. after value (λ y. write_array so_far j y))) next a)
 
 -- an operation on what another gives, before what follows
 pub after_after : {S T U : Type 0} (a : Computed S) (f : S → Computed T) (next : T → Computed U)
@@ -145,3 +54,77 @@ item_done a f next m e = ap (λ c. after c next) (sym e) ∙ after_after a f nex
 pub item_stops : {S T U : Type 0} (event : NfStop) (a : Computed S) (f : S → Computed T) (next : T → Computed U)
     → Answers {T = T} (Err event) (after a f) → Answers {T = U} (Err event) (after a (λ s. after (f s) next))
 item_stops {U = U} event a f next e = subst (Answers {T = U} (Err event)) (after_after a f next) (stops event (after a f) next e)
+
+-- an element that is there is not the default
+pub same_there : {X : Type 0} (xs : List X) (i : ℕ) (a b : X) → i < length xs → get_or xs i a ≡ get_or xs i b
+same_there [] i a b h = absurd (omega arith)
+same_there (x ∷ xs) zero a b h = refl
+same_there (x ∷ xs) (suc i) a b h = same_there xs i a b (omega arith)
+
+module _ (v : List (Pos × Nf)) (bank : List Atom) where
+  pub factor_step : (ids : List AtomId) (i : ℕ) (default : AtomId) (so_far product : Polynomial) → i < length ids
+      → after (atom_substituted v (atom_of_number bank (get_or ids i default))) (λ f. normal_product so_far f) ≡ Done product
+      → atoms_substituted v (monomial_of (map (atom_of_number bank) (drop (i + 1) ids))) product
+      ≡ atoms_substituted v (monomial_of (map (atom_of_number bank) (drop i ids))) so_far
+  factor_step ids i default so_far product h p =
+      let id = get_or ids i default in
+      let rest = monomial_of (map (atom_of_number bank) (drop (i + 1) ids)) in
+      item_done (atom_substituted v (atom_of_number bank id)) (λ f. normal_product so_far f) (λ q. atoms_substituted v rest q) product p
+      ∙ sym (ap (λ xs. atoms_substituted v (monomial_of xs) so_far) (map_drop_next (atom_of_number bank) ids i id h (same_there ids i default id h)))
+
+  pub term_step : (terms : List Term) (i : ℕ) (t : Term) (so_far sum : Polynomial) → i < length terms → t ≡ get_or terms i t
+      → after (after (number t.coefficient) (atoms_substituted v (monomial_over bank t.atoms))) (λ x. normal_sum so_far x) ≡ Done sum
+      → terms_substituted v (polynomial_of (map (scaled_monomial_over bank) (drop (i + 1) terms))) sum
+      ≡ terms_substituted v (polynomial_of (map (scaled_monomial_over bank) (drop i terms))) so_far
+  term_step terms i t so_far sum h e p =
+      let rest = polynomial_of (map (scaled_monomial_over bank) (drop (i + 1) terms)) in
+      item_done (after (number t.coefficient) (atoms_substituted v (monomial_over bank t.atoms))) (λ x. normal_sum so_far x)
+      (λ s. terms_substituted v rest s) sum p
+      ∙ sym (ap (λ xs. terms_substituted v (polynomial_of xs) so_far) (map_drop_next (scaled_monomial_over bank) terms i t h e))
+
+  pub write_step : (writes : List Write) (i : ℕ) (w : Write) (so_far array : ArrayTerm) → i < length writes → w ≡ get_or writes i w
+      → after (polynomial_substituted v (sum_over bank w.index)) (λ j. after (polynomial_substituted v (sum_over bank w.value)) (λ y. write_array so_far j y))
+      ≡ Done array
+      → writes_substituted v (writes_of (map (write_over bank) (drop (i + 1) writes))) array
+      ≡ writes_substituted v (writes_of (map (write_over bank) (drop i writes))) so_far
+  write_step writes i w so_far array h e a =
+      let rest = writes_of (map (write_over bank) (drop (i + 1) writes)) in
+      let next : ArrayTerm → Computed ArrayTerm = λ r. writes_substituted v rest r in
+      sym (ap (λ xs. writes_substituted v (writes_of xs) so_far) (map_drop_next (write_over bank) writes i w h e)
+      ∙ behind (polynomial_substituted v (sum_over bank w.index)) (polynomial_substituted v (sum_over bank w.value)) (λ j y. write_array so_far j y) next
+      ∙ ap (λ c. after c next) a)
+
+  pub factor_stops : (ids : List AtomId) (i : ℕ) (default : AtomId) (so_far : Polynomial) (event : NfStop) → i < length ids
+      → Answers {T = Polynomial} (Err event) (after (atom_substituted v (atom_of_number bank (get_or ids i default))) (λ f. normal_product so_far f))
+      → Answers {T = Polynomial} (Err event) (atoms_substituted v (monomial_of (map (atom_of_number bank) (drop i ids))) so_far)
+  factor_stops ids i default so_far event h a =
+      let id = get_or ids i default in
+      let rest = monomial_of (map (atom_of_number bank) (drop (i + 1) ids)) in
+      subst (λ xs. Answers {T = Polynomial} (Err event) (atoms_substituted v (monomial_of xs) so_far))
+      (sym (map_drop_next (atom_of_number bank) ids i id h (same_there ids i default id h)))
+      (item_stops event (atom_substituted v (atom_of_number bank id)) (λ f. normal_product so_far f) (λ q. atoms_substituted v rest q) a)
+
+  pub term_stops : (terms : List Term) (i : ℕ) (t : Term) (so_far : Polynomial) (event : NfStop) → i < length terms → t ≡ get_or terms i t
+      → Answers {T = Polynomial} (Err event)
+      (after (after (number t.coefficient) (atoms_substituted v (monomial_over bank t.atoms))) (λ x. normal_sum so_far x))
+      → Answers {T = Polynomial} (Err event) (terms_substituted v (polynomial_of (map (scaled_monomial_over bank) (drop i terms))) so_far)
+  term_stops terms i t so_far event h e a =
+      let rest = polynomial_of (map (scaled_monomial_over bank) (drop (i + 1) terms)) in
+      subst (λ xs. Answers {T = Polynomial} (Err event) (terms_substituted v (polynomial_of xs) so_far))
+      (sym (map_drop_next (scaled_monomial_over bank) terms i t h e))
+      (item_stops event (after (number t.coefficient) (atoms_substituted v (monomial_over bank t.atoms))) (λ x. normal_sum so_far x)
+      (λ s. terms_substituted v rest s) a)
+
+  pub write_stops : (writes : List Write) (i : ℕ) (w : Write) (so_far : ArrayTerm) (event : NfStop) → i < length writes → w ≡ get_or writes i w
+      → Answers {T = ArrayTerm} (Err event)
+      (after (polynomial_substituted v (sum_over bank w.index)) (λ j. after (polynomial_substituted v (sum_over bank w.value)) (λ y. write_array so_far j y)))
+      → Answers {T = ArrayTerm} (Err event) (writes_substituted v (writes_of (map (write_over bank) (drop i writes))) so_far)
+  write_stops writes i w so_far event h e a =
+      let rest = writes_of (map (write_over bank) (drop (i + 1) writes)) in
+      let next : ArrayTerm → Computed ArrayTerm = λ r. writes_substituted v rest r in
+      let index = polynomial_substituted v (sum_over bank w.index) in
+      let value = polynomial_substituted v (sum_over bank w.value) in
+      subst (Answers {T = ArrayTerm} (Err event))
+      (sym (ap (λ xs. writes_substituted v (writes_of xs) so_far) (map_drop_next (write_over bank) writes i w h e)
+      ∙ behind index value (λ j y. write_array so_far j y) next))
+      (stops event (after index (λ j. after value (λ y. write_array so_far j y))) next a)

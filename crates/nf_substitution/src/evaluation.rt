@@ -1,12 +1,15 @@
 //! The substituted values of terms that are given by numbers.
 
 ghost use Rattle.std.specs.Prelude.{◌<◌, ◌≤◌, length, pos};
-ghost use Rattle.nf_terms.specs.Computed.{Answers, after};
-ghost use Rattle.nf_sums.specs.Operations.{number as number_of, normal_product};
-ghost use Rattle.nf_arrays.specs.Writes.{write_array};
+ghost use Rattle.nf_terms.specs.NormalTerms.{Polynomial};
+ghost use Rattle.nf_terms.specs.Computed.{Computed, Done, Answers, after};
+ghost use Rattle.nf_sums.specs.Operations.{number as number_of, normal_sum, normal_product};
+ghost use Rattle.nf_arrays.specs.NewAtoms.{quotient_of, remainder_of};
+ghost use Rattle.nf_arrays.specs.Writes.{write_array, read_at};
 ghost use Rattle.nf_bank.specs.AtomNumbers.{bound_of_term, bound_of_sum, bound_of_write, bound_of_array, bound_of_node};
 ghost use Rattle.nf_bank.specs.AtomNumbers.{bound_over, bound_of_number, atom_of_number};
 ghost use Rattle.nf_bank.specs.AtomNumbers.{monomial_over, sum_over, array_over, atom_over};
+ghost use Rattle.nf_vectors.specs.Vectors.{number_at};
 ghost use Rattle.nf_substitution.specs.Substitution.{atom_substituted, atoms_substituted, polynomial_substituted};
 ghost use Rattle.nf_substitution.specs.Substitution.{array_substituted};
 ghost use Rattle.nf_substitution.specs.Keeping.{AreValues};
@@ -17,12 +20,14 @@ use nf_arrays::division::{div, rem};
 use nf_arrays::reads::read;
 use nf_arrays::writes::write;
 use nf_bank::bank::Bank;
+use nf_bank::items::Items;
 use nf_bank::node::{Array, AtomId, Node, Term, Write};
 use nf_sums::accumulator::Accumulator;
 use nf_sums::sums::{mul, number};
 use nf_terms::arr::Arr;
 use nf_terms::poly::Poly;
 use nf_terms::stop::NfStop;
+use nf_terms::tree::Pos;
 use nf_vectors::vector::Vector;
 use std::alloc::Global;
 
@@ -45,7 +50,35 @@ fn number_value(
         return Ok(value);
     }
     let value = atom_value(alloc, vector, bank, memo, bank.node(id))?;
-    Ok(memo.keep_number(alloc, id, value)?)
+    memo.keep_number(alloc, id, value)
+}
+
+// The number that a symbol becomes.
+fn symbol_value(alloc: Global, vector: &Vector, p: &Pos) -> Result<Poly, NfStop>
+    ensures { Answers result (Done (number_at vector.now p.now)) }
+{
+    Ok(vector.number(alloc, p)?)
+}
+
+// A read of an array, where the index was computed.
+fn read_value(alloc: Global, array: &Arr, index: Result<Poly, NfStop>) -> Result<Poly, NfStop>
+    ensures { (i : Computed Polynomial) → Answers index i → Answers result (after i (λ j. read_at array.now j)) }
+{
+    read(alloc, array, &index?)
+}
+
+// A quotient, where the divisor was computed.
+fn quotient_value(alloc: Global, left: &Poly, right: Result<Poly, NfStop>) -> Result<Poly, NfStop>
+    ensures { (d : Computed Polynomial) → Answers right d → Answers result (after d (λ r. quotient_of left.now r)) }
+{
+    div(alloc, left, &right?)
+}
+
+// A remainder, where the divisor was computed.
+fn remainder_value(alloc: Global, left: &Poly, right: Result<Poly, NfStop>) -> Result<Poly, NfStop>
+    ensures { (d : Computed Polynomial) → Answers right d → Answers result (after d (λ r. remainder_of left.now r)) }
+{
+    rem(alloc, left, &right?)
 }
 
 // The operation of an atom on its substituted parts.
@@ -63,43 +96,54 @@ fn atom_value(
     ensures known { AreValues vector.now bank.now memo.new }
 {
     match node {
-        Node::Sym(p) => Ok(vector.number(alloc, p)?),
+        Node::Sym(p) => symbol_value(alloc, vector, p),
         Node::Read(array, index) => {
             let array = array_value(alloc, vector, bank, memo, array)?;
-            let index = sum_value(alloc, vector, bank, memo, index.as_slice())?;
-            read(alloc, &array, &index)
+            let index = sum_value(alloc, vector, bank, memo, index);
+            read_value(alloc, &array, index)
         }
         Node::Div(left, right) => {
-            let left = sum_value(alloc, vector, bank, memo, left.as_slice())?;
-            let right = sum_value(alloc, vector, bank, memo, right.as_slice())?;
-            div(alloc, &left, &right)
+            let left = sum_value(alloc, vector, bank, memo, left)?;
+            let right = sum_value(alloc, vector, bank, memo, right);
+            quotient_value(alloc, &left, right)
         }
         Node::Rem(left, right) => {
-            let left = sum_value(alloc, vector, bank, memo, left.as_slice())?;
-            let right = sum_value(alloc, vector, bank, memo, right.as_slice())?;
-            rem(alloc, &left, &right)
+            let left = sum_value(alloc, vector, bank, memo, left)?;
+            let right = sum_value(alloc, vector, bank, memo, right);
+            remainder_value(alloc, &left, right)
         }
     }
 }
 
-// A coefficient, shared.
-fn coefficient_number(alloc: Global, coefficient: &i128) -> Result<SharedNumber, NfStop>
-    ensures { Answers result (number_of coefficient.now) }
+// A number that was computed, shared.
+fn share(alloc: Global, number: Result<Poly, NfStop>) -> Result<SharedNumber, NfStop>
+    ensures { (c : Computed Polynomial) → Answers number c → Answers result c }
 {
-    let number = number(alloc, coefficient)?;
-    Ok(SharedNumber::of(alloc, number)?)
+    Ok(SharedNumber::of(alloc, number?)?)
 }
 
-// The product of two numbers, shared.
+// The product of two numbers, shared, where the second was computed.
 fn multiply(
     alloc: Global,
     left: &SharedNumber,
-    right: &SharedNumber,
+    right: Result<SharedNumber, NfStop>,
 ) -> Result<SharedNumber, NfStop>
-    ensures { Answers result (normal_product left.now right.now) }
+    ensures { (c : Computed Polynomial) → Answers right c → Answers result (after c (λ f. normal_product left.now f)) }
 {
-    let product = mul(alloc, left.number(), right.number())?;
-    Ok(SharedNumber::of(alloc, product)?)
+    let right = right?;
+    share(alloc, mul(alloc, left.number(), right.number()))
+}
+
+// A sum with one number more, where this was computed.
+fn add_number(
+    alloc: Global,
+    so_far: Accumulator,
+    number: Result<SharedNumber, NfStop>,
+) -> Result<Accumulator, NfStop>
+    ensures { (c : Computed Polynomial) → Answers number c → Answers result (after c (λ t. normal_sum so_far t)) }
+{
+    let number = number?;
+    so_far.add(alloc, number.number())
 }
 
 // A number times the values of atoms.
@@ -120,8 +164,8 @@ fn product_value(
 {
     let mut so_far = first;
     for id in atoms {
-        let factor = number_value(alloc, vector, bank, memo, *id)?;
-        so_far = multiply(alloc, &so_far, &factor)?;
+        let factor = number_value(alloc, vector, bank, memo, *id);
+        so_far = multiply(alloc, &so_far, factor)?;
     }
     Ok(so_far)
 }
@@ -142,7 +186,7 @@ fn monomial_value(
     ensures known { AreValues vector.now bank.now memo.new }
 {
     match atoms {
-        [] => Ok(SharedNumber::of(alloc, Poly::number(alloc, 1)?)?),
+        [] => share(alloc, number(alloc, &1)),
         [id, rest @ ..] => {
             let first = number_value(alloc, vector, bank, memo, *id)?;
             let _number = first.number(); // The call tells the proof that the value is normal.
@@ -170,7 +214,7 @@ fn term_value(
     if term.coefficient == 1 {
         return monomial_value(alloc, vector, bank, memo, atoms);
     }
-    let first = coefficient_number(alloc, &term.coefficient)?;
+    let first = share(alloc, number(alloc, &term.coefficient))?;
     product_value(alloc, vector, bank, memo, first, atoms)
 }
 
@@ -182,7 +226,7 @@ pub(crate) fn sum_value(
     vector: &Vector,
     bank: &Bank,
     memo: &mut Memo,
-    terms: &[Term],
+    terms: &Items<Term>,
 ) -> Result<Poly, NfStop>
     requires within { bound_of_sum terms.now ≤ length bank.now }
     requires known { AreValues vector.now bank.now memo.old }
@@ -190,11 +234,24 @@ pub(crate) fn sum_value(
     ensures known { AreValues vector.now bank.now memo.new }
 {
     let mut so_far = Accumulator::new(alloc);
-    for term in terms {
-        let value = term_value(alloc, vector, bank, memo, term)?;
-        so_far = so_far.add(alloc, value.number())?;
+    for term in terms.as_slice() {
+        let value = term_value(alloc, vector, bank, memo, term);
+        so_far = add_number(alloc, so_far, value)?;
     }
     Ok(so_far.into_poly())
+}
+
+// An array with one write more, where the value was computed.
+fn write_value(
+    alloc: Global,
+    so_far: &Arr,
+    index: &Poly,
+    value: Result<Poly, NfStop>,
+) -> Result<Arr, NfStop>
+    ensures { (c : Computed Polynomial) → Answers value c
+        → Answers result (after c (λ x. write_array so_far.now index.now x)) }
+{
+    write(alloc, so_far, index, &value?)
 }
 
 // An array with one write more, of the values of its index and its value.
@@ -215,9 +272,9 @@ fn written_value(
         (λ x. write_array so_far.now i x))) }
     ensures known { AreValues vector.now bank.now memo.new }
 {
-    let index = sum_value(alloc, vector, bank, memo, entry.index.as_slice())?;
-    let value = sum_value(alloc, vector, bank, memo, entry.value.as_slice())?;
-    write(alloc, so_far, &index, &value)
+    let index = sum_value(alloc, vector, bank, memo, &entry.index)?;
+    let value = sum_value(alloc, vector, bank, memo, &entry.value);
+    write_value(alloc, so_far, &index, value)
 }
 
 /// An array with the vector's forms in place of its symbols.

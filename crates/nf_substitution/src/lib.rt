@@ -8,6 +8,7 @@
 
 mod evaluation;
 mod kept_atoms;
+mod kept_terms;
 pub mod laws;
 mod memo;
 mod shared_number;

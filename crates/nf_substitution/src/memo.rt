@@ -1,12 +1,13 @@
 //! The values of atoms by their numbers.
 
 ghost use Rattle.std.specs.Prelude.{◌≡◌, ◌≢◌, ◌<◌, ℕ, [], Some, length, take, option_map, IfOk, OnOk, OnErr};
+ghost use Rattle.nf_terms.specs.Computed.{Answers, Done};
 ghost use Rattle.nf_substitution.specs.Keeping.{known_value};
 
 use crate::shared_number::SharedNumber;
 use nf_bank::node::AtomId;
 use nf_terms::poly::Poly;
-use nf_terms::stop::NoMemory;
+use nf_terms::stop::{NfStop, NoMemory};
 use std::alloc::Global;
 use std::marker::Model;
 
@@ -77,9 +78,8 @@ impl Memo {
         ensures others { (k : ℕ) → k ≢ id.0 → known_value self.new k ≡ known_value self.old k }
         ensures refused { OnErr result ((k : ℕ) → known_value self.new k ≡ known_value self.old k) }
     {
-        let copy = value.try_clone()?;
         self.make_room(id)?;
-        self.by_number[id.0 as usize] = Some(copy);
+        self.by_number[id.0 as usize] = Some(value.try_clone()?);
         Ok(())
     }
 
@@ -89,8 +89,8 @@ impl Memo {
         alloc: Global,
         id: AtomId,
         value: Poly,
-    ) -> Result<SharedNumber, NoMemory>
-        ensures same { IfOk result (λ shared. shared ≡ value) }
+    ) -> Result<SharedNumber, NfStop>
+        ensures answers { Answers result (Done value) }
         ensures kept { OnOk result (known_value self.new id.0 ≡ Some value) }
         ensures others { (k : ℕ) → k ≢ id.0 → known_value self.new k ≡ known_value self.old k }
         ensures refused { OnErr result ((k : ℕ) → known_value self.new k ≡ known_value self.old k) }

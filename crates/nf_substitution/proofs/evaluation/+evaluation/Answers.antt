@@ -5,11 +5,10 @@ use Rattle.nf_terms.specs.Computed.{Done, Answers}
 use Rattle.nf_bank.specs.AtomNumbers.{atom_of_number, scaled_monomial_over, write_over, monomial_over, sum_over, array_over, bound_over, bound_of_number}
 use Rattle.nf_bank.specs.declared.node.AtomId.{AtomId}
 use Rattle.nf_bank.proofs.Bounds.{bound_of_item}
-use Rattle.nf_sums.specs.Operations.{normal_sum}
 use Rattle.nf_substitution.specs.Substitution.{atoms_substituted, terms_substituted, writes_substituted, polynomial_substituted, array_substituted}
 use Rattle.nf_substitution.proofs.FirstFactors.{from_first}
 use Rattle.nf_substitution.proofs.Following.{same_there, stopped, factor_step, term_step, write_step}
-use Rattle.nf_substitution.proofs.Following.{factor_stops, product_stops, term_stops, sum_stops, write_stops}
+use Rattle.nf_substitution.proofs.Following.{factor_stops, term_stops, write_stops}
 use Rattle.nf_substitution.proofs.evaluation.+evaluation.Goals as goal
 
 pub monomial_value-returns-in_ok-first-in-len1-up-clause-answers : goal.monomial_value-returns-in_ok-first-in-len1-up-clause-answers
@@ -19,21 +18,19 @@ monomial_value-returns-in_ok-first-in-len1-up-clause-answers t c =
 
 pub product_value-loop-id-preserved : goal.product_value-loop-id-preserved
 product_value-loop-id-preserved t c = record {
-  answers = factor_step c.args.vector.now c.args.bank.now c.args.atoms.now c.loop-id.id-index _ c.loop-id.so_far c.in_ok-factor.factor
-      c.in_ok-so_far.so_far c.loop-id-test.true c.in_ok-factor.ensures.answers c.in_ok-so_far.ensures
+  answers = factor_step c.args.vector.now c.args.bank.now c.args.atoms.now c.loop-id.id-index _ c.loop-id.so_far c.in_ok-so_far.so_far
+      c.loop-id-test.true (c.in_ok-so_far.ensures _ c.number_value-factor.ensures.answers)
       ∙ c.loop-id.invariant.answers;
-  known = c.in_ok-factor.ensures.known;
+  known = c.number_value-factor.ensures.known;
 }
 
 pub sum_value-loop-term-preserved : goal.sum_value-loop-term-preserved
-sum_value-loop-term-preserved t c =
-    let sum = ap (normal_sum c.loop-term.so_far) (sym c.number.ensures.same) ∙ c.in_ok-so_far.ensures in
-    record {
-      answers = term_step c.args.vector.now c.args.bank.now c.args.terms.now c.loop-term.term-index c.term-item.result c.loop-term.so_far
-          c.in_ok-value.value c.in_ok-so_far.so_far c.loop-term-test.true c.term-item.is c.in_ok-value.ensures.answers sum
-          ∙ c.loop-term.invariant.answers;
-      known = c.in_ok-value.ensures.known;
-    }
+sum_value-loop-term-preserved t c = record {
+  answers = term_step c.args.vector.now c.args.bank.now c.as_slice-term-items.result.now c.loop-term.term-index c.term-item.result c.loop-term.so_far
+      c.in_ok-so_far.so_far c.loop-term-test.true c.term-item.is (c.in_ok-so_far.ensures _ c.term_value-value.ensures.answers)
+      ∙ c.loop-term.invariant.answers;
+  known = c.term_value-value.ensures.known;
+}
 
 pub array_value-loop-entry-preserved : goal.array_value-loop-entry-preserved
 array_value-loop-entry-preserved t c = record {
@@ -49,51 +46,31 @@ product_value-returns-clause-answers t c =
     ∙ at_drop_all (λ ids. atoms_substituted c.args.vector.now (monomial_of (map (atom_of_number c.args.bank.now) ids)) c.loop-id.so_far)
     c.args.atoms.now c.loop-id.id-index c.loop-id-test.false
 
-pub product_value-returns-in_err-factor-clause-answers : goal.product_value-returns-in_err-factor-clause-answers
-product_value-returns-in_err-factor-clause-answers t c =
-    let event = c.in_err-factor.field-0.0 in
+pub product_value-returns-in_err-so_far-clause-answers : goal.product_value-returns-in_err-so_far-clause-answers
+product_value-returns-in_err-so_far-clause-answers t c =
+    let event = c.in_err-so_far.field-0.0 in
     let refused : c.from_residual.result ≡ Err event = search rules in
     stopped _ event
     (atoms_substituted c.args.vector.now (monomial_over c.args.bank.now c.args.atoms.now) c.args.first) refused
     (subst (Answers {T = Polynomial} (Err event)) c.loop-id.invariant.answers
     (factor_stops c.args.vector.now c.args.bank.now c.args.atoms.now c.loop-id.id-index _ c.loop-id.so_far event c.loop-id-test.true
-    c.in_err-factor.ensures.answers))
-
-pub product_value-returns-in_err-so_far-clause-answers : goal.product_value-returns-in_err-so_far-clause-answers
-product_value-returns-in_err-so_far-clause-answers t c =
-    let event = c.in_err-so_far.field-0.0 in
-    let refused : c.from_residual-in_err-so_far.result ≡ Err event = search rules in
-    stopped _ event
-    (atoms_substituted c.args.vector.now (monomial_over c.args.bank.now c.args.atoms.now) c.args.first) refused
-    (subst (Answers {T = Polynomial} (Err event)) c.loop-id.invariant.answers
-    (product_stops c.args.vector.now c.args.bank.now c.args.atoms.now c.loop-id.id-index _ c.loop-id.so_far c.in_ok-factor.factor event
-    c.loop-id-test.true c.in_ok-factor.ensures.answers c.in_err-so_far.ensures))
+    (c.in_err-so_far.ensures _ c.number_value-factor.ensures.answers)))
 
 pub sum_value-returns-clause-answers : goal.sum_value-returns-clause-answers
 sum_value-returns-clause-answers t c =
     sym c.loop-term.invariant.answers
     ∙ at_drop_all (λ terms. terms_substituted c.args.vector.now (polynomial_of (map (scaled_monomial_over c.args.bank.now) terms)) c.loop-term.so_far)
-    c.args.terms.now c.loop-term.term-index c.loop-term-test.false
+    c.as_slice-term-items.result.now c.loop-term.term-index c.loop-term-test.false
     ∙ ap Done (sym c.into_poly.ensures)
-
-pub sum_value-returns-in_err-value-clause-answers : goal.sum_value-returns-in_err-value-clause-answers
-sum_value-returns-in_err-value-clause-answers t c =
-    let event = c.in_err-value.field-0.0 in
-    let refused : c.from_residual.result ≡ Err event = search rules in
-    stopped _ event (polynomial_substituted c.args.vector.now (sum_over c.args.bank.now c.args.terms.now)) refused
-    (subst (Answers {T = Polynomial} (Err event)) c.loop-term.invariant.answers
-    (term_stops c.args.vector.now c.args.bank.now c.args.terms.now c.loop-term.term-index c.term-item.result c.loop-term.so_far event
-    c.loop-term-test.true c.term-item.is c.in_err-value.ensures.answers))
 
 pub sum_value-returns-in_err-so_far-clause-answers : goal.sum_value-returns-in_err-so_far-clause-answers
 sum_value-returns-in_err-so_far-clause-answers t c =
     let event = c.in_err-so_far.field-0.0 in
-    let refused : c.from_residual-in_err-so_far.result ≡ Err event = search rules in
+    let refused : c.from_residual.result ≡ Err event = search rules in
     stopped _ event (polynomial_substituted c.args.vector.now (sum_over c.args.bank.now c.args.terms.now)) refused
     (subst (Answers {T = Polynomial} (Err event)) c.loop-term.invariant.answers
-    (sum_stops c.args.vector.now c.args.bank.now c.args.terms.now c.loop-term.term-index c.term-item.result c.loop-term.so_far c.in_ok-value.value event
-    c.loop-term-test.true c.term-item.is c.in_ok-value.ensures.answers
-    (subst (λ n. Answers {T = Polynomial} (Err event) (normal_sum c.loop-term.so_far n)) c.number.ensures.same c.in_err-so_far.ensures)))
+    (term_stops c.args.vector.now c.args.bank.now c.as_slice-term-items.result.now c.loop-term.term-index c.term-item.result c.loop-term.so_far event
+    c.loop-term-test.true c.term-item.is (c.in_err-so_far.ensures _ c.term_value-value.ensures.answers)))
 
 pub array_value-returns-clause-answers : goal.array_value-returns-clause-answers
 array_value-returns-clause-answers t c =
@@ -110,8 +87,8 @@ array_value-returns-in_err-so_far-2-clause-answers t c =
     (write_stops c.args.vector.now c.args.bank.now c.as_slice-entry-items.result.now c.loop-entry.entry-index c.entry-item.result c.loop-entry.so_far event
     c.loop-entry-test.true c.entry-item.is c.in_err-so_far-2.ensures.answers))
 
-pub product_value-number_value-requires : goal.product_value-number_value-requires
-product_value-number_value-requires t c =
+pub product_value-number_value-factor-requires : goal.product_value-number_value-factor-requires
+product_value-number_value-factor-requires t c =
     let ids = c.args.atoms.now in
     let i = c.loop-id.id-index in
     let id : AtomId = get_or ids i (record { 0 = 0 }) in

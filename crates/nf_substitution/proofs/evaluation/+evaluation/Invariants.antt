@@ -40,7 +40,7 @@ invariant-product_value-loop-id l = record {
 
 abbrev pub invariant-sum_value-loop-term : goal.invariant-sum_value-loop-term
 invariant-sum_value-loop-term l = record {
-  answers : terms_substituted l.vector (polynomial_of (map (scaled_monomial_over l.bank) (drop l.term-index l.terms))) l.so_far
+  answers : terms_substituted l.vector (polynomial_of (map (scaled_monomial_over l.bank) (drop l.term-index l.term-items))) l.so_far
       ≡ polynomial_substituted l.vector (sum_over l.bank l.terms);
   known : AreValues l.vector l.bank l.memo;
 }
