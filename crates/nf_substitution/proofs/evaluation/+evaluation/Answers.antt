@@ -1,15 +1,72 @@
 use Rattle.std.proofs.Common.{◌≡◌, ◌+◌, ◌*◌, ◌≤◌, Err, length, get_or, map, arith, rules, ap, sym, subst, ◌∙◌}
 use Rattle.std.proofs.lemmas.List.{at_drop_all}
 use Rattle.nf_terms.specs.NormalTerms.{Polynomial, ArrayTerm, monomial_of, polynomial_of, writes_of}
-use Rattle.nf_terms.specs.Computed.{Done, Answers}
+use Rattle.nf_terms.specs.Computed.{Done, Answers, after}
 use Rattle.nf_bank.specs.AtomNumbers.{atom_of_number, scaled_monomial_over, write_over, monomial_over, sum_over, array_over, bound_over, bound_of_number}
+use Rattle.nf_bank.specs.AtomNumbers.{bound_of_node, atom_over}
 use Rattle.nf_bank.specs.declared.node.AtomId.{AtomId}
 use Rattle.nf_bank.proofs.Bounds.{bound_of_item}
-use Rattle.nf_substitution.specs.Substitution.{atoms_substituted, terms_substituted, writes_substituted, polynomial_substituted, array_substituted}
+use Rattle.nf_arrays.specs.NewAtoms.{quotient_of, remainder_of}
+use Rattle.nf_arrays.specs.Writes.{read_at}
+use Rattle.nf_substitution.specs.Substitution.{atom_substituted, atoms_substituted, terms_substituted, writes_substituted, polynomial_substituted, array_substituted}
 use Rattle.nf_substitution.proofs.FirstFactors.{from_first}
-use Rattle.nf_substitution.proofs.Following.{same_there, stopped, factor_step, term_step, write_step}
+use Rattle.nf_substitution.proofs.Following.{same_there, stopped, goes, factor_step, term_step, write_step}
 use Rattle.nf_substitution.proofs.Following.{factor_stops, term_stops, write_stops}
 use Rattle.nf_substitution.proofs.evaluation.+evaluation.Goals as goal
+
+pub atom_value-array_value-requires : goal.atom_value-array_value-requires
+atom_value-array_value-requires t c =
+    let is = ap bound_of_node c.in-Read.is in
+    (omega (arith, is, c.decreases), (omega (arith, is, c.requires.within), c.requires.known))
+
+pub atom_value-sum_value-index-requires : goal.atom_value-sum_value-index-requires
+atom_value-sum_value-index-requires t c =
+    let is = ap bound_of_node c.in-Read.is in
+    (omega (arith, is, c.decreases), (omega (arith, is, c.requires.within), c.in_ok-array-in-Read.ensures.known))
+
+pub atom_value-sum_value-requires : goal.atom_value-sum_value-requires
+atom_value-sum_value-requires t c =
+    let is = ap bound_of_node c.in-Div.is in
+    (omega (arith, is, c.decreases), (omega (arith, is, c.requires.within), c.requires.known))
+
+pub atom_value-sum_value-right-requires : goal.atom_value-sum_value-right-requires
+atom_value-sum_value-right-requires t c =
+    let is = ap bound_of_node c.in-Div.is in
+    (omega (arith, is, c.decreases), (omega (arith, is, c.requires.within), c.in_ok-left-in-Div.ensures.known))
+
+pub atom_value-sum_value-requires-in-Rem : goal.atom_value-sum_value-requires-in-Rem
+atom_value-sum_value-requires-in-Rem t c =
+    let is = ap bound_of_node c.in-Rem.is in
+    (omega (arith, is, c.decreases), (omega (arith, is, c.requires.within), c.requires.known))
+
+pub atom_value-sum_value-right-requires-in-Rem : goal.atom_value-sum_value-right-requires-in-Rem
+atom_value-sum_value-right-requires-in-Rem t c =
+    let is = ap bound_of_node c.in-Rem.is in
+    (omega (arith, is, c.decreases), (omega (arith, is, c.requires.within), c.in_ok-left-in-Rem.ensures.known))
+
+pub atom_value-returns-in_ok-array-in-Read-clause-answers : goal.atom_value-returns-in_ok-array-in-Read-clause-answers
+atom_value-returns-in_ok-array-in-Read-clause-answers t c =
+    let v = c.args.vector.now in
+    let bank = c.args.bank.now in
+    subst (λ n. Answers {T = Polynomial} c.read_value.result (atom_substituted v (atom_over bank n))) (sym c.in-Read.is)
+    (goes (array_substituted v (array_over bank c.in-Read.array)) (λ b. after (polynomial_substituted v (sum_over bank c.in-Read.index)) (λ j. read_at b j))
+    c.in_ok-array-in-Read.array c.read_value.result c.in_ok-array-in-Read.ensures.answers (c.read_value.ensures _ c.sum_value-index.ensures.answers))
+
+pub atom_value-returns-in_ok-left-in-Div-clause-answers : goal.atom_value-returns-in_ok-left-in-Div-clause-answers
+atom_value-returns-in_ok-left-in-Div-clause-answers t c =
+    let v = c.args.vector.now in
+    let bank = c.args.bank.now in
+    subst (λ n. Answers {T = Polynomial} c.quotient_value.result (atom_substituted v (atom_over bank n))) (sym c.in-Div.is)
+    (goes (polynomial_substituted v (sum_over bank c.in-Div.left)) (λ l. after (polynomial_substituted v (sum_over bank c.in-Div.right)) (λ r. quotient_of l r))
+    c.in_ok-left-in-Div.left c.quotient_value.result c.in_ok-left-in-Div.ensures.answers (c.quotient_value.ensures _ c.sum_value-right.ensures.answers))
+
+pub atom_value-returns-in_ok-left-in-Rem-clause-answers : goal.atom_value-returns-in_ok-left-in-Rem-clause-answers
+atom_value-returns-in_ok-left-in-Rem-clause-answers t c =
+    let v = c.args.vector.now in
+    let bank = c.args.bank.now in
+    subst (λ n. Answers {T = Polynomial} c.remainder_value.result (atom_substituted v (atom_over bank n))) (sym c.in-Rem.is)
+    (goes (polynomial_substituted v (sum_over bank c.in-Rem.left)) (λ l. after (polynomial_substituted v (sum_over bank c.in-Rem.right)) (λ r. remainder_of l r))
+    c.in_ok-left-in-Rem.left c.remainder_value.result c.in_ok-left-in-Rem.ensures.answers (c.remainder_value.ensures _ c.sum_value-right-in-Rem.ensures.answers))
 
 pub monomial_value-returns-in_ok-first-in-len1-up-clause-answers : goal.monomial_value-returns-in_ok-first-in-len1-up-clause-answers
 monomial_value-returns-in_ok-first-in-len1-up-clause-answers t c =
