@@ -3,9 +3,9 @@
 ghost use Rattle.std.specs.Prelude.{◌<◌, length};
 ghost use Rattle.fs_stores.specs.Values.{values_of};
 
+use crate::machines::reading::machine;
 use fs_ast::machine::Machine;
 use fs_model::parts::VarId;
-use fs_sample_machines::reading::machine;
 use fs_stores::inputs::{Inputs, start};
 use fs_stores::store::Store;
 use fs_stores::values::Value;

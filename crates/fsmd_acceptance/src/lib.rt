@@ -50,6 +50,8 @@ mod limits;
 #[cfg(test)]
 mod loads;
 #[cfg(test)]
+mod machines;
+#[cfg(test)]
 mod named;
 #[cfg(test)]
 mod paths;

@@ -1,8 +1,8 @@
 //! Machines and certificates that several tables ask about, as an engineer and as `check` write them.
 
 use crate::certificates::moved_sum::CERTIFICATE;
+use crate::machines::samples::SOLVER;
 use crate::spelling::put_text;
-use fs_sample_machines::samples::SOLVER;
 use std::alloc::{AllocError, Global};
 
 // A name before each text. A certificate of a left machine that may never end has no rank that falls in its cycle; that of a

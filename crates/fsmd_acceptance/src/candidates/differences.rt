@@ -1,8 +1,8 @@
 //! The first candidate that shows a difference of two machines.
 
 use crate::candidates::first::first_number;
+use crate::machines::reading::machine;
 use fs_ast::machine::Machine;
-use fs_sample_machines::reading::machine;
 use std::alloc::Global;
 
 const SUM: &str = "fsmd 1; input a, b; output y; local t; reset s0;

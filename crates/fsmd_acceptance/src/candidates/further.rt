@@ -1,8 +1,8 @@
 //! Further candidates.
 
 use crate::candidates::first::first_found;
+use crate::machines::reading::machine;
 use fs_ast::machine::Machine;
-use fs_sample_machines::reading::machine;
 use fs_stores::inputs::Inputs;
 use fs_stores::values::Value;
 use fs_trials::candidates::Candidates;

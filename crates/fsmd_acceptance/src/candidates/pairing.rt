@@ -1,8 +1,8 @@
 //! The positions of two machines.
 
+use crate::machines::reading::machine;
 use fs_ast::machine::Machine;
 use fs_pair::positions::{Position, same_interface};
-use fs_sample_machines::reading::machine;
 use nf_terms::tree::Side;
 use std::alloc::Global;
 

@@ -1,11 +1,11 @@
 //! Chains that grow link by link.
 
+use crate::machines::reading::machine;
 use cert_check::verdict::Verdict;
 use cert_model::reason::Reason;
 use cert_text::reader::read_cert;
 use fs_ast::machine::Machine;
 use fs_pair::positions::same_interface;
-use fs_sample_machines::reading::machine;
 use hls_shrink::{Chain, ChainStop};
 use std::alloc::Global;
 

@@ -1,9 +1,9 @@
 //! The lines of machines.
 
+use crate::machines::reading::machine;
+use crate::machines::samples::SOLVER;
 use fs_ast::machine::Machine;
 use fs_model::parts::StateId;
-use fs_sample_machines::reading::machine;
-use fs_sample_machines::samples::SOLVER;
 use hls_sched::arrivals::count_arrivals;
 use hls_sched::lines::{Line, firsts, is_straight, item, trace_line};
 use std::alloc::Global;

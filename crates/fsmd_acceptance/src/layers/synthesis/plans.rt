@@ -1,9 +1,9 @@
 //! The rows of a line under unit counts.
 
+use crate::machines::reading::machine;
+use crate::machines::samples::{EMITS, PRODUCTS, SOLVER};
 use fs_ast::machine::Machine;
 use fs_model::parts::StateId;
-use fs_sample_machines::reading::machine;
-use fs_sample_machines::samples::{EMITS, PRODUCTS, SOLVER};
 use hls_line_filling::effects::Effects;
 use hls_line_filling::plan::{Plan, make_plan};
 use hls_line_filling::uses::{Uses, uses_of};

@@ -1,0 +1,4 @@
+//! Machines of texts, and the texts that several tests share.
+
+pub mod reading;
+pub mod samples;
