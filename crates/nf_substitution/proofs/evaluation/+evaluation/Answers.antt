@@ -8,7 +8,8 @@ use Rattle.nf_bank.specs.declared.node.AtomId.{AtomId}
 use Rattle.nf_bank.proofs.Bounds.{bound_of_item}
 use Rattle.nf_arrays.specs.NewAtoms.{quotient_of, remainder_of}
 use Rattle.nf_arrays.specs.Writes.{read_at}
-use Rattle.nf_substitution.specs.Substitution.{atom_substituted, atoms_substituted, terms_substituted, writes_substituted, polynomial_substituted, array_substituted}
+use Rattle.nf_substitution.specs.Substitution.{atom_substituted, atoms_substituted, terms_substituted, writes_substituted}
+use Rattle.nf_substitution.specs.Substitution.{polynomial_substituted, array_substituted}
 use Rattle.nf_substitution.proofs.FirstFactors.{from_first}
 use Rattle.nf_substitution.proofs.Following.{same_there, stopped, goes, factor_step, term_step, write_step}
 use Rattle.nf_substitution.proofs.Following.{factor_stops, term_stops, write_stops}
@@ -65,8 +66,10 @@ atom_value-returns-in_ok-left-in-Rem-clause-answers t c =
     let v = c.args.vector.now in
     let bank = c.args.bank.now in
     subst (λ n. Answers {T = Polynomial} c.remainder_value.result (atom_substituted v (atom_over bank n))) (sym c.in-Rem.is)
-    (goes (polynomial_substituted v (sum_over bank c.in-Rem.left)) (λ l. after (polynomial_substituted v (sum_over bank c.in-Rem.right)) (λ r. remainder_of l r))
-    c.in_ok-left-in-Rem.left c.remainder_value.result c.in_ok-left-in-Rem.ensures.answers (c.remainder_value.ensures _ c.sum_value-right-in-Rem.ensures.answers))
+    (goes (polynomial_substituted v (sum_over bank c.in-Rem.left))
+    (λ l. after (polynomial_substituted v (sum_over bank c.in-Rem.right)) (λ r. remainder_of l r))
+    c.in_ok-left-in-Rem.left c.remainder_value.result c.in_ok-left-in-Rem.ensures.answers
+    (c.remainder_value.ensures _ c.sum_value-right-in-Rem.ensures.answers))
 
 pub monomial_value-returns-in_ok-first-in-len1-up-clause-answers : goal.monomial_value-returns-in_ok-first-in-len1-up-clause-answers
 monomial_value-returns-in_ok-first-in-len1-up-clause-answers t c =
