@@ -1,6 +1,6 @@
 -- The first members of objects whose names get more.
-use Rattle.std.proofs.Common.{◌≡◌, ℕ, zero, suc, ◌+◌, ◌<◌, ◌≤◌, List, [], ◌∷◌, ◌++◌, length, true, false, Option, Some, None, String, Global}
-use Rattle.std.proofs.Common.{Ordering, Less, Equal, Greater, nat_cmp, string_bytes, string_cmp, refl, sym, ap, ◌∙◌, subst, arith}
+use Rattle.std.proofs.Common.{◌≡◌, ℕ, zero, suc, ◌+◌, ◌<◌, ◌≤◌, List, [], ◌∷◌, ◌++◌, length, true, false, Option, Some, None, Bor}
+use Rattle.std.proofs.Common.{Ordering, Less, Equal, Greater, nat_cmp, refl, sym, ap, ◌∙◌, subst, arith}
 use Rattle.std.specs.Prelude.{is_some, IsSome, IfSome, ◌↔◌, if◌then◌else◌}
 use Rattle.std.specs.Cmp.Lexicographic.{slice_cmp}
 use Rattle.std.specs.List.{All}
@@ -14,7 +14,7 @@ use Rattle.serde_json.specs.Data.{Data, Members, no_members, member, put}
 use Rattle.serde_json.specs.Events.{members_len}
 use Rattle.serde_json.specs.Find.{get_member, as_str}
 use Rattle.cert_json.specs.View.{view, members_view}
-use Rattle.cert_json.proofs.Views.{Entry}
+use Rattle.cert_json.proofs.Views.{Entry, name_cmp}
 use Rattle.cert_json.specs.Shape.{name_texts}
 use Rattle.cert_json.specs.Trim.{first_members}
 use Rattle.cert_json.specs.Objects.{AreBehind, AreAscending, is_no_text}
@@ -60,7 +60,7 @@ pub first_of_more : (n : ℕ) (es : List Entry) (e : Entry) → n ≤ length es
     → first_members n (members_view (es ++ e ∷ [])) ≡ first_members n (members_view es)
 first_of_more zero es e le = refl
 first_of_more (suc n) [] e le = absurd (omega arith)
-first_of_more (suc n) (f ∷ es) e le = ap (member (string_bytes f.0) (view f.1)) (first_of_more n es e (omega arith))
+first_of_more (suc n) (f ∷ es) e le = ap (member f.0.now (view f.1)) (first_of_more n es e (omega arith))
 
 -- the last member taken out of more
 pub popped : (n : ℕ) (r : Option Entry) (old new : List Entry) → (IsSome r ↔ (0 < length old)) → IfSome r (λ p. old ≡ new ++ p ∷ [])
@@ -78,7 +78,7 @@ texts_first (suc n) (member k d ms) h = let p = and_parts (is_some (as_str d)) (
 
 abbrev IsPast : List ℕ → List Entry → Type 0
 IsPast k [] = Unit {0}
-IsPast k (e ∷ es) = (slice_cmp nat_cmp k (string_bytes e.0) ≡ Greater) × IsPast k es
+IsPast k (e ∷ es) = (slice_cmp nat_cmp k e.0.now ≡ Greater) × IsPast k es
 
 less_from_greater : (k l : List ℕ) → slice_cmp nat_cmp k l ≡ Greater → slice_cmp nat_cmp l k ≡ Less
 less_from_greater k l h = nat_list_cmp_total.antisymm l k ∙ ap ordering_reverse h
@@ -90,23 +90,23 @@ past_one k l j Greater h is low =
     let less : slice_cmp nat_cmp j k ≡ Less = nat_list_cmp_total.trans j l k (less_from_greater l j is) (less_from_greater k l h) in
     nat_list_cmp_total.antisymm k j ∙ ap ordering_reverse less
 
-past_all : (k : List ℕ) (last : String Global) (es : List Entry) → slice_cmp nat_cmp k (string_bytes last) ≡ Greater
-    → All (λ q. is_lt (string_cmp last q) ≡ false) (keys_of es) → IsPast k es
+past_all : (k : List ℕ) (last : Bor (List ℕ)) (es : List Entry) → slice_cmp nat_cmp k last.now ≡ Greater
+    → All (λ q. is_lt (name_cmp last q) ≡ false) (keys_of es) → IsPast k es
 past_all k last [] h all = tt
 past_all k last (e ∷ es) h all = (
-  past_one k (string_bytes last) (string_bytes e.0) _ h refl (All-head (λ q. is_lt (string_cmp last q) ≡ false) e.0 (keys_of es) all),
-  past_all k last es h (All-tail (λ q. is_lt (string_cmp last q) ≡ false) e.0 (keys_of es) all),
+  past_one k last.now e.0.now _ h refl (All-head (λ q. is_lt (name_cmp last q) ≡ false) e.0 (keys_of es) all),
+  past_all k last es h (All-tail (λ q. is_lt (name_cmp last q) ≡ false) e.0 (keys_of es) all),
 )
 
 first_past : (n : ℕ) (k : List ℕ) (d : Data) (es : List Entry) → n ≤ length es → IsPast k es
     → first_members n (put k d (members_view es)) ≡ first_members n (members_view es)
 first_past zero k d es le h = refl
 first_past (suc n) k d [] le h = absurd (omega arith)
-first_past (suc n) k d (e ∷ es) le h = rw h.0 (ap (member (string_bytes e.0) (view e.1)) (first_past n k d es (omega arith) h.1))
+first_past (suc n) k d (e ∷ es) le h = rw h.0 (ap (member e.0.now (view e.1)) (first_past n k d es (omega arith) h.1))
 
 -- a name behind the last one, where there are as many
-pub past_last : (n : ℕ) (k : List ℕ) (last : String Global) (es : List Entry) → n ≤ length es → slice_cmp nat_cmp k (string_bytes last) ≡ Greater
-    → All (λ q. is_lt (string_cmp last q) ≡ false) (keys_of es) → (d : Data)
+pub past_last : (n : ℕ) (k : List ℕ) (last : Bor (List ℕ)) (es : List Entry) → n ≤ length es → slice_cmp nat_cmp k last.now ≡ Greater
+    → All (λ q. is_lt (name_cmp last q) ≡ false) (keys_of es) → (d : Data)
     → first_members n (put k d (members_view es)) ≡ first_members n (members_view es)
 past_last n k last es le h all d = first_past n k d es le (past_all k last es h all)
 

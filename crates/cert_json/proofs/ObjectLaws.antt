@@ -2,7 +2,7 @@
 use Rattle.std.proofs.Common.{◌≡◌, ℕ, suc, ◌≤◌, List, [], true, false, length, nat_lt, nat_cmp, Option, Some}
 use Rattle.std.proofs.Common.{Ordering, Less, Equal, Greater, Result, Ok, Err}
 use Rattle.std.proofs.Common.{refl, sym, ap, ◌∙◌, subst, arith, rules}
-use Rattle.std.specs.Prelude.{is_some, IfOk}
+use Rattle.std.specs.Prelude.{IfOk}
 use Rattle.std.specs.Cmp.Lexicographic.{slice_cmp}
 use Rattle.std.specs.Ordering.{match_ordering}
 use Rattle.std.proofs.lemmas.Bool.{ltb-true, lt-ltb, false≢true}
@@ -10,12 +10,11 @@ use Rattle.json.specs.Json.{parse_map}
 use Rattle.json.specs.Token.{Token}
 use Rattle.serde_json.specs.Data.{Data, null, array, object, Items, Members, no_members, member, put}
 use Rattle.serde_json.specs.Events.{members_len}
-use Rattle.serde_json.specs.Find.{get_member}
 use Rattle.cert_json.specs.View.{view, members_view}
 use Rattle.cert_json.specs.declared.value.Value.{Value, Null, Object, the_lemmas}
 use Rattle.cert_json.proofs.Views.{members_len-members_view, view-Object, Entry}
 use Rattle.cert_json.specs.Trim.{below, exceeds, keeps_first, first_names, short_list, short_object, trim, trim_items, trim_members}
-use Rattle.cert_json.specs.Objects.{TellsOthers, IsShortObject}
+use Rattle.cert_json.specs.Objects.{TellsOthers, IsShortObject, is_noted}
 use Rattle.cert_json.specs.declared.short_object.ShortObject.{ShortObject}
 use Rattle.cert_json.specs.declared.level.Level.{Level}
 use Rattle.cert_json.specs.declared.level.Level.TheVariants.{File, FileMember, Node, NodeMember, Deeper}
@@ -48,8 +47,7 @@ kept_put v w k d x before after ms level value members put_in =
 -- where the first names are kept
 pub first_added : (v : Level) (k : List ℕ) (d : Data) (ms : Members) (before after : ShortObject) → keeps_first v ≡ true
     → first_names (members_view after.members.entries) ≡ first_names (put k d (members_view before.members.entries))
-    → (TellsOthers ms (members_view before.others.entries) before.is_partial
-    → TellsOthers (put k d ms) (members_view after.others.entries) after.is_partial)
+    → (TellsOthers ms before.others.keys before.is_partial → TellsOthers (put k d ms) after.others.keys after.is_partial)
     → IsShortObject v ms before → IsShortObject v (put k d ms) after
 first_added v k d ms before after keeps first noted h = record {
   whole = λ none. absurd (false≢true (sym none ∙ keeps));
@@ -72,14 +70,14 @@ any_added v k d ms before after none is h =
     }
 
 -- an object of no members
-pub none_added : (v : Level) (o : ShortObject) → o.members.entries ≡ [] → o.others.entries ≡ [] → IsShortObject v no_members o
+pub none_added : (v : Level) (o : ShortObject) → o.members.entries ≡ [] → o.others.keys ≡ [] → IsShortObject v no_members o
 none_added v o none no_others =
     let same : members_view o.members.entries ≡ no_members = ap members_view none in
     record {
       whole = λ _. same;
       first = ap first_names same;
       others = λ _. record {
-        agree = λ q some. absurd (false≢true (sym (ap (λ es. is_some (get_member q (members_view es))) no_others) ∙ some));
+        agree = λ q some. absurd (false≢true (sym (ap (is_noted q) no_others) ∙ some));
         rest = λ _ q _. refl;
       };
       ascending = tt;

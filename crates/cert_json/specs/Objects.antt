@@ -1,6 +1,9 @@
 -- Objects whose names get more, and what is kept of them.
 use Rattle.std.specs.Prelude.{◌≡◌, ℕ, Bool, true, false, not, List, Option, Some, None, is_some}
+use Rattle.std.specs.Borrow.{Bor}
 use Rattle.std.specs.Cmp.Lexicographic.{slice_cmp}
+use Rattle.std.specs.List.{list_any}
+use Rattle.std.specs.BTreeMap.{is_at}
 use Rattle.std.specs.Ordering.{nat_cmp}
 use Rattle.std.specs.declared.cmp.Ordering.TheVariants.{Less}
 use Rattle.serde_json.specs.Data.{Data, Members, no_members, member}
@@ -25,14 +28,18 @@ abbrev pub is_no_text : Option Data → Bool
 is_no_text None = false
 is_no_text (Some d) = not (is_some (as_str d))
 
+-- whether a name is among others
+abbrev pub is_noted : List ℕ → List (Bor (List ℕ)) → Bool
+is_noted q ks = list_any (is_at (λ k. slice_cmp nat_cmp q k.now)) ks
+
 -- of the names that are noted the last value is no text, and of no other name, where none was left out
-pub record TellsOthers (ms noted : Members) (is_partial : Bool) : Type 0 where
-  pub agree : (q : List ℕ) → is_some (get_member q noted) ≡ true → is_no_text (get_member q ms) ≡ true
-  pub rest : is_partial ≡ false → (q : List ℕ) → is_some (get_member q noted) ≡ false → is_no_text (get_member q ms) ≡ false
+pub record TellsOthers (ms : Members) (noted : List (Bor (List ℕ))) (is_partial : Bool) : Type 0 where
+  pub agree : (q : List ℕ) → is_noted q noted ≡ true → is_no_text (get_member q ms) ≡ true
+  pub rest : is_partial ≡ false → (q : List ℕ) → is_noted q noted ≡ false → is_no_text (get_member q ms) ≡ false
 
 -- what is kept of these members at a level: where the first names are kept, these, and of which the values are no texts
 pub record IsShortObject (v : Level) (ms : Members) (o : ShortObject) : Type 0 where
   pub whole : keeps_first v ≡ false → members_view o.members.entries ≡ ms
   pub first : first_names (members_view o.members.entries) ≡ first_names ms
-  pub others : keeps_first v ≡ true → TellsOthers ms (members_view o.others.entries) o.is_partial
+  pub others : keeps_first v ≡ true → TellsOthers ms o.others.keys o.is_partial
   pub ascending : AreAscending ms

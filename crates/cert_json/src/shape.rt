@@ -33,7 +33,7 @@ fn are_texts(items: &Vec<Value<'_>>) -> bool
 }
 
 // Whether each member is a text.
-fn name_texts(members: &Map<String, Value<'_>>) -> bool
+fn name_texts(members: &Map<&str, Value<'_>>) -> bool
     ensures { result ≡ name_texts (members_view members.now.entries) }
 {
     for (_name, value) in members.iter() {

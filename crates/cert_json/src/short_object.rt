@@ -12,14 +12,15 @@ use crate::value::Value;
 use serde_json::Map;
 use std::alloc::{AllocError, Global};
 use std::cmp::Ordering;
+use std::collections::BTreeSet;
 
 /// What is kept of an object.
 #[derive(Drop)]
 pub struct ShortObject<'a> {
     /// The members that are kept.
-    pub members: Map<String, Value<'a>>,
+    pub members: Map<&'a str, Value<'a>>,
     /// Where the first names are kept: names of which the last value is no text.
-    pub others: Map<String, Value<'a>>,
+    pub others: BTreeSet<&'a str>,
     /// Whether such names were left out.
     pub is_partial: bool,
 }
@@ -33,61 +34,27 @@ pub fn empty_object<'a>(alloc: Global) -> ShortObject<'a>
 {
     ShortObject {
         members: Map::new(alloc),
-        others: Map::new(alloc),
+        others: BTreeSet::new(alloc),
         is_partial: false,
     }
 }
 
-// Puts a member in, over the value of its name where there is one, with a key of its own.
-#[inline(always)]
-fn insert_member<'a>(
-    alloc: Global,
-    found: &mut Map<String, Value<'a>>,
-    name: &str,
-    member: Value<'a>,
-) -> Result<(), AllocError>
-    ensures { OnOk result (members_view found.new.entries ≡ put name.now (view member.entry) (members_view found.old.entries)) }
-{
-    let key = String::from_str(alloc, name)?;
-    drop(found.insert(key, member)?);
-    Ok(())
-}
-
-// Whether a name comes behind all that are there, as most do in a file whose names ascend.
-#[inline(always)]
-fn is_last(found: &Map<String, Value<'_>>, name: &str) -> bool {
-    match found.last_key_value() {
-        Some((last, _)) => name.cmp(last.as_str()) == Ordering::Greater,
-        None => true,
-    }
-}
-
-// Puts a member in, over the value of its name where there is one: a name that may be there is looked for, so that no key is
-// made for it again.
+// Puts a member in, over the value of its name where there is one. The one refusal is out of memory.
 #[inline(always)]
 fn put_member<'a>(
-    alloc: Global,
-    found: &mut Map<String, Value<'a>>,
-    name: &str,
+    found: &mut Map<&'a str, Value<'a>>,
+    name: &'a str,
     member: Value<'a>,
 ) -> Result<(), AllocError>
     ensures { OnOk result (members_view found.new.entries ≡ put name.now (view member.entry) (members_view found.old.entries)) }
 {
-    if is_last(found, name) {
-        return insert_member(alloc, found, name, member);
-    }
-    match found.get_mut(name) {
-        Some(place) => {
-            *place = member;
-            Ok(())
-        }
-        None => insert_member(alloc, found, name, member),
-    }
+    drop(found.insert(name, member)?);
+    Ok(())
 }
 
 // Whether a name comes behind as many as are kept.
 #[inline(always)]
-fn is_past(found: &Map<String, Value<'_>>, name: &str) -> bool
+fn is_past(found: &Map<&str, Value<'_>>, name: &str) -> bool
     ensures { IsTrue result
         → (d : Data) → first_names (put name.now d (members_view found.now.entries))
         ≡ first_names (members_view found.now.entries) }
@@ -96,13 +63,13 @@ fn is_past(found: &Map<String, Value<'_>>, name: &str) -> bool
         return false;
     }
     match found.last_key_value() {
-        Some((last, _)) => name.cmp(last.as_str()) == Ordering::Greater,
+        Some((last, _)) => name.cmp(*last) == Ordering::Greater,
         None => false,
     }
 }
 
 // Takes out the members behind the first.
-fn cut(found: &mut Map<String, Value<'_>>)
+fn cut(found: &mut Map<&str, Value<'_>>)
     ensures { members_view found.new.entries ≡ first_names (members_view found.old.entries) }
 {
     while found.len() > 385 {
@@ -113,9 +80,8 @@ fn cut(found: &mut Map<String, Value<'_>>)
 // Puts a member in, of which nothing is kept behind the first names. The one refusal is out of memory.
 #[inline(always)]
 fn put_first<'a>(
-    alloc: Global,
-    found: &mut Map<String, Value<'a>>,
-    name: &str,
+    found: &mut Map<&'a str, Value<'a>>,
+    name: &'a str,
     member: Value<'a>,
 ) -> Result<(), AllocError>
     ensures { OnOk result (first_names (members_view found.new.entries)
@@ -124,7 +90,7 @@ fn put_first<'a>(
     if is_past(found, name) {
         return Ok(());
     }
-    let put = put_member(alloc, found, name, member);
+    let put = put_member(found, name, member);
     cut(found);
     put
 }
@@ -132,38 +98,37 @@ fn put_first<'a>(
 // Notes whether the value of a name is a text: the name stays noted as long as it is none. Where not all such names are to be
 // kept, as many are as there is room for. The one refusal is out of memory.
 #[inline(always)]
-fn note_value(
-    alloc: Global,
-    object: &mut ShortObject<'_>,
-    name: &str,
+fn note_value<'a>(
+    object: &mut ShortObject<'a>,
+    name: &'a str,
     is_text: bool,
     whole: bool,
 ) -> Result<(), AllocError>
     ensures others { OnOk result ((ms : Members) → (d : Data) → is_some (as_str d) ≡ is_text
-        → TellsOthers ms (members_view object.old.others.entries) object.old.is_partial
-        → TellsOthers (put name.now d ms) (members_view object.new.others.entries) object.new.is_partial) }
+        → TellsOthers ms object.old.others.keys object.old.is_partial
+        → TellsOthers (put name.now d ms) object.new.others.keys object.new.is_partial) }
     ensures members { object.new.members ≡ object.old.members }
     ensures whole { whole ≡ true → object.old.is_partial ≡ false → object.new.is_partial ≡ false }
 {
     if is_text {
-        drop(object.others.remove(name));
+        object.others.remove(name);
         return Ok(());
     }
     if !whole && object.others.len() >= 16 {
         object.is_partial = true;
         return Ok(());
     }
-    put_member(alloc, &mut object.others, name, Value::Null)
+    object.others.insert(name)?;
+    Ok(())
 }
 
 /// Puts a member in, over the value of its name where there is one. Where `whole` is said, no name is left out of what is noted
 /// of values that are no texts. The one refusal is out of memory.
 #[inline(always)]
 pub fn add_member<'a>(
-    alloc: Global,
     object: &mut ShortObject<'a>,
     level: Level,
-    name: &str,
+    name: &'a str,
     member: Value<'a>,
     whole: bool,
 ) -> Result<(), AllocError>
@@ -172,17 +137,17 @@ pub fn add_member<'a>(
     ensures whole { OnOk result (whole ≡ true → object.old.is_partial ≡ false → object.new.is_partial ≡ false) }
 {
     if !level.keeps_first() {
-        return put_member(alloc, &mut object.members, name, member);
+        return put_member(&mut object.members, name, member);
     }
-    note_value(alloc, object, name, member.is_string(), whole)?;
-    put_first(alloc, &mut object.members, name, member)
+    note_value(object, name, member.is_string(), whole)?;
+    put_first(&mut object.members, name, member)
 }
 
 // The value of equations, or null where they are not all texts; none where what was left out would tell.
 fn value_of_equations<'a>(object: ShortObject<'a>) -> Option<Value<'a>>
     ensures value { IfSome result (λ v. (ms : Members)
         → first_names (members_view object.entry.members.entries) ≡ first_names ms → AreAscending ms
-        → TellsOthers ms (members_view object.entry.others.entries) object.entry.is_partial → view v ≡ short_equations ms) }
+        → TellsOthers ms object.entry.others.keys object.entry.is_partial → view v ≡ short_equations ms) }
     ensures none { result ≡ None → object.entry.is_partial ≡ true }
 {
     if !object.others.is_empty() {

@@ -142,7 +142,7 @@ fn read_members<'a>(
     let mut found = empty_object(alloc);
     'members: while let Some(name) = reader.next_key()? {
         let member = read(alloc, reader, depth, level.below(), whole)?;
-        add_member(alloc, &mut found, level, name, member, whole)?;
+        add_member(&mut found, level, name, member, whole)?;
         if level.exceeds(found.members.len()) {
             skip_members(reader, depth)?;
             return Ok(Value::Null);

@@ -7,8 +7,8 @@ ghost use Rattle.cert_json.specs.View.{view, items_view, members_view};
 
 use serde_json::{Map, Number};
 
-/// A JSON value. Its texts are borrowed from what was read, so that a value of many long texts is small; the names of its
-/// members are its own.
+/// A JSON value. Its texts and the names of its members are borrowed from what was read, so that a value of many long texts
+/// is small.
 #[derive(Drop)]
 pub enum Value<'a> {
     Null,
@@ -16,7 +16,7 @@ pub enum Value<'a> {
     Number(Number),
     String(&'a str),
     Array(Vec<Value<'a>>),
-    Object(Map<String, Value<'a>>),
+    Object(Map<&'a str, Value<'a>>),
 }
 
 impl<'a> Value<'a> {
@@ -50,7 +50,7 @@ impl<'a> Value<'a> {
     }
 
     /// The members, where the value is an object.
-    pub fn as_object(&self) -> Option<&Map<String, Value<'a>>>
+    pub fn as_object(&self) -> Option<&Map<&'a str, Value<'a>>>
         ensures { option_map (λ m. members_view m.now.entries) result ≡ as_object (view self.now) }
     {
         if let Value::Object(members) = self {
@@ -93,7 +93,7 @@ impl<'a> Value<'a> {
 }
 
 // The value of a member of that name.
-fn member_of<'v, 'a>(members: &'v Map<String, Value<'a>>, name: &str) -> Option<&'v Value<'a>>
+fn member_of<'v, 'a>(members: &'v Map<&'a str, Value<'a>>, name: &str) -> Option<&'v Value<'a>>
     ensures { option_map (λ v. view v.now) result ≡ get_member name.now (members_view members.now.entries) }
 {
     members.get(name)

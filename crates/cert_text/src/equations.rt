@@ -126,7 +126,7 @@ pub fn put_equations(
     alloc: Global,
     places: &Places<'_>,
     node: u32,
-    members: &Map<String, Value<'_>>,
+    members: &Map<&str, Value<'_>>,
     last: &mut Vec<Option<ReadText>>,
     forms: &mut Vec<Option<SharedForm>>,
 ) -> Result<(), Stop>

@@ -87,7 +87,7 @@ pub fn take_items<'a>(alloc: Global, value: &mut Value<'a>, key: &str) -> Vec<Va
 }
 
 /// The members that a value has under a name.
-pub fn members_at<'v, 'a>(value: &'v Value<'a>, key: &str) -> Option<&'v Map<String, Value<'a>>>
+pub fn members_at<'v, 'a>(value: &'v Value<'a>, key: &str) -> Option<&'v Map<&'a str, Value<'a>>>
     ensures { option_map (λ m. members_view m.now.entries) result ≡ option_and_then as_object (get key.now (view value.now)) }
 {
     match value.get(key) {

@@ -1,5 +1,5 @@
 -- What is answered to what is asked.
-use Rattle.std.proofs.Common.{◌≡◌, ◌∙◌, ℕ, zero, suc, ◌+◌, ◌*◌, ◌≤◌, Bool, List, [], ◌∷◌, length, Option, Some, None, refl, sym, subst, arith}
+use Rattle.std.proofs.Common.{◌≡◌, ◌∙◌, ℕ, ◌+◌, ◌*◌, ◌≤◌, Bool, List, [], ◌∷◌, length, Option, Some, None, refl, sym, subst, arith}
 use Rattle.std.specs.Prelude.{Result, is_some, option_map}
 use Rattle.fsmd_words.specs.AskedWords.{Asked, Check, Generate, Chain}
 use Rattle.fs_base.specs.Outside.{FilesTold}

@@ -20,7 +20,7 @@ use Rattle.fsmd_replies.specs.declared.answer.Status.TheVariants as statuses
 use Rattle.fsmd_replies.specs.declared.answer.Answer.{Answer}
 use Rattle.fsmd_replies.specs.declared.answer.Answer.TheVariants.{Usage, Text}
 use Rattle.fsmd_replies.specs.Statuses.{status_of, certificate_in}
-use Rattle.fsmd_replies.specs.AskedFiles.{operand, in_links, files_of, cert_of, generated_steps}
+use Rattle.fsmd_replies.specs.AskedFiles.{operand, files_of, cert_of, generated_steps}
 use Rattle.fsmd_commands.specs.MachineFiles.{SpellsParts, SpellsMachine}
 use Rattle.fsmd_commands.specs.Readings.{FileContent, Unreadable, Reading}
 use Rattle.fsmd_commands.specs.Refusals.{RefusesMachine, RefusesPair, RefusesCertificate, SpellsCertificate}
@@ -33,7 +33,7 @@ use Rattle.fsmd_commands.specs.Verdicts.{IsJudged}
 use Rattle.fsmd_commands.specs.RunAnswers.{IsOfRun}
 use Rattle.fsmd_commands.specs.Replays.{IsOfReplay}
 use Rattle.fsmd_commands.specs.Shrinks.{IsOfShrink}
-use Rattle.fsmd_commands.specs.Links.{AtLink, links_in, links_of, IsOfChain}
+use Rattle.fsmd_commands.specs.Links.{AtLink, links_of, IsOfChain}
 use Rattle.fsmd_commands.specs.Follows.{Ends, Opens, Refused, Spelled, ComparesPairs, Other, SameInterface, Judges, Fails, Holds, OpensMachine, OpensInputs}
 use Rattle.fsmd_commands.specs.Follows.{OpensCertificate, OpensUnits, OpensBinding, OpensPair, OpensLink, OpensLinks, FollowsFrom}
 use Rattle.fsmd_commands.specs.Calls.{Call, known_at_start, FailedToRead, MayBeRead, MayRead, IsCorrectFrom}

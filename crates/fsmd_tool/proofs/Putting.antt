@@ -1,8 +1,8 @@
 -- What is answered, and what is put of it.
-use Rattle.std.proofs.Common.{◌≡◌, ◌∙◌, ℕ, Bool, List, Option, Some, None, refl, sym, subst, length}
-use Rattle.std.specs.Prelude.{Result, Ok, Err, IfOk, is_some, option_map}
+use Rattle.std.proofs.Common.{◌≡◌, ℕ, List, Option, Some, None, refl, sym, subst, length}
+use Rattle.std.specs.Prelude.{Result, Ok, Err, IfOk}
 use Rattle.std.specs.Result.{OnErr}
-use Rattle.fsmd_words.specs.AskedWords.{Asked, Check, Generate, Chain}
+use Rattle.fsmd_words.specs.AskedWords.{Asked}
 use Rattle.fs_base.specs.Outside.{FilesTold, NoneFell}
 use Rattle.fsmd_replies.specs.declared.answer.Status.{Status}
 use Rattle.fsmd_replies.specs.declared.answer.Status.TheVariants.{Fault}
@@ -11,10 +11,8 @@ use Rattle.fsmd_replies.specs.declared.answer.Answer.TheVariants.{Usage}
 use Rattle.fsmd_replies.specs.Statuses.{status_of, certificate_in}
 use Rattle.fsmd_replies.specs.AskedFiles.{cert_of}
 use Rattle.fsmd_replies.specs.Replies.{reply, unstored_reply}
-use Rattle.fsmd_commands.specs.ComparisonAnswers.{IsOfPair, IsOfLoops}
-use Rattle.fsmd_commands.specs.Links.{links_of}
-use Rattle.fsmd_commands.specs.Follows.{Ends, OpensMachine, OpensPair, OpensLinks, FollowsFrom}
-use Rattle.fsmd_commands.specs.Calls.{Call, call, OnlyRead, IsCorrectInOrder, AnswersBy}
+use Rattle.fsmd_commands.specs.Follows.{FollowsFrom}
+use Rattle.fsmd_commands.specs.Calls.{call, OnlyRead, IsCorrectInOrder}
 use Rattle.fsmd_tool.specs.SinkReplies.{Put, IsPut}
 use Rattle.fsmd_tool.specs.CertificateStores.{FileChange, file_change, IsUnstored, FileToStore, to_store, Leaves, NotStored, Untouched}
 use Rattle.fsmd_tool.specs.CertificateStores.{Failed}

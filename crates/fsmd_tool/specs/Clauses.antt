@@ -1,5 +1,5 @@
 -- What the status of a call tells of its files and of what was put.
-use Rattle.std.specs.Prelude.{◌≡◌, ◌<◌, ℕ, zero, suc, ◌+◌, List, ◌++◌, length, Some, None, codes, decimal}
+use Rattle.std.specs.Prelude.{◌≡◌, ◌<◌, ℕ, ◌+◌, List, ◌++◌, length, Some, None, codes, decimal}
 use Rattle.fsmd_words.specs.AskedWords.{Chain}
 use Rattle.fs_base.specs.Outside.{Rose, got_after}
 use Rattle.fs_model.specs.Machines.{Fsmd}

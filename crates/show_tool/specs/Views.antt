@@ -1,5 +1,5 @@
 -- Which answer each view gives.
-use Rattle.std.specs.Prelude.{◌≡◌, ℕ, false, List, ◌++◌, length}
+use Rattle.std.specs.Prelude.{◌≡◌, ℕ, false, List, ◌++◌}
 use Rattle.fs_model.specs.Machines.{Fsmd}
 use Rattle.cert_bisimulation.specs.Tables.{Node}
 use Rattle.sym_facts.specs.Facts.{Fact}

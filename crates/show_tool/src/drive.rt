@@ -14,7 +14,6 @@ use fsmd_replies::answer::Status;
 use fsmd_tool::put::put_answer;
 use fsmd_tool::refused::answer_of;
 use fsmd_words::asking::AskError;
-use show_words::asking::Show;
 use show_words::words::show;
 use std::alloc::{AllocError, Global};
 
