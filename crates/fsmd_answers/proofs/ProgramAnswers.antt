@@ -2,7 +2,7 @@
 use Rattle.std.proofs.Common.{◌≡◌, ℕ, ◌≤◌, List, length, refl, sym, subst}
 use Rattle.fs_model.specs.Limits.{most_text_bytes}
 use Rattle.hls_program_parts.specs.Programs.{Program}
-use Rattle.hls_program_grammar.specs.ProgramTexts.{TextSpellsProgram as ProgramSpells}
+use Rattle.hls_program_parts.specs.ProgramTexts.{TextSpellsProgram as ProgramSpells}
 use Rattle.fsmd_synthesis_answers.specs.ProgramAnswers.{IsCompiledText}
 use Rattle.fsmd_synthesis_answers.proofs.Compiled.{parts_lawful}
 use Rattle.fsmd_replies.specs.declared.answer.Answer.TheVariants.{Text}

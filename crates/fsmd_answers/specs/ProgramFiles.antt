@@ -6,7 +6,7 @@ use Rattle.fs_rules.specs.declared.check.CheckFault.{CheckFault}
 use Rattle.fs_rules.specs.Rules.{IsFirstBroken, BreaksNoRule}
 use Rattle.hls_program_parts.specs.Programs.{Program}
 use Rattle.hls_program_parts.specs.Compiled.{parts_of}
-use Rattle.hls_program_grammar.specs.ProgramTexts.{TextSpellsProgram as ProgramSpells, ProgramTextStops as ProgramStops}
+use Rattle.hls_program_parts.specs.ProgramTexts.{TextSpellsProgram as ProgramSpells, ProgramTextStops as ProgramStops}
 use Rattle.fsmd_synthesis_answers.specs.ProgramAnswers.{IsCompiledText}
 use Rattle.fsmd_replies.specs.declared.answer.Operand.{Operand}
 use Rattle.fsmd_replies.specs.declared.answer.Answer.{Answer}

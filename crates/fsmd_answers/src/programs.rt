@@ -3,7 +3,7 @@
 ghost use Rattle.std.specs.Prelude.{◌≤◌, length, IsTrue, IfOk};
 ghost use Rattle.std.specs.Result.{IfErr};
 ghost use Rattle.fs_model.specs.Limits.{most_text_bytes};
-ghost use Rattle.hls_program_grammar.specs.ProgramTexts.{TextSpellsProgram};
+ghost use Rattle.hls_program_parts.specs.ProgramTexts.{TextSpellsProgram};
 ghost use Rattle.hls_program_parts.specs.WellFormedPrograms.{is_well_formed_program};
 ghost use Rattle.hls_program_parts.specs.View.{program_of};
 ghost use Rattle.fsmd_answers.specs.Readings.{Readable};

@@ -15,8 +15,8 @@ use Rattle.fs_write.specs.CommentLines.{lines_moved}
 use Rattle.fs_write.proofs.Unlined.{same_machine, same_law, moved_same}
 use Rattle.hls_unit_counts.specs.Counts.{Units}
 use Rattle.hls_sched.specs.Over.{over_in}
-use Rattle.hls_line_schedules.specs.Schedules.{IsWithin, schedule_of}
-use Rattle.hls_line_schedules.specs.Sources.{scheduled_source}
+use Rattle.hls_line_filling.specs.Schedules.{IsWithin, schedule_of}
+use Rattle.hls_line_filling.specs.Sources.{scheduled_source}
 use Rattle.hls_sched.specs.declared.scheduling.LineReport.{LineReport}
 use Rattle.hls_sched.specs.Reports.{Report, report_of, reports, KeepsLengths}
 use Rattle.fsmd_synthesis_answers.specs.ScheduleAnswers.{report_text, IsScheduleText}

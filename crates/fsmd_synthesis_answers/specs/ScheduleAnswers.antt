@@ -11,8 +11,8 @@ use Rattle.fs_lex.specs.MachineTexts.{TextSpells}
 use Rattle.fs_write.specs.Canonical.{canonical}
 use Rattle.hls_unit_counts.specs.Counts.{Units}
 use Rattle.hls_sched.specs.Over.{over_in}
-use Rattle.hls_line_schedules.specs.Schedules.{IsWithin, schedule_of}
-use Rattle.hls_line_schedules.specs.Sources.{scheduled_source}
+use Rattle.hls_line_filling.specs.Schedules.{IsWithin, schedule_of}
+use Rattle.hls_line_filling.specs.Sources.{scheduled_source}
 use Rattle.hls_sched.specs.Reports.{Report, reports, KeepsLengths}
 
 -- what is told of a line: its first state, its length before and now, and its chain

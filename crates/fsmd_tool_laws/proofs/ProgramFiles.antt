@@ -6,7 +6,7 @@ use Rattle.fs_rules.specs.declared.check.CheckFault.{CheckFault}
 use Rattle.fs_rules.specs.Rules.{BreaksNoRule, IsFirstBroken}
 use Rattle.hls_program_parts.specs.Programs.{Program}
 use Rattle.hls_program_parts.specs.Compiled.{parts_of}
-use Rattle.hls_program_grammar.proofs.Texts.{one_program, one_fault, not_both}
+use Rattle.hls_program_parts.proofs.Texts.{one_program, one_fault, not_both}
 use Rattle.fsmd_replies.specs.declared.answer.Operand.{Operand}
 use Rattle.fsmd_replies.specs.declared.answer.Answer.{Answer}
 use Rattle.fsmd_replies.specs.declared.answer.Answer.TheVariants.{Text, TextRefused, CheckRefused}

@@ -1,3 +1,12 @@
+pub mod Over
+pub mod Counted
+pub mod StraightLines
+pub mod RowMachines
+pub mod MachineSelections
+pub mod ScheduledMachines
+pub mod Schedules
+pub mod SourceRows
+pub mod Sources
 pub mod Items
 pub mod Placings
 pub mod ItemUnits

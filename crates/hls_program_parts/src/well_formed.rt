@@ -21,7 +21,7 @@ impl Program {
     /// Whether the program keeps the rules and limits of texts, lines aside: each declaration has a name and declares scalars
     /// or arrays, nothing is emitted, no name is a word of the language, no number is negative, each guard and each assignment
     /// has at most 128 operators and opening brackets in its shortest text, and blocks nest at most 64 deep. Each program that
-    /// a text spells keeps them (`hls_program_grammar::what_is_spelled_is_well_formed`). That a text spells each program that
+    /// a text spells keeps them (`crate::grammar_laws::what_is_spelled_is_well_formed`). That a text spells each program that
     /// keeps them is not said. Takes no memory.
     pub fn is_well_formed(&self) -> bool
         ensures { result ≡ is_well_formed_program (program_of self.now) }

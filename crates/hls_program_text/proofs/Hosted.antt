@@ -17,9 +17,9 @@ use Rattle.fs_expression_text.specs.Hosts as sums
 use Rattle.fs_expression_text.proofs.Hosted.{carried}
 use Rattle.fs_phrase_text.specs.Declaring.{Lead}
 use Rattle.fs_phrase_text.specs.Declaring as declaring
-use Rattle.hls_program_grammar.specs.ProgramGrammar.{Hole, inside, after, at_declaration, in_declaration, with_declaration, step_inside, step_declaring}
-use Rattle.hls_program_grammar.specs.ProgramGrammar.{take_program_token, program_reading}
-use Rattle.hls_program_grammar.proofs.Exact.{stop_none}
+use Rattle.hls_program_parts.specs.ProgramGrammar.{Hole, inside, after, at_declaration, in_declaration, with_declaration, step_inside, step_declaring}
+use Rattle.hls_program_parts.specs.ProgramGrammar.{take_program_token, program_reading}
+use Rattle.hls_program_parts.proofs.Exact.{stop_none}
 
 inside_by : (t : Token) (ts : List Token) (h : Hole) (o : Option Inside) (w : Option Whole)
     → take_program_token t (step_inside o w h t.kind) (program_reading ts) None

@@ -20,10 +20,10 @@ use Rattle.hls_program_parts.specs.Programs.{End, If, join_blocks}
 use Rattle.hls_program_parts.specs.WellFormedPrograms.{most_depth}
 use Rattle.hls_program_parts.specs.declared.program.Stmt.{Stmt}
 use Rattle.hls_program_parts.specs.View.{block_of_statement, block_of}
-use Rattle.hls_program_grammar.specs.ProgramGrammar.{Named, Open, outermost, in_yes, in_no, in_body, depth_of, for_if, for_while, for_index, ProgramParseState}
-use Rattle.hls_program_grammar.specs.ProgramGrammar.{at_declaration, in_declaration, at_block, at_statement, after_name, at_equals, inside, after, after_yes}
-use Rattle.hls_program_grammar.specs.ProgramGrammar.{at_no, close_block, is_deep, program_step, finish_program, program_reading}
-use Rattle.hls_program_grammar.proofs.Complete.{joined_end, joined_assoc}
+use Rattle.hls_program_parts.specs.ProgramGrammar.{Named, Open, outermost, in_yes, in_no, in_body, depth_of, for_if, for_while, for_index, ProgramParseState}
+use Rattle.hls_program_parts.specs.ProgramGrammar.{at_declaration, in_declaration, at_block, at_statement, after_name, at_equals, inside, after, after_yes}
+use Rattle.hls_program_parts.specs.ProgramGrammar.{at_no, close_block, is_deep, program_step, finish_program, program_reading}
+use Rattle.hls_program_parts.proofs.Complete.{joined_end, joined_assoc}
 use Rattle.hls_program_text.specs.Fronts.{role_in, role_at, IsNoKeyword, tokens_behind_brace}
 
 -- two parse states read alike where each token leads both to the same, and both end alike

@@ -11,7 +11,7 @@ use Rattle.fs_grammar.specs.Tokens.{kind_at, tokens_after, refusal, fault_at, â—
 use Rattle.fs_grammar.specs.Grammar.{Destination, scalar, element}
 use Rattle.hls_program_parts.specs.Programs.{Program}
 use Rattle.hls_program_parts.specs.WellFormedPrograms.{most_depth}
-use Rattle.hls_program_grammar.specs.ProgramGrammar.{Open, depth_of, at_block, program_reading}
+use Rattle.hls_program_parts.specs.ProgramGrammar.{Open, depth_of, at_block, program_reading}
 
 abbrev pub role_in : Option TokenKind â†’ Option Role
 role_in (Some (Declare r)) = Some r

@@ -1,6 +1,6 @@
 -- Why a program is not read.
 use Rattle.std.specs.Prelude.{ℕ, List}
-use Rattle.hls_program_grammar.specs.ProgramTexts.{ProgramTextStops}
+use Rattle.hls_program_parts.specs.ProgramTexts.{ProgramTextStops}
 use Rattle.hls_program_text.specs.declared.fault.LangError.{LangError}
 use Rattle.hls_program_text.specs.declared.fault.LangError.TheVariants.{Text, Check, NoMemory}
 

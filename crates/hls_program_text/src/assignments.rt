@@ -7,8 +7,8 @@ ghost use Rattle.fs_grammar.specs.Tokens.{ParsesOn, kind_at, line_at};
 ghost use Rattle.fs_grammar.specs.Grammar.{Destination, element, destination_assignment};
 ghost use Rattle.fs_expression_text.specs.Inside.{at_sum, sum_alone, whole_sum};
 ghost use Rattle.hls_program_parts.specs.Programs.{End, Do, join_blocks};
-ghost use Rattle.hls_program_grammar.specs.ProgramGrammar.{Open, Named, for_index, for_value, program_reading, at_statement};
-ghost use Rattle.hls_program_grammar.specs.ProgramGrammar.{after_prog, at_declaration, after_name, at_equals, inside, after};
+ghost use Rattle.hls_program_parts.specs.ProgramGrammar.{Open, Named, for_index, for_value, program_reading, at_statement};
+ghost use Rattle.hls_program_parts.specs.ProgramGrammar.{after_prog, at_declaration, after_name, at_equals, inside, after};
 ghost use Rattle.hls_program_text.specs.Fronts.{IsNoKeyword, destination};
 
 use crate::expressions::sum;

@@ -11,8 +11,8 @@ ghost use Rattle.fs_expression_text.specs.Inside.{whole_guard};
 ghost use Rattle.hls_program_parts.specs.Programs.{Do, If, While, End, join_blocks};
 ghost use Rattle.hls_program_parts.specs.WellFormedPrograms.{most_depth};
 ghost use Rattle.hls_program_parts.specs.View.{block_of_statement, block_of};
-ghost use Rattle.hls_program_grammar.specs.ProgramGrammar.{Open, Named, depth_of, for_if, for_while, program_reading};
-ghost use Rattle.hls_program_grammar.specs.ProgramGrammar.{at_block, at_statement, after, after_yes, close_block};
+ghost use Rattle.hls_program_parts.specs.ProgramGrammar.{Open, Named, depth_of, for_if, for_while, program_reading};
+ghost use Rattle.hls_program_parts.specs.ProgramGrammar.{at_block, at_statement, after, after_yes, close_block};
 ghost use Rattle.hls_program_text.specs.Fronts.{ends_block, IsNoKeyword, nested_fault, tokens_behind_brace, block_reading};
 
 use crate::assignments::assignment;

@@ -7,7 +7,7 @@ ghost use Rattle.fs_model.specs.View.{declaration_of};
 ghost use Rattle.fs_grammar.specs.Tokens.{ParsesOn};
 ghost use Rattle.fs_grammar.specs.Grammar.{with_names};
 ghost use Rattle.fs_phrase_text.specs.Declaring as declaring;
-ghost use Rattle.hls_program_grammar.specs.ProgramGrammar.{program_reading, at_declaration, in_declaration, with_declaration};
+ghost use Rattle.hls_program_parts.specs.ProgramGrammar.{program_reading, at_declaration, in_declaration, with_declaration};
 ghost use Rattle.hls_program_text.specs.Fronts.{role_at};
 
 use fs_grammar::fault::ReadError;

@@ -4,7 +4,7 @@ ghost use Rattle.std.specs.Prelude.{◌<◌, length, IfOk};
 ghost use Rattle.fs_model.specs.View.{named_term, named_guard};
 ghost use Rattle.fs_grammar.specs.Tokens.{ParsesOn};
 ghost use Rattle.fs_expression_text.specs.Inside.{at_sum, at_guard, sum_alone, guard_alone, whole_sum, whole_guard};
-ghost use Rattle.hls_program_grammar.specs.ProgramGrammar.{Hole, program_reading, inside, after};
+ghost use Rattle.hls_program_parts.specs.ProgramGrammar.{Hole, program_reading, inside, after};
 
 use fs_grammar::fault::ReadError;
 use fs_grammar::token::Token;

@@ -4,10 +4,10 @@
 
 ghost use Rattle.std.specs.Prelude.{◌≡◌, ◌<◌, ◌≤◌, ◌+◌, ◌^◌};
 ghost use Rattle.fs_grammar.specs.Tokens.{MadeAs};
-ghost use Rattle.hls_program_grammar.specs.Marks.{opens_relation, is_counted, starts_anew, operators_up_to};
-ghost use Rattle.hls_program_grammar.specs.Marks.{is_past_program_limit};
-ghost use Rattle.hls_program_grammar.specs.Marks.{marked_token, program_tokens};
-ghost use Rattle.hls_program_grammar.specs.ProgramKeywords.{program_word, program_kind};
+ghost use Rattle.hls_program_parts.specs.Marks.{opens_relation, is_counted, starts_anew, operators_up_to};
+ghost use Rattle.hls_program_parts.specs.Marks.{is_past_program_limit};
+ghost use Rattle.hls_program_parts.specs.Marks.{marked_token, program_tokens};
+ghost use Rattle.hls_program_parts.specs.ProgramKeywords.{program_word, program_kind};
 
 use fs_grammar::fault::ReadError;
 use fs_grammar::token::{Token, TokenKind};

@@ -5,7 +5,7 @@ ghost use Rattle.fs_model.specs.Source.{Declaration};
 ghost use Rattle.fs_grammar.specs.Tokens.{Gives, ParsesOn};
 ghost use Rattle.hls_program_parts.specs.Programs as plain;
 ghost use Rattle.hls_program_parts.specs.View.{block_of, program_of};
-ghost use Rattle.hls_program_grammar.specs.ProgramGrammar.{program_reading, at_prog, after_prog, at_declaration, at_end};
+ghost use Rattle.hls_program_parts.specs.ProgramGrammar.{program_reading, at_prog, after_prog, at_declaration, at_end};
 ghost use Rattle.hls_program_text.specs.Fronts.{role_at};
 
 use crate::assignments::semicolon;

@@ -7,9 +7,9 @@ ghost use Rattle.fs_grammar.specs.Tokens.{Gives};
 ghost use Rattle.fs_lex.specs.Scan.{tokens_of};
 ghost use Rattle.hls_program_parts.specs.WellFormedPrograms.{is_well_formed_program};
 ghost use Rattle.hls_program_parts.specs.View.{program_of};
-ghost use Rattle.hls_program_grammar.specs.Marks as marks;
-ghost use Rattle.hls_program_grammar.specs.ProgramGrammar.{program_reading, at_prog};
-ghost use Rattle.hls_program_grammar.specs.ProgramTexts.{TextSpellsProgram};
+ghost use Rattle.hls_program_parts.specs.Marks as marks;
+ghost use Rattle.hls_program_parts.specs.ProgramGrammar.{program_reading, at_prog};
+ghost use Rattle.hls_program_parts.specs.ProgramTexts.{TextSpellsProgram};
 ghost use Rattle.hls_program_text.specs.Refusals.{IsTextRefusal};
 
 use crate::fault::LangError;

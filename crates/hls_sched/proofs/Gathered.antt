@@ -10,20 +10,20 @@ use Rattle.fs_ast.specs.SoundParts.{IsSound}
 use Rattle.hls_unit_counts.specs.declared.units.Unit.{Unit as Kind}
 use Rattle.hls_unit_counts.specs.declared.units.Unit.TheVariants.{Add}
 use Rattle.hls_line_filling.specs.Items.{Item}
-use Rattle.hls_line_schedules.specs.StraightLines.{is_first_of_line, firsts, straight_line_at, item_of, items_at}
+use Rattle.hls_line_filling.specs.StraightLines.{is_first_of_line, firsts, straight_line_at, item_of, items_at}
 use Rattle.hls_line_filling.specs.ItemUnits.{Units, used_by}
 use Rattle.hls_line_filling.specs.Heights.{chain_of}
 use Rattle.hls_line_filling.specs.Filling.{Filled, graph_of, filling_of, is_before, IsFilled}
 use Rattle.hls_line_filling.proofs.Placings.{is_filled}
-use Rattle.hls_line_schedules.specs.Schedules.{IsWithin, rows_by}
-use Rattle.hls_line_schedules.proofs.Schedules.{each_fits, rows_count}
+use Rattle.hls_line_filling.specs.Schedules.{IsWithin, rows_by}
+use Rattle.hls_line_filling.proofs.Schedules.{each_fits, rows_count}
 use Rattle.hls_line_filling.specs.declared.effects.Effects.{Effects}
 use Rattle.hls_line_filling.specs.declared.uses.Uses.{Uses}
 use Rattle.hls_line_filling.specs.declared.plan.Plan.{Plan}
 use Rattle.hls_line_filling.specs.EffectSets.{sets_of, sets_from, none_changed}
 use Rattle.hls_line_filling.specs.Profiles.{units_of_uses, capped_count}
 use Rattle.hls_line_filling.specs.Plans.{filled_in}
-use Rattle.hls_line_schedules.specs.Counted.{AreCounted}
+use Rattle.hls_line_filling.specs.Counted.{AreCounted}
 use Rattle.hls_sched.specs.RowMoves.{IsPlanFor}
 use Rattle.hls_sched.specs.Reports.{Report, report_at, reports}
 

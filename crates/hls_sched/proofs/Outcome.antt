@@ -8,19 +8,19 @@ use Rattle.fs_model.specs.Source.{Source}
 use Rattle.fs_model.specs.Machines.{Fsmd}
 use Rattle.fs_model.specs.Runs.{SameBehaviour}
 use Rattle.fs_ast.specs.SoundParts.{IsSound}
-use Rattle.hls_line_schedules.specs.StraightLines.{all_states, is_first_of_line, firsts}
-use Rattle.hls_line_schedules.specs.RowMachines.{MoveOver}
-use Rattle.hls_line_schedules.proofs.Among.{range_within}
-use Rattle.hls_line_schedules.proofs.Trails.{member}
-use Rattle.hls_line_schedules.proofs.NewLines.{has_rows, is_first, name_kept}
+use Rattle.hls_line_filling.specs.StraightLines.{all_states, is_first_of_line, firsts}
+use Rattle.hls_line_filling.specs.RowMachines.{MoveOver}
+use Rattle.hls_line_filling.proofs.Among.{range_within}
+use Rattle.hls_line_filling.proofs.Trails.{member}
+use Rattle.hls_line_filling.proofs.NewLines.{has_rows, is_first, name_kept}
 use Rattle.hls_line_filling.specs.ItemUnits.{Units}
 use Rattle.hls_line_filling.specs.Heights.{chain_of}
 use Rattle.hls_line_filling.proofs.Chains.{no_shorter}
-use Rattle.hls_line_schedules.specs.Schedules.{IsWithin, rows_by, schedule_of}
-use Rattle.hls_line_schedules.proofs.Schedules.{no_longer, at_least_chain, chain_where_ample, keeps_stores, behaves}
-use Rattle.hls_line_schedules.proofs.Within.{stays_within}
-use Rattle.hls_line_schedules.specs.SourceRows.{named_moves, first_row_effect}
-use Rattle.hls_line_schedules.specs.Sources.{source_by_rows, scheduled_source}
+use Rattle.hls_line_filling.specs.Schedules.{IsWithin, rows_by, schedule_of}
+use Rattle.hls_line_filling.proofs.Schedules.{no_longer, at_least_chain, chain_where_ample, keeps_stores, behaves}
+use Rattle.hls_line_filling.proofs.Within.{stays_within}
+use Rattle.hls_line_filling.specs.SourceRows.{named_moves, first_row_effect}
+use Rattle.hls_line_filling.specs.Sources.{source_by_rows, scheduled_source}
 use Rattle.hls_sched.specs.declared.scheduling.LineReport.{LineReport}
 use Rattle.hls_sched.specs.Reports.{report_of, report_at, reports, KeepsLengths}
 

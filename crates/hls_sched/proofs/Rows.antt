@@ -13,8 +13,8 @@ use Rattle.fs_model.specs.Source.{Source}
 use Rattle.fs_ast.proofs.Turns.{flat_push}
 use Rattle.hls_line_filling.specs.Placings.{PlacedOver, join_assignments, row_at, rows_from}
 use Rattle.hls_line_filling.specs.Filling.{Rows, Filled, is_before, is_in, row_or, placed_from}
-use Rattle.hls_line_schedules.specs.RowMachines.{MoveOver, after_row, moves}
-use Rattle.hls_line_schedules.specs.SourceRows.{named_item, placed_in_line}
+use Rattle.hls_line_filling.specs.RowMachines.{MoveOver, after_row, moves}
+use Rattle.hls_line_filling.specs.SourceRows.{named_item, placed_in_line}
 use Rattle.hls_sched.specs.declared.moves.Move.{Move}
 use Rattle.hls_sched.specs.RowMoves.{joined_items, move_of, target_of_row, row_in_state}
 

@@ -16,10 +16,10 @@ use Rattle.fs_model.specs.View.{assignment_of, branch_of}
 use Rattle.fs_ast.specs.SoundParts.{IsSound, is_cutpoint, reaches_cutpoint, first_transition_target}
 use Rattle.fs_cut.proofs.Branches.{first_target, no_branch}
 use Rattle.fs_cut.proofs.Loops.{range_step, has_first, more}
-use Rattle.hls_line_schedules.specs.StraightLines.{all_states, sources, is_only, is_straight, follows, next_state, line_from, straight_line_at, exit_from}
-use Rattle.hls_line_schedules.specs.StraightLines.{is_inner, is_first_of_line, firsts, item_of}
-use Rattle.hls_line_schedules.proofs.Among.{Among, joined_from, some_of, passes_test, was_among, range_within}
-use Rattle.hls_line_schedules.proofs.Trails.{inner, follows_straight, follows_on, next_in, line_in}
+use Rattle.hls_line_filling.specs.StraightLines.{all_states, sources, is_only, is_straight, follows, next_state, line_from, straight_line_at, exit_from}
+use Rattle.hls_line_filling.specs.StraightLines.{is_inner, is_first_of_line, firsts, item_of}
+use Rattle.hls_line_filling.proofs.Among.{Among, joined_from, some_of, passes_test, was_among, range_within}
+use Rattle.hls_line_filling.proofs.Trails.{inner, follows_straight, follows_on, next_in, line_in}
 
 -- ---- lists
 among_at : (xs : List ℕ) (k x : ℕ) → slice_get xs k ≡ Some x → Among x xs

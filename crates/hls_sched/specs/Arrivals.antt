@@ -3,7 +3,7 @@ use Rattle.std.specs.Prelude.{◌≡◌, ℕ, ◌<◌, ◌==◌, List, [], ◌�
 use Rattle.std.specs.List.{slice_index_or}
 use Rattle.fs_model.specs.Machines.{Fsmd}
 use Rattle.fs_model.specs.Trees.{Branch}
-use Rattle.hls_line_schedules.specs.StraightLines.{sources}
+use Rattle.hls_line_filling.specs.StraightLines.{sources}
 use Rattle.hls_sched.specs.declared.arrivals.Arrivals.{Arrivals}
 use Rattle.hls_sched.specs.declared.arrivals.Arrivals.TheVariants.{Never, Once, Often}
 

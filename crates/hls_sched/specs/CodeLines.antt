@@ -4,10 +4,10 @@ use Rattle.std.specs.List.{All}
 use Rattle.fs_model.specs.Machines.{Fsmd}
 use Rattle.fs_model.specs.Source.{Source}
 use Rattle.hls_line_filling.specs.ItemUnits.{Units}
-use Rattle.hls_line_schedules.specs.StraightLines.{is_first_of_line, straight_line_at, exit_of}
-use Rattle.hls_line_schedules.specs.RowMachines.{MoveOver, moves}
+use Rattle.hls_line_filling.specs.StraightLines.{is_first_of_line, straight_line_at, exit_of}
+use Rattle.hls_line_filling.specs.RowMachines.{MoveOver, moves}
 use Rattle.hls_sched.specs.declared.lines.Line.{Line}
-use Rattle.hls_line_schedules.specs.SourceRows.{named_rows}
+use Rattle.hls_line_filling.specs.SourceRows.{named_rows}
 
 -- the line of a machine from a first state on
 pub record IsLineFrom (m : Fsmd) (first : ℕ) (l : Line) : Type 0 where

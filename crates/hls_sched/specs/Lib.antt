@@ -2,4 +2,4 @@ pub mod Arrivals
 pub mod RowMoves
 pub mod CodeLines
 pub mod Reports
-pub use Rattle.hls_line_schedules.specs.Over
+pub use Rattle.hls_line_filling.specs.Over

@@ -2,13 +2,13 @@
 use Rattle.std.specs.Prelude.{◌≡◌, ℕ, ◌≤◌, true, List, map, length, Some}
 use Rattle.fs_model.specs.Machines.{Fsmd}
 use Rattle.hls_line_filling.specs.Placings.{Placed, items_of, is_valid, all_below}
-use Rattle.hls_line_schedules.specs.StraightLines.{straight_line_at, is_first_of_line, items_at, firsts}
-use Rattle.hls_line_schedules.specs.RowMachines.{state_at}
+use Rattle.hls_line_filling.specs.StraightLines.{straight_line_at, is_first_of_line, items_at, firsts}
+use Rattle.hls_line_filling.specs.RowMachines.{state_at}
 use Rattle.hls_line_filling.specs.ItemUnits.{Units, none_used, suffice}
 use Rattle.hls_line_filling.specs.Heights.{chain_of}
 use Rattle.hls_line_filling.specs.Filling.{graph_of, used_by_all}
-use Rattle.hls_line_schedules.specs.Schedules.{rows_by, schedule_of, scheduled_place}
-use Rattle.hls_line_schedules.specs.Over.{over_in}
+use Rattle.hls_line_filling.specs.Schedules.{rows_by, schedule_of, scheduled_place}
+use Rattle.hls_line_filling.specs.Over.{over_in}
 use Rattle.hls_sched.specs.declared.scheduling.LineReport.{LineReport}
 use Rattle.hls_sched.specs.declared.scheduling.SchedError.{SchedError}
 use Rattle.hls_sched.specs.declared.scheduling.SchedError.TheVariants.{Over, NoMemory}

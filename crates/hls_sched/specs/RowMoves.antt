@@ -5,10 +5,10 @@ use Rattle.fs_model.specs.declared.parts.StateId.{StateId}
 use Rattle.fs_model.specs.Terms.{Assignment}
 use Rattle.fs_model.specs.Source.{Source}
 use Rattle.hls_line_filling.specs.Filling.{Filled, is_before}
-use Rattle.hls_line_schedules.specs.RowMachines.{MoveOver}
+use Rattle.hls_line_filling.specs.RowMachines.{MoveOver}
 use Rattle.hls_line_filling.specs.declared.plan.Plan.{Plan}
 use Rattle.hls_line_filling.specs.WaitingItems.{rows_in}
-use Rattle.hls_line_schedules.specs.SourceRows.{named_item, row_of, RowEffect}
+use Rattle.hls_line_filling.specs.SourceRows.{named_item, row_of, RowEffect}
 use Rattle.hls_sched.specs.declared.moves.Move.{Move}
 
 -- the items of states, one after another

@@ -3,7 +3,7 @@
 ghost use Rattle.std.specs.Prelude.{◌≡◌, ℕ, ◌<◌, ◌++◌, List, [], ◌∷◌, length, map, IfOk};
 ghost use Rattle.std.specs.List.{slice_index_or};
 ghost use Rattle.fs_model.specs.View.{branch_of};
-ghost use Rattle.hls_line_schedules.specs.StraightLines.{is_only};
+ghost use Rattle.hls_line_filling.specs.StraightLines.{is_only};
 ghost use Rattle.hls_sched.specs.Arrivals.{arrivals_of, source_per_branch, AreArrivals};
 ghost use Rattle.hls_sched.specs.declared.arrivals.Arrivals.TheVariants as variants;
 

@@ -3,8 +3,8 @@
 ghost use Rattle.std.specs.Prelude.{◌≡◌, ◌<◌, ◌≤◌, true, length, map, IfOk};
 ghost use Rattle.std.specs.List.{All};
 ghost use Rattle.fs_model.specs.View.{assignment_of};
-ghost use Rattle.hls_line_schedules.specs.StraightLines.{item_of, is_straight, follows, next_state, straight_line_at, exit_of};
-ghost use Rattle.hls_line_schedules.specs.StraightLines.{is_inner, is_first_of_line, firsts};
+ghost use Rattle.hls_line_filling.specs.StraightLines.{item_of, is_straight, follows, next_state, straight_line_at, exit_of};
+ghost use Rattle.hls_line_filling.specs.StraightLines.{is_inner, is_first_of_line, firsts};
 ghost use Rattle.hls_sched.specs.Arrivals.{AreArrivals};
 
 use crate::arrivals::Arrivals;

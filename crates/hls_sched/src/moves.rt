@@ -5,10 +5,10 @@ ghost use Rattle.std.specs.List.{All};
 ghost use Rattle.std.specs.Result.{OnOk};
 ghost use Rattle.fs_model.specs.Source.{Source};
 ghost use Rattle.hls_line_filling.specs.Filling.{is_in};
-ghost use Rattle.hls_line_schedules.specs.RowMachines.{moves};
+ghost use Rattle.hls_line_filling.specs.RowMachines.{moves};
 ghost use Rattle.hls_line_filling.specs.Plans.{filled_in};
 ghost use Rattle.hls_line_filling.specs.WaitingItems.{rows_in};
-ghost use Rattle.hls_line_schedules.specs.SourceRows.{row_of, rows_in_line};
+ghost use Rattle.hls_line_filling.specs.SourceRows.{row_of, rows_in_line};
 ghost use Rattle.hls_sched.specs.RowMoves.{joined_items, move_of, target_of_row, row_in_state, IsMoveAmong, IsPlanFor};
 
 use crate::lines::Line;

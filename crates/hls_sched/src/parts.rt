@@ -5,8 +5,8 @@ ghost use Rattle.std.specs.List.{All};
 ghost use Rattle.std.specs.Result.{OnOk};
 ghost use Rattle.fs_model.specs.Source.{Source};
 ghost use Rattle.fs_model.specs.View.{named_assignment, source_state_of, source_of};
-ghost use Rattle.hls_line_schedules.specs.SourceRows.{first_assignments, first_row_effect};
-ghost use Rattle.hls_line_schedules.specs.Sources.{state_with_row, states_by, source_by_rows};
+ghost use Rattle.hls_line_filling.specs.SourceRows.{first_assignments, first_row_effect};
+ghost use Rattle.hls_line_filling.specs.Sources.{state_with_row, states_by, source_by_rows};
 ghost use Rattle.hls_sched.specs.RowMoves.{joined_items, done_by, move_of, IsMoveAmong};
 
 use crate::copies::{add_assignments, copied_declarations, copied_state};

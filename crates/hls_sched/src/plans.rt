@@ -2,12 +2,12 @@
 
 ghost use Rattle.std.specs.Prelude.{◌≡◌, ◌<◌, length, map, IfOk};
 ghost use Rattle.std.specs.List.{All};
-ghost use Rattle.hls_line_schedules.specs.StraightLines.{item_of, items_at};
+ghost use Rattle.hls_line_filling.specs.StraightLines.{item_of, items_at};
 ghost use Rattle.hls_unit_counts.specs.declared.units.Unit.{Unit as Kind};
 ghost use Rattle.hls_line_filling.specs.ItemUnits.{used_by, units_in};
 ghost use Rattle.hls_line_filling.specs.Heights.{chain_of};
 ghost use Rattle.hls_line_filling.specs.Filling.{graph_of, filling_of};
-ghost use Rattle.hls_line_schedules.specs.Schedules.{IsWithin};
+ghost use Rattle.hls_line_filling.specs.Schedules.{IsWithin};
 ghost use Rattle.hls_line_filling.specs.EffectSets.{sets_of, sets_from, none_changed};
 ghost use Rattle.hls_line_filling.specs.Profiles.{units_of_uses, capped_count};
 ghost use Rattle.hls_line_filling.specs.Plans.{filled_in};
@@ -19,10 +19,10 @@ use fs_ast::machine::Machine;
 use fs_model::name::NoMemory;
 use fs_model::parts::StateId;
 use hls_line_filling::effects::Effects;
+use hls_line_filling::over::see_counts;
 use hls_line_filling::plan::{Plan, make_plan};
+use hls_line_filling::unit_laws::items_within_the_units_are_counted;
 use hls_line_filling::uses::{Uses, uses_of};
-use hls_line_schedules::over::see_counts;
-use hls_line_schedules::unit_laws::items_within_the_units_are_counted;
 use hls_unit_counts::Units;
 use std::alloc::Global;
 

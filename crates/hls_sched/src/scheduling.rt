@@ -10,10 +10,10 @@ ghost use Rattle.fs_model.specs.WellFormed.{is_well_formed};
 ghost use Rattle.fs_ast.specs.MachineOfParts.{machine_of};
 ghost use Rattle.fs_ast.specs.Rules.{BreaksNoRule};
 ghost use Rattle.hls_line_filling.specs.ItemUnits.{units_in};
-ghost use Rattle.hls_line_schedules.specs.Schedules.{IsWithin, schedule_of};
-ghost use Rattle.hls_line_schedules.specs.SourceRows.{named_moves};
-ghost use Rattle.hls_line_schedules.specs.Sources.{scheduled_source};
-ghost use Rattle.hls_line_schedules.specs.Over.{over_in};
+ghost use Rattle.hls_line_filling.specs.Schedules.{IsWithin, schedule_of};
+ghost use Rattle.hls_line_filling.specs.SourceRows.{named_moves};
+ghost use Rattle.hls_line_filling.specs.Sources.{scheduled_source};
+ghost use Rattle.hls_line_filling.specs.Over.{over_in};
 ghost use Rattle.hls_sched.specs.RowMoves.{move_of, IsMoveAmong};
 ghost use Rattle.hls_sched.specs.CodeLines.{IsLineFrom, moves_from};
 ghost use Rattle.hls_sched.specs.Reports.{report_of, report_at, reports, KeepsLengths, IsNotScheduled};
@@ -28,11 +28,11 @@ use fs_ast::machine::Machine;
 use fs_ast_laws::lawful_machines::build_lawful;
 use fs_model::name::NoMemory;
 use fs_model::parts::{Parts, StateId};
-use hls_line_schedules::over::over_in;
-use hls_line_schedules::source_laws::{
+use hls_line_filling::over::over_in;
+use hls_line_filling::source_laws::{
     a_scheduled_text_is_lawful, a_scheduled_text_spells_the_schedule,
 };
-use hls_line_schedules::unit_laws::machines_within_the_units;
+use hls_line_filling::unit_laws::machines_within_the_units;
 use hls_unit_counts::{Unit, Units};
 use std::alloc::Global;
 

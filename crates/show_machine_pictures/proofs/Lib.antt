@@ -1,2 +1,3 @@
+mod QuoteReading
 pub mod Over
 mod Loops

@@ -1,1 +1,3 @@
+pub mod Quotes
+pub mod DotLines
 pub mod Pictures

@@ -9,8 +9,8 @@ use Rattle.fs_model.specs.Trees.{Branch, branches_of}
 use Rattle.fs_model.specs.VariableNames.{variable_name}
 use Rattle.fs_ast.specs.StoredBranches.{state_name_of}
 use Rattle.fs_write.specs.Canonical.{guard_text, assignment_text}
-use Rattle.show_dot_text.specs.declared.graphs.Look.TheVariants.{Boxed, Bare}
-use Rattle.show_dot_text.specs.DotLines.{node_line, edge_line, graph_text}
+use Rattle.show_machine_pictures.specs.declared.graphs.Look.TheVariants.{Boxed, Bare}
+use Rattle.show_machine_pictures.specs.DotLines.{node_line, edge_line, graph_text}
 
 -- ---- the label of a branch
 

@@ -6,13 +6,13 @@ ghost use Rattle.fs_model.specs.View.{shared_literal_of, assignment_of, branch_o
 ghost use Rattle.show_machine_pictures.specs.Pictures.{after_and, way_text, assignment_line, branch_label, branch_edge};
 ghost use Rattle.show_machine_pictures.specs.Pictures.{branch_edges};
 
+use crate::graphs::write_edge;
 use crate::terms::{assignment_text, literal_text};
 use fs_ast::machine::Machine;
 use fs_cut::cover::Point;
 use fs_cut::path_text::point_text;
 use fs_model::parts::{Assign, Branch, Lit, StateId, VarId, VarInfo};
 use itoa::Buffer;
-use show_dot_text::graphs::write_edge;
 use std::alloc::{AllocError, Global};
 use std::rc::Rc;
 

@@ -5,11 +5,11 @@ ghost use Rattle.std.specs.List.{flat_map, range_with_len};
 ghost use Rattle.show_machine_pictures.specs.Pictures.{state_lines, start_lines, picture_of};
 
 use crate::branches::write_branches;
+use crate::graphs::{Look, graph_text, write_edge, write_node};
 use fs_ast::machine::Machine;
 use fs_cut::cover::Point;
 use fs_cut::path_text::point_text;
 use fs_model::parts::StateId;
-use show_dot_text::graphs::{Look, graph_text, write_edge, write_node};
 use std::alloc::{AllocError, Global};
 
 // Adds a state and the edges of its branches.

@@ -2,9 +2,9 @@
 use Rattle.std.specs.Prelude.{◌≡◌, ℕ, ◌+◌, ◌==◌, false, cond, List, [], ◌∷◌, ◌++◌, length, slice_get, codes, decimal}
 use Rattle.std.specs.List.{list_any}
 use Rattle.fs_pair.specs.declared.positions.Position.{Position}
-use Rattle.show_dot_text.specs.declared.graphs.Look.{Look}
-use Rattle.show_dot_text.specs.declared.graphs.Look.TheVariants.{Boxed, Marked}
-use Rattle.show_dot_text.specs.DotLines.{node_line, edge_line, graph_text}
+use Rattle.show_machine_pictures.specs.declared.graphs.Look.{Look}
+use Rattle.show_machine_pictures.specs.declared.graphs.Look.TheVariants.{Boxed, Marked}
+use Rattle.show_machine_pictures.specs.DotLines.{node_line, edge_line, graph_text}
 use Rattle.search_tables.specs.declared.moves.Move.{Move}
 use Rattle.search_tables.specs.declared.outcome.Outcome.{Outcome}
 use Rattle.search_tables.specs.declared.outcome.Outcome.TheVariants.{Closed, Stuck, Spin, Wide, Large, Exhausted}

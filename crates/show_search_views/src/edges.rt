@@ -11,7 +11,7 @@ use itoa::Buffer;
 use nf_terms::stop::NoMemory;
 use search_tables::moves::Move;
 use search_tables::nodes::TableNode;
-use show_dot_text::graphs::write_edge;
+use show_machine_pictures::graphs::write_edge;
 use show_move_lines::lines::write_move;
 use show_move_lines::sides::Sides;
 use show_move_lines::turn::Turn;

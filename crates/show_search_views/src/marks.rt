@@ -5,7 +5,7 @@ ghost use Rattle.show_search_views.specs.SearchPictures.{marks_of, look_at};
 
 use nf_terms::stop::NoMemory;
 use search_tables::outcome::Outcome;
-use show_dot_text::graphs::Look;
+use show_machine_pictures::graphs::Look;
 use std::alloc::Global;
 
 fn one(alloc: Global, node: u32) -> Result<Vec<u32>, NoMemory>

@@ -6,7 +6,7 @@ ghost use Rattle.fs_pair.specs.Interfaces.{interface_fault};
 ghost use Rattle.fs_pair.specs.Positions.{positions};
 ghost use Rattle.search_tables.specs.SearchTables.{machines};
 ghost use Rattle.search_tables.specs.View.{table_in};
-ghost use Rattle.show_dot_text.specs.DotLines.{graph_text};
+ghost use Rattle.show_machine_pictures.specs.DotLines.{graph_text};
 ghost use Rattle.show_move_lines.specs.View.{side_machines};
 ghost use Rattle.show_search_views.specs.SearchPictures.{table_node_lines, search_picture, AreMarks, IsPicture};
 
@@ -22,7 +22,7 @@ use fsmd_pair_answers::searching::search;
 use nf_terms::stop::NoMemory;
 use search_tables::moves::Move;
 use search_tables::nodes::TableNode;
-use show_dot_text::graphs::graph_text;
+use show_machine_pictures::graphs::graph_text;
 use show_move_lines::history::first_table;
 use show_move_lines::sides::Sides;
 use std::alloc::Global;

@@ -9,10 +9,10 @@ use crate::marks::look_at;
 use itoa::Buffer;
 use nf_terms::stop::NoMemory;
 use search_tables::nodes::TableNode;
-use show_dot_text::graphs::write_node;
 use show_fact_text::lines::write_fact;
 use show_fact_text::names::SideNames;
 use show_fact_text::points::write_points;
+use show_machine_pictures::graphs::write_node;
 use show_move_lines::sides::Sides;
 use std::alloc::Global;
 

@@ -1,7 +1,7 @@
 use Rattle.std.proofs.Common.{ap, ◌∙◌}
 use Rattle.fs_grammar.specs.PartEnds.{name_in}
 use Rattle.fs_grammar.specs.Tokens.{line_at, ◌>>=◌}
-use Rattle.hls_program_grammar.specs.ProgramGrammar.{program_reading, after_name}
+use Rattle.hls_program_parts.specs.ProgramGrammar.{program_reading, after_name}
 use Rattle.hls_program_text.proofs.Readings.{name_read}
 use Rattle.fs_phrase_text.proofs.PassedOn.{refused, stopped}
 use Rattle.hls_program_text.proofs.assignments.before_value.Goals as goal

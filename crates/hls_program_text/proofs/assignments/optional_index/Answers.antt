@@ -3,7 +3,7 @@ use Rattle.fs_grammar.specs.declared.token.TokenKind.{TokenKind}
 use Rattle.fs_grammar.specs.declared.token.TokenKind.TheVariants.{OpenBracket}
 use Rattle.fs_grammar.specs.Tokens.{tokens_after, kind_at, ◌>>=◌}
 use Rattle.fs_expression_text.specs.Inside.{at_sum, sum_alone}
-use Rattle.hls_program_grammar.specs.ProgramGrammar.{program_reading, inside, for_index}
+use Rattle.hls_program_parts.specs.ProgramGrammar.{program_reading, inside, for_index}
 use Rattle.hls_program_text.proofs.Readings.{bracket_taken}
 use Rattle.fs_phrase_text.proofs.PassedOn.{refused, stopped}
 use Rattle.hls_program_text.proofs.assignments.optional_index.Goals as goal

@@ -6,7 +6,7 @@ use Rattle.fs_grammar.specs.Tokens.{tokens_after, kind_at, ◌>>=◌}
 use Rattle.fs_expression_text.specs.Inside.{whole_guard}
 use Rattle.hls_program_parts.specs.Programs.{join_blocks}
 use Rattle.hls_program_parts.specs.View.{block_of}
-use Rattle.hls_program_grammar.specs.ProgramGrammar.{depth_of, in_yes, in_no, in_body, for_if, for_while, program_reading, at_block, at_statement, after, at_no}
+use Rattle.hls_program_parts.specs.ProgramGrammar.{depth_of, in_yes, in_no, in_body, for_if, for_while, program_reading, at_block, at_statement, after, at_no}
 use Rattle.hls_program_text.specs.Fronts.{tokens_behind_brace}
 use Rattle.hls_program_text.proofs.Readings.{opens_yes, opens_no, opens_body, else_taken}
 use Rattle.fs_phrase_text.proofs.PassedOn.{refused, stopped, goes_after}

@@ -1,6 +1,6 @@
 use Rattle.std.proofs.Common.{◌≡◌, ◌≤◌, ◌+◌, ◌*◌, length}
 use Rattle.hls_program_parts.specs.View.{block_of}
-use Rattle.hls_program_grammar.specs.ProgramGrammar.{Open, depth_of, program_reading, at_block, at_statement}
+use Rattle.hls_program_parts.specs.ProgramGrammar.{Open, depth_of, program_reading, at_block, at_statement}
 use Rattle.hls_program_text.proofs.blocks.+blocks.Given as goal
 
 abbrev pub decreases-block : goal.decreases-block

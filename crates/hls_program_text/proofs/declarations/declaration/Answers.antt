@@ -1,7 +1,7 @@
 use Rattle.std.proofs.Common.{[], ap, sym, ◌∙◌}
 use Rattle.fs_grammar.specs.Tokens.{tokens_after, line_at, ◌>>=◌}
 use Rattle.fs_phrase_text.specs.Declaring as declaring
-use Rattle.hls_program_grammar.specs.ProgramGrammar.{program_reading, at_declaration, in_declaration, with_declaration}
+use Rattle.hls_program_parts.specs.ProgramGrammar.{program_reading, at_declaration, in_declaration, with_declaration}
 use Rattle.hls_program_text.proofs.Readings.{role_taken}
 use Rattle.fs_phrase_text.proofs.PassedOn.{refused, stopped}
 use Rattle.hls_program_text.proofs.declarations.declaration.Goals as goal

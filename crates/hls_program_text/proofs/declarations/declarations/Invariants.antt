@@ -1,6 +1,6 @@
 use Rattle.std.proofs.Common.{◌≡◌, [], length, map}
 use Rattle.fs_model.specs.View.{declaration_of}
-use Rattle.hls_program_grammar.specs.ProgramGrammar.{program_reading, at_declaration}
+use Rattle.hls_program_parts.specs.ProgramGrammar.{program_reading, at_declaration}
 use Rattle.hls_program_text.proofs.declarations.declarations.Given as goal
 
 abbrev pub invariant-each : goal.invariant-each

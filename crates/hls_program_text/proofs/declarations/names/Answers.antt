@@ -1,7 +1,7 @@
 use Rattle.fs_grammar.specs.Grammar.{with_names}
 use Rattle.fs_phrase_text.specs.Declaring.{at_name}
 use Rattle.fs_phrase_text.proofs.Hosted.{carried_whole}
-use Rattle.hls_program_grammar.specs.ProgramGrammar.{program_reading, at_declaration, in_declaration, with_declaration}
+use Rattle.hls_program_parts.specs.ProgramGrammar.{program_reading, at_declaration, in_declaration, with_declaration}
 use Rattle.hls_program_text.proofs.Hosted.{hosts_declarations}
 use Rattle.hls_program_text.proofs.declarations.names.Goals as goal
 

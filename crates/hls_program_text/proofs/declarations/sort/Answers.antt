@@ -1,7 +1,7 @@
 use Rattle.std.proofs.Common.{[]}
 use Rattle.fs_phrase_text.specs.Declaring.{at_sort, at_name}
 use Rattle.fs_phrase_text.proofs.Hosted.{carried}
-use Rattle.hls_program_grammar.specs.ProgramGrammar.{program_reading, at_declaration, in_declaration, with_declaration}
+use Rattle.hls_program_parts.specs.ProgramGrammar.{program_reading, at_declaration, in_declaration, with_declaration}
 use Rattle.hls_program_text.proofs.Hosted.{hosts_declarations}
 use Rattle.hls_program_text.proofs.declarations.sort.Goals as goal
 

@@ -1,7 +1,7 @@
 use Rattle.std.proofs.Common.{◌≡◌, ◌≤◌, ◌+◌, ◌++◌, length}
 use Rattle.std.specs.Prelude.{vec_len}
 use Rattle.std.specs.Vec.Iter.{into_iter_len}
-use Rattle.hls_program_grammar.specs.Marks.{mark_tokens, program_tokens}
+use Rattle.hls_program_parts.specs.Marks.{mark_tokens, program_tokens}
 use Rattle.hls_program_text.proofs.marks.program_tokens.Given as goal
 
 abbrev pub invariant-each : goal.invariant-each

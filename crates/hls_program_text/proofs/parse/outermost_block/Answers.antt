@@ -1,5 +1,5 @@
 use Rattle.std.proofs.Common.{refl}
-use Rattle.hls_program_grammar.specs.ProgramGrammar.{outermost}
+use Rattle.hls_program_parts.specs.ProgramGrammar.{outermost}
 use Rattle.hls_program_text.proofs.Readings.{opens_outermost}
 use Rattle.fs_phrase_text.proofs.PassedOn.{goes_after}
 use Rattle.hls_program_text.proofs.parse.outermost_block.Goals as goal

@@ -1,6 +1,6 @@
 use Rattle.hls_program_parts.specs.View.{program_of}
-use Rattle.hls_program_grammar.proofs.Texts.{spells, stops}
-use Rattle.hls_program_grammar.proofs.WellFormed.{well_formed}
+use Rattle.hls_program_parts.proofs.Texts.{spells, stops}
+use Rattle.hls_program_parts.proofs.WellFormed.{well_formed}
 use Rattle.hls_program_text.proofs.read.read_program.Goals as goal
 
 pub returns-in-Ok-clause-text : goal.returns-in-Ok-clause-text

@@ -2,7 +2,7 @@ use Rattle.std.proofs.Common.{◌≡◌, ◌+◌, ◌-◌, ◌<◌, ◌++◌, �
 use Rattle.std.specs.Prelude.{filter}
 use Rattle.std.specs.List.{range_with_len}
 use Rattle.fs_model.specs.declared.parts.StateId.{StateId}
-use Rattle.hls_line_schedules.specs.StraightLines.{is_first_of_line}
+use Rattle.hls_line_filling.specs.StraightLines.{is_first_of_line}
 use Rattle.hls_sched.proofs.Tracing.{first_more, first_left, firsts_done, firsts_within, firsts_are_first}
 use Rattle.hls_sched.proofs.lines.firsts.Goals as goal
 use Rattle.hls_sched.proofs.lines.firsts.Goals.{then-is_first+in_ok-push, else-is_first}

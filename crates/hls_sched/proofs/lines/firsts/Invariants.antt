@@ -1,7 +1,7 @@
 use Rattle.std.proofs.Common.{◌≡◌, ◌-◌, ◌++◌, length, map}
 use Rattle.std.specs.Prelude.{filter}
 use Rattle.std.specs.List.{range_with_len}
-use Rattle.hls_line_schedules.specs.StraightLines.{is_first_of_line, firsts}
+use Rattle.hls_line_filling.specs.StraightLines.{is_first_of_line, firsts}
 use Rattle.hls_sched.proofs.lines.firsts.Given as goal
 
 abbrev pub invariant-loop-q : goal.invariant-loop-q

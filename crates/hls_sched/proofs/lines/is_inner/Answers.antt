@@ -1,5 +1,5 @@
 use Rattle.std.proofs.Common.{◌∙◌, sym}
-use Rattle.hls_line_schedules.specs.StraightLines.{sources}
+use Rattle.hls_line_filling.specs.StraightLines.{sources}
 use Rattle.hls_sched.proofs.Noting.{one_source, not_only}
 use Rattle.hls_sched.proofs.Tracing.{only_source_in, inner_by, not_inner}
 use Rattle.hls_sched.proofs.lines.is_inner.Goals as goal

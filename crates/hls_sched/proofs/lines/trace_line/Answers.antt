@@ -1,6 +1,6 @@
 use Rattle.std.proofs.Common.{◌≡◌, ◌+◌, ◌-◌, ◌<◌, ◌∙◌, sym, ap, arith, length, true, false}
 use Rattle.std.proofs.lemmas.List.{length_push}
-use Rattle.hls_line_schedules.specs.StraightLines.{follows, straight_line_at}
+use Rattle.hls_line_filling.specs.StraightLines.{follows, straight_line_at}
 use Rattle.hls_sched.proofs.Tracing.{last_traced, one_traced, exit_stops, exit_goes, line_within, too_long}
 use Rattle.hls_sched.proofs.lines.trace_line.Goals as goal
 

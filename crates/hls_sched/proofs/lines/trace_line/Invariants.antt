@@ -1,5 +1,5 @@
 use Rattle.std.proofs.Common.{◌≡◌, ◌-◌, ◌<◌, ◌++◌, length, map}
-use Rattle.hls_line_schedules.specs.StraightLines.{line_from, straight_line_at, exit_from, exit_of}
+use Rattle.hls_line_filling.specs.StraightLines.{line_from, straight_line_at, exit_from, exit_of}
 use Rattle.hls_sched.proofs.lines.trace_line.Given as goal
 
 abbrev pub invariant-line : goal.invariant-line

@@ -2,7 +2,7 @@ use Rattle.std.proofs.Common.{List, sym, subst, map}
 use Rattle.std.specs.List.{All}
 use Rattle.std.proofs.lemmas.List.Elements.{All-push}
 use Rattle.hls_line_filling.specs.Plans.{filled_in}
-use Rattle.hls_line_schedules.specs.SourceRows.{placed_in_line}
+use Rattle.hls_line_filling.specs.SourceRows.{placed_in_line}
 use Rattle.hls_sched.specs.declared.moves.Move.{Move}
 use Rattle.hls_sched.specs.RowMoves.{IsMoveAmong}
 use Rattle.hls_sched.proofs.Rows.{moves_more, moves_end}

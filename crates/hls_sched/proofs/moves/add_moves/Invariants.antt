@@ -1,9 +1,9 @@
 use Rattle.std.proofs.Common.{◌≡◌, ℕ, ◌<◌, ◌++◌, map}
 use Rattle.std.specs.List.{All}
 use Rattle.fs_model.specs.Source.{Source}
-use Rattle.hls_line_schedules.specs.RowMachines.{moves}
+use Rattle.hls_line_filling.specs.RowMachines.{moves}
 use Rattle.hls_line_filling.specs.Plans.{filled_in}
-use Rattle.hls_line_schedules.specs.SourceRows.{placed_in_line, rows_in_line}
+use Rattle.hls_line_filling.specs.SourceRows.{placed_in_line, rows_in_line}
 use Rattle.hls_sched.specs.RowMoves.{move_of, IsMoveAmong}
 use Rattle.hls_sched.proofs.Rows.{moves_left}
 use Rattle.hls_sched.proofs.moves.add_moves.Given as goal

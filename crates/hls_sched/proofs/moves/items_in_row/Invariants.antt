@@ -3,7 +3,7 @@ use Rattle.std.specs.List.{All}
 use Rattle.fs_model.specs.Source.{Source}
 use Rattle.hls_line_filling.specs.Plans.{filled_in}
 use Rattle.hls_line_filling.specs.WaitingItems.{rows_in}
-use Rattle.hls_line_schedules.specs.SourceRows.{row_of}
+use Rattle.hls_line_filling.specs.SourceRows.{row_of}
 use Rattle.hls_sched.specs.RowMoves.{joined_items}
 use Rattle.hls_sched.proofs.Rows.{row_left}
 use Rattle.hls_sched.proofs.moves.items_in_row.Given as goal

@@ -1,5 +1,5 @@
 use Rattle.std.proofs.Common.{◌∙◌, sym, length}
-use Rattle.hls_line_schedules.specs.StraightLines.{items_at}
+use Rattle.hls_line_filling.specs.StraightLines.{items_at}
 use Rattle.hls_line_filling.specs.ItemUnits.{units_in}
 use Rattle.hls_sched.proofs.Gathered.{are_counted, count_items, plan_for}
 use Rattle.hls_sched.proofs.plans.plan_line.Goals as goal

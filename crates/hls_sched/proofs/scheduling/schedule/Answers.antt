@@ -5,8 +5,8 @@ use Rattle.fs_model.specs.WellFormed.{is_well_formed}
 use Rattle.fs_ast.specs.MachineOfParts.{machine_of}
 use Rattle.fs_ast.specs.Rules.{BreaksNoRule}
 use Rattle.hls_line_filling.specs.ItemUnits.{units_in}
-use Rattle.hls_line_schedules.specs.Sources.{scheduled_source}
-use Rattle.hls_line_schedules.specs.Over.{over_in}
+use Rattle.hls_line_filling.specs.Sources.{scheduled_source}
+use Rattle.hls_line_filling.specs.Over.{over_in}
 use Rattle.hls_sched.specs.Reports.{report_of, reports}
 use Rattle.hls_sched.proofs.Outcome.{lines_keep_lengths, new_behaves, new_within}
 use Rattle.hls_sched.proofs.scheduling.schedule.Goals as goal

@@ -1,9 +1,0 @@
-pub mod Over
-pub mod Counted
-pub mod StraightLines
-pub mod RowMachines
-pub mod MachineSelections
-pub mod ScheduledMachines
-pub mod Schedules
-pub mod SourceRows
-pub mod Sources

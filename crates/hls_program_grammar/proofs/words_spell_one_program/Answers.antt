@@ -1,5 +1,0 @@
-use Rattle.hls_program_grammar.proofs.Once.{one_program}
-use Rattle.hls_program_grammar.proofs.words_spell_one_program.Goals as goal
-
-pub returns : goal.returns
-returns c = λ p q ws h k. one_program p q ws h k
