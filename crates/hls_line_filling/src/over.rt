@@ -6,9 +6,9 @@ ghost use Rattle.hls_line_filling.specs.ItemUnits.{units_in, used_by};
 ghost use Rattle.hls_line_filling.specs.Counted.{AreCounts};
 ghost use Rattle.hls_line_filling.specs.Over.{over_of, over_among, over_in};
 
+use crate::uses::used_by;
 use fs_ast::machine::Machine;
 use fs_model::parts::{Assign, Branch, StateId, VarId};
-use hls_line_filling::uses::used_by;
 use hls_unit_counts::{Unit, Units};
 
 // Whether assignments use more of a unit than is given.
