@@ -3,7 +3,7 @@ use Rattle.std.proofs.Common.{◌≡◌, ℕ, List, true, false, Some, sym, ap, 
 use Rattle.std.specs.Prelude.{IsUtf8}
 use Rattle.serde_json.specs.Data.{Data}
 use Rattle.serde_json.specs.Read.{read}
-use Rattle.cert_json.specs.Shape.{is_file, has_too_many}
+use Rattle.cert_values.specs.Shape.{is_file, has_too_many}
 use Rattle.cert_json.specs.Trim.{trim}
 use Rattle.cert_json.specs.declared.level.Level.TheVariants.{File}
 use Rattle.cert_json.specs.Refusals.{IsShortFileOf, HasOtherShape, HasTooMany}

@@ -13,9 +13,9 @@ use Rattle.std.proofs.lemmas.Map.Lookups.{exact_bytes}
 use Rattle.serde_json.specs.Data.{Data, Members, no_members, member, put}
 use Rattle.serde_json.specs.Events.{members_len}
 use Rattle.serde_json.specs.Find.{get_member, as_str}
-use Rattle.cert_json.specs.View.{view, members_view}
-use Rattle.cert_json.proofs.Views.{Entry, name_cmp}
-use Rattle.cert_json.specs.Shape.{name_texts}
+use Rattle.cert_values.specs.View.{view, members_view}
+use Rattle.cert_values.proofs.Views.{Entry, name_cmp}
+use Rattle.cert_values.specs.Shape.{name_texts}
 use Rattle.cert_json.specs.Trim.{first_members}
 use Rattle.cert_json.specs.Objects.{AreBehind, AreAscending, is_no_text}
 

@@ -5,7 +5,7 @@ use Rattle.std.proofs.lemmas.Bool.{ltb-false, false≢true}
 use Rattle.serde_json.specs.Data.{Data, null, boolean, number, string, array, object, Items, no_items, item, Members, no_members, member}
 use Rattle.serde_json.specs.Events.{items_len}
 use Rattle.serde_json.specs.Find.{as_array, as_object}
-use Rattle.cert_json.specs.Shape.{are_texts, name_texts, is_list_of_texts, is_map_of_texts, are_nodes, is_list_of_nodes, has_more}
+use Rattle.cert_values.specs.Shape.{are_texts, name_texts, is_list_of_texts, is_map_of_texts, are_nodes, is_list_of_nodes, has_more}
 use Rattle.cert_json.specs.Trim.{first_names, short_equations, short_list, trim, trim_items, trim_members}
 use Rattle.cert_json.specs.declared.level.Level.{Level}
 use Rattle.cert_json.specs.declared.level.Level.TheVariants.{FileMember, Node, NodeMember, Deeper}

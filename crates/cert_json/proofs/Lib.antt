@@ -1,5 +1,3 @@
-pub mod Views
-mod Counts
 mod Turns
 pub mod FirstNames
 pub mod TrimLaws
@@ -10,3 +8,4 @@ pub mod KeptParts
 pub mod OrderedValues
 mod Files
 mod Digits
+pub use Rattle.cert_values.proofs.Views

@@ -9,10 +9,10 @@ use Rattle.json.specs.Json.{parse_map}
 use Rattle.serde_json.specs.Data.{Data, null, array, Items, no_items, item}
 use Rattle.serde_json.specs.Events.{items_len}
 use Rattle.serde_json.specs.Find.{as_str}
-use Rattle.cert_json.specs.View.{view, items_view}
-use Rattle.cert_json.specs.declared.value.Value.{Value}
-use Rattle.cert_json.proofs.Views.{items_len-items_view}
-use Rattle.cert_json.specs.Shape.{are_texts, is_node, are_nodes}
+use Rattle.cert_values.specs.View.{view, items_view}
+use Rattle.cert_values.specs.declared.value.Value.{Value}
+use Rattle.cert_values.proofs.Views.{items_len-items_view}
+use Rattle.cert_values.specs.Shape.{are_texts, is_node, are_nodes}
 use Rattle.cert_json.specs.Trim.{first_items, short_items, short_list, trim, trim_items}
 use Rattle.cert_json.specs.declared.level.Level.{Level}
 use Rattle.cert_json.specs.Lists.{join_items, add_item, add_below, most_items, IsShort, settled}

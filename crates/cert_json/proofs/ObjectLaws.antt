@@ -10,9 +10,9 @@ use Rattle.json.specs.Json.{parse_map}
 use Rattle.json.specs.Token.{Token}
 use Rattle.serde_json.specs.Data.{Data, null, array, object, Items, Members, no_members, member, put}
 use Rattle.serde_json.specs.Events.{members_len}
-use Rattle.cert_json.specs.View.{view, members_view}
-use Rattle.cert_json.specs.declared.value.Value.{Value, Null, Object, the_lemmas}
-use Rattle.cert_json.proofs.Views.{members_len-members_view, view-Object, Entry}
+use Rattle.cert_values.specs.View.{view, members_view}
+use Rattle.cert_values.specs.declared.value.Value.{Value, Null, Object, the_lemmas}
+use Rattle.cert_values.proofs.Views.{members_len-members_view, view-Object, Entry}
 use Rattle.cert_json.specs.Trim.{below, exceeds, keeps_first, first_names, short_list, short_object, trim, trim_items, trim_members}
 use Rattle.cert_json.specs.Objects.{TellsOthers, IsShortObject, is_noted}
 use Rattle.cert_json.specs.declared.short_object.ShortObject.{ShortObject}

@@ -15,11 +15,11 @@ use Rattle.std.proofs.lemmas.Slice.Eq.{bytes_eq-Decides}
 use Rattle.serde_json.specs.Data.{Data, null, object, Members, put}
 use Rattle.serde_json.specs.Find.{get_member, as_str}
 use Rattle.serde_json.proofs.Views.{get_member-put, get_member-put_other}
-use Rattle.cert_json.specs.Shape.{name_texts}
+use Rattle.cert_values.specs.Shape.{name_texts}
 use Rattle.cert_json.specs.Trim.{first_names, short_equations}
 use Rattle.cert_json.specs.Objects.{AreAscending, TellsOthers, is_no_text, is_noted}
 use Rattle.cert_json.proofs.FirstNames.{texts_no_other, texts_from}
-use Rattle.cert_json.proofs.Views.{name_cmp}
+use Rattle.cert_values.proofs.Views.{name_cmp}
 
 abbrev Name : Type 0
 Name = Bor (List ℕ)

@@ -8,9 +8,10 @@ use Rattle.std.proofs.lemmas.Bool.{and_parts, ltb-true, ltb-false, lt-ltb, le-lt
 use Rattle.serde_json.specs.Data.{Num, Data, null, boolean, number, string, array, object, Items, no_items, item, Members, no_members, member}
 use Rattle.serde_json.specs.Events.{items_len, members_len}
 use Rattle.serde_json.specs.Find.{get_member, as_number, as_str, as_array, as_object, as_u64}
-use Rattle.cert_json.specs.Shape.{has_members, are_texts, name_texts, is_list_of_texts, is_map_of_texts, is_mode, is_within, whole_number_in}
-use Rattle.cert_json.specs.Shape.{is_node, are_nodes, is_list_of_nodes, is_format, is_file, has_more, has_many_conditions, some_has_many, some_of_file_has_many}
-use Rattle.cert_json.specs.Shape.{has_too_many}
+use Rattle.cert_values.specs.Shape.{has_members, are_texts, name_texts, is_list_of_texts, is_map_of_texts, is_mode, is_within, whole_number_in}
+use Rattle.cert_values.specs.Shape.{is_node, are_nodes, is_list_of_nodes, is_format, is_file, has_more, has_many_conditions}
+use Rattle.cert_values.specs.Shape.{some_has_many, some_of_file_has_many}
+use Rattle.cert_values.specs.Shape.{has_too_many}
 use Rattle.cert_json.specs.Trim.{first_items, short_items, short_list, below, exceeds, keeps_first, first_names, short_equations, short_object, trim}
 use Rattle.cert_json.specs.Trim.{trim_items, trim_members}
 use Rattle.cert_json.specs.declared.level.Level.{Level}

@@ -1,8 +1,8 @@
-pub mod JsonTexts
 pub mod Lists
 pub mod Objects
 pub mod Refusals
-pub mod Shape
 pub mod Trim
-pub mod View
 pub mod WrittenJson
+pub use Rattle.cert_values.specs.JsonTexts
+pub use Rattle.cert_values.specs.Shape
+pub use Rattle.cert_values.specs.View

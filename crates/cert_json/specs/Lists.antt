@@ -2,8 +2,8 @@
 use Rattle.std.specs.Prelude.{◌≡◌, ℕ, Bool, true, false, ◌&&◌, nat_lt, if◌then◌else◌}
 use Rattle.serde_json.specs.Data.{Data, null, array, Items, no_items, item}
 use Rattle.serde_json.specs.Events.{items_len}
-use Rattle.cert_json.specs.View.{items_view}
-use Rattle.cert_json.specs.Shape.{are_texts, are_nodes}
+use Rattle.cert_values.specs.View.{items_view}
+use Rattle.cert_values.specs.Shape.{are_texts, are_nodes}
 use Rattle.cert_json.specs.Trim.{short_items}
 use Rattle.cert_json.specs.declared.short_list.ShortList.{ShortList}
 

@@ -8,7 +8,7 @@ use Rattle.std.specs.Ordering.{nat_cmp}
 use Rattle.std.specs.declared.cmp.Ordering.TheVariants.{Less}
 use Rattle.serde_json.specs.Data.{Data, Members, no_members, member}
 use Rattle.serde_json.specs.Find.{get_member, as_str}
-use Rattle.cert_json.specs.View.{members_view}
+use Rattle.cert_values.specs.View.{members_view}
 use Rattle.cert_json.specs.Trim.{keeps_first, first_names}
 use Rattle.cert_json.specs.declared.level.Level.{Level}
 use Rattle.cert_json.specs.declared.short_object.ShortObject.{ShortObject}

@@ -5,7 +5,7 @@ use Rattle.base_json_files.specs.Json.{IsJson, IsNotJson}
 use Rattle.cert_json.specs.declared.faults.FileError.{FileError}
 use Rattle.cert_json.specs.declared.faults.FileError.TheVariants.{NotJson, Shape, TooMany, NoMemory}
 use Rattle.cert_json.specs.declared.level.Level.TheVariants.{File}
-use Rattle.cert_json.specs.Shape.{is_file, has_too_many}
+use Rattle.cert_values.specs.Shape.{is_file, has_too_many}
 use Rattle.cert_json.specs.Trim.{trim}
 
 -- the bytes are JSON of a value that has the form of a certificate and is within the limits

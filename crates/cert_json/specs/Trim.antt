@@ -3,7 +3,7 @@ use Rattle.std.specs.Prelude.{ℕ, zero, suc, Bool, true, false, ◌||◌, nat_l
 use Rattle.serde_json.specs.Data.{Data, null, boolean, number, string, array, object, Items, no_items, item, Members, no_members}
 use Rattle.serde_json.specs.Data.{member}
 use Rattle.serde_json.specs.Events.{members_len}
-use Rattle.cert_json.specs.Shape.{are_texts, are_nodes, name_texts}
+use Rattle.cert_values.specs.Shape.{are_texts, are_nodes, name_texts}
 use Rattle.cert_json.specs.declared.level.Level.{Level}
 use Rattle.cert_json.specs.declared.level.Level.TheVariants.{File, FileMember, Node, NodeMember, Deeper}
 

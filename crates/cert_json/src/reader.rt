@@ -3,15 +3,15 @@
 ghost use Rattle.std.specs.Prelude.{◌≡◌, ◌≢◌, Some, None, Err, IfOk, IfErr};
 ghost use Rattle.serde_json.specs.Data.{Data};
 ghost use Rattle.serde_json.specs.Read.{read as read_text};
-ghost use Rattle.cert_json.specs.View.{view};
+ghost use Rattle.cert_values.specs.View.{view};
 ghost use Rattle.cert_json.specs.Trim.{trim};
 ghost use Rattle.cert_json.specs.Refusals.{IsShortFileOf, IsRefusedAsShape};
 ghost use Rattle.cert_json.specs.declared.level.Level.TheVariants.{File};
 
 use crate::faults::FileError;
-use crate::shape::{has_too_many, is_file};
 use crate::trim::{Fault, read_trimmed};
-use crate::value::Value;
+use cert_values::shape::{has_too_many, is_file};
+use cert_values::value::Value;
 use json::Scratch;
 use std::alloc::Global;
 

@@ -3,13 +3,13 @@
 ghost use Rattle.std.specs.Prelude.{◌≡◌, ◌&&◌, ◌||◌, is_some, IsTrue, OnOk};
 ghost use Rattle.serde_json.specs.Data.{Items, no_items};
 ghost use Rattle.serde_json.specs.Find.{as_str};
-ghost use Rattle.cert_json.specs.View.{view, items_view};
-ghost use Rattle.cert_json.specs.Shape.{is_node as is_node_in, are_texts};
+ghost use Rattle.cert_values.specs.View.{view, items_view};
+ghost use Rattle.cert_values.specs.Shape.{is_node as is_node_in, are_texts};
 ghost use Rattle.cert_json.specs.Trim.{short_list};
 ghost use Rattle.cert_json.specs.Lists.{IsShort, join_items, add_item, add_below, most_items, settled};
 
-use crate::shape::is_node;
-use crate::value::Value;
+use cert_values::shape::is_node;
+use cert_values::value::Value;
 use std::alloc::{AllocError, Global};
 
 /// What is kept of a list.

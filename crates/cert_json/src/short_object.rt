@@ -3,12 +3,12 @@
 ghost use Rattle.std.specs.Prelude.{◌≡◌, [], length, true, false, None, IsTrue, IfSome, OnOk, is_some};
 ghost use Rattle.serde_json.specs.Data.{Data, Members, no_members, put};
 ghost use Rattle.serde_json.specs.Find.{as_str};
-ghost use Rattle.cert_json.specs.View.{view, members_view};
+ghost use Rattle.cert_values.specs.View.{view, members_view};
 ghost use Rattle.cert_json.specs.Trim.{exceeds, first_names, short_object, short_equations};
 ghost use Rattle.cert_json.specs.Objects.{IsShortObject, AreAscending, TellsOthers};
 
 use crate::level::Level;
-use crate::value::Value;
+use cert_values::value::Value;
 use serde_json::Map;
 use std::alloc::{AllocError, Global};
 use std::cmp::Ordering;

@@ -7,7 +7,7 @@ ghost use Rattle.serde_json.specs.Data.{Data, Items, Members};
 ghost use Rattle.serde_json.specs.Events.{members_len};
 ghost use Rattle.serde_json.specs.Find.{as_str};
 ghost use Rattle.serde_json.specs.Read.{of_json, of_items, of_members, converted};
-ghost use Rattle.cert_json.specs.Shape.{are_texts};
+ghost use Rattle.cert_values.specs.Shape.{are_texts};
 
 use crate::numbers::is_in_range;
 use json::{Invalid, Reader, Token};

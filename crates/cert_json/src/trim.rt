@@ -4,7 +4,7 @@ ghost use Rattle.std.specs.Prelude.{◌≡◌, ◌<◌, length, false, Some, Non
 ghost use Rattle.json.specs.Json.{value, items, members};
 ghost use Rattle.serde_json.specs.Data.{Data, Items, Members, no_members};
 ghost use Rattle.serde_json.specs.Read.{of_json, of_items, of_members, converted, read as read_text};
-ghost use Rattle.cert_json.specs.View.{view};
+ghost use Rattle.cert_values.specs.View.{view};
 ghost use Rattle.cert_json.specs.Trim.{trim, trim_items, trim_members, short_list, short_object, below};
 ghost use Rattle.cert_json.specs.declared.level.Level.TheVariants.{File};
 
@@ -13,7 +13,7 @@ use crate::numbers::number_of;
 use crate::short_list::{add_to_list, empty_list, is_settled, value_of_list, value_of_settled};
 use crate::short_object::{add_member, empty_object, value_of_object};
 use crate::skip::{skip_items, skip_members};
-use crate::value::Value;
+use cert_values::value::Value;
 use json::{Invalid, Reader, Scratch, Token};
 use std::alloc::{AllocError, Global};
 

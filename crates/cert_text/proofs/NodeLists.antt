@@ -3,8 +3,8 @@ use Rattle.std.proofs.Common.{◌≡◌, ℕ, ◌+◌, true, false, ap, sym, sub
 use Rattle.std.specs.Prelude.{map}
 use Rattle.std.proofs.lemmas.List.{map_push}
 use Rattle.fs_model.proofs.Booleans.{and_first, and_second, neither_first, neither_second}
-use Rattle.cert_json.specs.View.{view, items_view}
-use Rattle.cert_json.specs.declared.value.Value.{Value}
+use Rattle.cert_values.specs.View.{view, items_view}
+use Rattle.cert_values.specs.declared.value.Value.{Value}
 use Rattle.fs_cut.specs.Paths.{Point}
 use Rattle.fs_cut.specs.View.{point_of}
 use Rattle.fs_cut.specs.declared.cover.Point.{Point as CodePoint}
@@ -13,7 +13,7 @@ use Rattle.cert_bisimulation.specs.Tables.{Node}
 use Rattle.sym_facts.specs.Facts.{Fact}
 use Rattle.cert_model.specs.declared.cert.Node.{Node as CodeNode}
 use Rattle.cert_model.specs.View.{node_of}
-use Rattle.cert_json.specs.Shape.{is_node, are_nodes, has_many_conditions, some_has_many}
+use Rattle.cert_values.specs.Shape.{is_node, are_nodes, has_many_conditions, some_has_many}
 use Rattle.cert_json.specs.WrittenJson.{NodeText}
 use Rattle.cert_text.specs.declared.faults.CertError.{CertError}
 use Rattle.cert_text.specs.declared.faults.Stop.{Stop}

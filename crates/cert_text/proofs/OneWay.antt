@@ -7,7 +7,7 @@ use Rattle.cert_bisimulation.specs.Tables.{Node}
 use Rattle.sym_facts.specs.Facts.{Fact}
 use Rattle.term_values.specs.NameMeanings.{Find}
 use Rattle.base_json_files.proofs.Once.{one_value}
-use Rattle.cert_json.specs.Shape.{is_file, has_too_many}
+use Rattle.cert_values.specs.Shape.{is_file, has_too_many}
 use Rattle.cert_text.specs.declared.faults.CertError.{CertError}
 use Rattle.cert_text.specs.declared.faults.CertError.TheVariants.{NotJson, Shape, UnknownState, NotCutpoint, UnknownName, SortOf, NotSolved, TwiceNode}
 use Rattle.cert_text.specs.declared.faults.CertError.TheVariants.{NumberTooBig, TooMany, NoMemory, BadTerm, NotNormal}

@@ -5,12 +5,12 @@ use Rattle.std.proofs.lemmas.Bool.{leb-true, ltb-false, or_parts}
 use Rattle.fs_model.proofs.Booleans.{and_first, and_second}
 use Rattle.serde_json.specs.Data.{Data, Items}
 use Rattle.serde_json.specs.Events.{items_len}
-use Rattle.cert_json.specs.View.{items_view}
-use Rattle.cert_json.specs.declared.value.Value.{Value}
-use Rattle.cert_json.proofs.Views.{items_len-items_view}
+use Rattle.cert_values.specs.View.{items_view}
+use Rattle.cert_values.specs.declared.value.Value.{Value}
+use Rattle.cert_values.proofs.Views.{items_len-items_view}
 use Rattle.serde_json.specs.Find.{get, as_str, as_array, as_object}
-use Rattle.cert_json.specs.Shape.{has_members, is_list_of_texts, is_map_of_texts, is_text, is_mode, is_within, whole_number_in, is_node, is_format, are_nodes}
-use Rattle.cert_json.specs.Shape.{is_list_of_nodes, is_file, has_more, has_many_conditions, some_has_many, some_of_file_has_many, has_too_many}
+use Rattle.cert_values.specs.Shape.{has_members, is_list_of_texts, is_map_of_texts, is_text, is_mode, is_within, whole_number_in, is_node, is_format, are_nodes}
+use Rattle.cert_values.specs.Shape.{is_list_of_nodes, is_file, has_more, has_many_conditions, some_has_many, some_of_file_has_many, has_too_many}
 use Rattle.cert_text.specs.JsonParts.{number_or_zero, json_number, items_or_none}
 
 low : (o : Option ℕ) → is_within 4096 o ≡ true → number_or_zero o ≤ 4096

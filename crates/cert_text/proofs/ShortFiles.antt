@@ -18,11 +18,11 @@ use Rattle.cert_bisimulation.specs.Tables.{Node}
 use Rattle.sym_facts.specs.Facts.{Fact}
 use Rattle.sym_facts.proofs.Kept.{few_positions}
 use Rattle.nf_terms.specs.declared.form.Nf.{Nf}
-use Rattle.cert_json.specs.JsonTexts.{text_or_empty, named_texts_of}
+use Rattle.cert_values.specs.JsonTexts.{text_or_empty, named_texts_of}
 use Rattle.cert_json.specs.Objects.{AreBehind, AreAscending}
 use Rattle.cert_json.specs.Refusals.{IsShortFileOf}
-use Rattle.cert_json.specs.Shape.{is_node, are_nodes, is_file, is_list_of_nodes, is_list_of_texts, has_more, has_many_conditions, some_has_many}
-use Rattle.cert_json.specs.Shape.{some_of_file_has_many, has_too_many, whole_number_in, is_map_of_texts, has_members, is_format}
+use Rattle.cert_values.specs.Shape.{is_node, are_nodes, is_file, is_list_of_nodes, is_list_of_texts, has_more, has_many_conditions, some_has_many}
+use Rattle.cert_values.specs.Shape.{some_of_file_has_many, has_too_many, whole_number_in, is_map_of_texts, has_members, is_format}
 use Rattle.cert_json.specs.Trim.{first_members, first_names, trim, trim_items, trim_members}
 use Rattle.cert_json.specs.WrittenJson.{NodeText}
 use Rattle.cert_json.specs.declared.level.Level.TheVariants.{File, FileMember, Node as NodeLevel, NodeMember}

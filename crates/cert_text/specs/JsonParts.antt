@@ -2,9 +2,9 @@
 use Rattle.std.specs.Prelude.{ℕ, List, [], ◌∷◌, Option, Some, None, option_and_then, codes}
 use Rattle.serde_json.specs.Data.{Data, Items, no_items, item, Members, no_members}
 use Rattle.serde_json.specs.Find.{get, as_str, as_array, as_object}
-use Rattle.cert_json.specs.Shape.{whole_number_in}
+use Rattle.cert_values.specs.Shape.{whole_number_in}
 use Rattle.cert_json.specs.WrittenJson.{NodeText}
-use Rattle.cert_json.specs.JsonTexts.{text_or_empty, text_of, named_texts_of}
+use Rattle.cert_values.specs.JsonTexts.{text_or_empty, text_of, named_texts_of}
 
 abbrev pub texts_of : Items → List (List ℕ)
 texts_of no_items = []

@@ -2,8 +2,8 @@
 
 ghost use Rattle.std.specs.Prelude.{◌≡◌, ◌<◌, [], Ok, Some, length, map, IsTrue, IfOk, OnOk};
 ghost use Rattle.std.specs.List.{list_all, AllByRecursion};
-ghost use Rattle.cert_json.specs.JsonTexts.{named_texts_of};
-ghost use Rattle.cert_json.specs.View.{items_view, members_view};
+ghost use Rattle.cert_values.specs.JsonTexts.{named_texts_of};
+ghost use Rattle.cert_values.specs.View.{items_view, members_view};
 ghost use Rattle.nf_terms.specs.Forms.{sort_of_form};
 ghost use Rattle.nf_rel.specs.View.{literal_in};
 ghost use Rattle.sym_facts.specs.Facts.{may_be_kept};
@@ -21,9 +21,9 @@ ghost use Rattle.cert_text.specs.Within.{AreEquationsOf};
 use crate::faults::{CertError, Stop};
 use crate::forms::{read_condition, read_form};
 use crate::parts::text_of;
-use cert_json::value::Value;
 use cert_terms::names::{Places, is_in_format, place_of_key};
 use cert_terms::repeats::ReadText;
+use cert_values::value::Value;
 use fs_model::parts::Sort;
 use fs_pair::positions::Position;
 use nf_rel::literals::NLit;

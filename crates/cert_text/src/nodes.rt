@@ -2,11 +2,11 @@
 
 ghost use Rattle.std.specs.Prelude.{◌≡◌, ◌≤◌, ◌+◌, [], true, false, Ok, codes, length, map, IsTrue, IfOk, OnOk};
 ghost use Rattle.std.specs.List.{list_all, list_any, AllByRecursion};
-ghost use Rattle.cert_json.specs.View.{view, items_view};
+ghost use Rattle.cert_values.specs.View.{view, items_view};
 ghost use Rattle.nf_rel.specs.View.{literal_in};
 ghost use Rattle.sym_facts.specs.Facts.{may_be_kept, most_literals};
 ghost use Rattle.sym_facts.specs.Pairings.{IsFactOf};
-ghost use Rattle.cert_json.specs.Shape.{is_node, are_nodes, has_many_conditions, some_has_many};
+ghost use Rattle.cert_values.specs.Shape.{is_node, are_nodes, has_many_conditions, some_has_many};
 ghost use Rattle.cert_model.specs.Lawful.{most_nodes, most_rank};
 ghost use Rattle.cert_model.specs.View.{node_of};
 ghost use Rattle.cert_text.specs.JsonParts.{json_number as number_under, equations_in, node_text_in, node_texts};
@@ -27,9 +27,9 @@ use crate::faults::{CertError, Stop};
 use crate::parts::{items_at, members_at, number_at, text_at};
 use crate::points::read_points;
 use cert_bisimulation::mode::Mode;
-use cert_json::value::Value;
 use cert_model::cert::Node;
 use cert_terms::repeats::{ReadText, none_read};
+use cert_values::value::Value;
 use nf_rel::literals::NLit;
 use std::alloc::Global;
 use sym_facts::fact::{Fact, FactError};

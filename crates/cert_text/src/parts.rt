@@ -1,14 +1,14 @@
 //! The parts of a certificate in its JSON.
 
 ghost use Rattle.std.specs.Prelude.{◌≡◌, option_map, option_and_then};
-ghost use Rattle.cert_json.specs.JsonTexts.{text_of as text_in};
+ghost use Rattle.cert_values.specs.JsonTexts.{text_of as text_in};
 ghost use Rattle.serde_json.specs.Data.{no_items as none};
 ghost use Rattle.serde_json.specs.Find.{get, as_array, as_object};
-ghost use Rattle.cert_json.specs.View.{view, items_view, members_view};
+ghost use Rattle.cert_values.specs.View.{view, items_view, members_view};
 ghost use Rattle.cert_text.specs.JsonParts.{text_at as text_under, json_number as number_under};
 ghost use Rattle.cert_text.specs.JsonParts.{items_or_none};
 
-use cert_json::value::Value;
+use cert_values::value::Value;
 use serde_json::Map;
 use std::alloc::Global;
 use std::mem;

@@ -1,12 +1,12 @@
 //! Reading a certificate.
 
 ghost use Rattle.std.specs.Prelude.{◌≡◌, ◌≤◌, ℕ, List, [], true, false, length, map, IfOk, IfErr};
-ghost use Rattle.cert_json.specs.View.{view};
+ghost use Rattle.cert_values.specs.View.{view};
 ghost use Rattle.fs_pair.specs.Positions.{positions};
 ghost use Rattle.cert_model.specs.Lawful.{IsLawful, most_nodes};
 ghost use Rattle.cert_model.specs.View.{node_of};
 ghost use Rattle.cert_json.specs.Refusals.{IsShortFileOf, IsRefusedAsShape};
-ghost use Rattle.cert_json.specs.Shape.{is_file, has_too_many};
+ghost use Rattle.cert_values.specs.Shape.{is_file, has_too_many};
 ghost use Rattle.cert_text.specs.JsonParts.{file_nodes};
 ghost use Rattle.cert_text.specs.CertificateReading.{nodes_read};
 ghost use Rattle.cert_text.specs.Refusals.{TellsNodes, SpellsNodes, IsRefusedAsCertificate};
@@ -20,8 +20,8 @@ use crate::nodes::read_nodes;
 use crate::parts::{number_at, take_items};
 use cert_json::faults::FileError;
 use cert_json::reader::{Room, read_file};
-use cert_json::value::Value;
 use cert_model::cert::Cert;
+use cert_values::value::Value;
 use fs_ast::machine::Machine;
 use fs_pair::positions::Pairing;
 use std::alloc::Global;

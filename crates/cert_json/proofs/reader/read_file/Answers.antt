@@ -1,6 +1,6 @@
 use Rattle.std.proofs.Common.{sym, ap, ◌∙◌}
 use Rattle.serde_json.specs.Read.{read}
-use Rattle.cert_json.specs.View.{view}
+use Rattle.cert_values.specs.View.{view}
 use Rattle.cert_json.proofs.Files.{other_shape, too_many, short_file}
 use Rattle.cert_json.proofs.reader.read_file.Goals as goal
 

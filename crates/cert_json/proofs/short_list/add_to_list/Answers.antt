@@ -1,6 +1,6 @@
 use Rattle.std.proofs.Common.{◌≡◌, sym, ap, ◌∙◌}
 use Rattle.std.proofs.lemmas.Result.{on_ok_weaker}
-use Rattle.cert_json.specs.View.{view, items_view}
+use Rattle.cert_values.specs.View.{view, items_view}
 use Rattle.cert_json.specs.Lists.{add_item, add_below}
 use Rattle.cert_json.proofs.ListLaws.{texts_on, nodes_on, kept_below, none_kept}
 use Rattle.cert_json.proofs.short_list.add_to_list.Goals as goal

@@ -1,5 +1,5 @@
 use Rattle.std.proofs.Common.{ap, ◌∙◌, arith}
-use Rattle.cert_json.specs.View.{items_view}
+use Rattle.cert_values.specs.View.{items_view}
 use Rattle.cert_json.proofs.ListLaws.{more_below, none_below}
 use Rattle.cert_json.proofs.short_list.push_below.Goals as goal
 

@@ -1,6 +1,6 @@
 use Rattle.std.proofs.Common.{sym, ap, ◌∙◌}
 use Rattle.std.proofs.lemmas.Result.{on_ok_weaker}
-use Rattle.cert_json.specs.View.{view, members_view}
+use Rattle.cert_values.specs.View.{view, members_view}
 use Rattle.cert_json.specs.Trim.{first_names}
 use Rattle.serde_json.specs.Data.{put}
 use Rattle.cert_json.proofs.ObjectLaws.{first_added, any_added}

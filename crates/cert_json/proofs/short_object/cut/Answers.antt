@@ -1,6 +1,6 @@
 use Rattle.std.proofs.Common.{sym, ◌∙◌, arith}
-use Rattle.cert_json.specs.View.{members_view}
-use Rattle.cert_json.proofs.Views.{members_len-members_view}
+use Rattle.cert_values.specs.View.{members_view}
+use Rattle.cert_values.proofs.Views.{members_len-members_view}
 use Rattle.cert_json.proofs.FirstNames.{popped, first_members_all}
 use Rattle.cert_json.proofs.short_object.cut.Goals as goal
 

@@ -1,5 +1,5 @@
 use Rattle.std.proofs.Common.{◌≡◌, length}
-use Rattle.cert_json.specs.View.{members_view}
+use Rattle.cert_values.specs.View.{members_view}
 use Rattle.cert_json.specs.Trim.{first_names}
 use Rattle.cert_json.proofs.short_object.cut.Given as goal
 

@@ -1,6 +1,6 @@
 use Rattle.std.proofs.Common.{ap, ◌∙◌}
 use Rattle.std.proofs.lemmas.Result.{on_ok_weaker}
-use Rattle.cert_json.specs.View.{members_view}
+use Rattle.cert_values.specs.View.{members_view}
 use Rattle.cert_json.specs.Trim.{first_names}
 use Rattle.cert_json.proofs.FirstNames.{first_twice}
 use Rattle.cert_json.proofs.short_object.put_first.Goals as goal

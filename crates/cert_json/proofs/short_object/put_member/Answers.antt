@@ -1,6 +1,6 @@
 use Rattle.std.proofs.Common.{ap, ◌∙◌}
-use Rattle.cert_json.proofs.Views.{members_view-insert_entry}
-use Rattle.cert_json.specs.View.{members_view}
+use Rattle.cert_values.proofs.Views.{members_view-insert_entry}
+use Rattle.cert_values.specs.View.{members_view}
 use Rattle.cert_json.proofs.short_object.put_member.Goals as goal
 
 pub returns : goal.returns

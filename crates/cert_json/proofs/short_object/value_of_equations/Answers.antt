@@ -1,9 +1,9 @@
 use Rattle.std.proofs.Common.{◌≡◌, refl, sym, ap, ◌∙◌, rules}
 use Rattle.std.proofs.lemmas.Bool.{false≢true}
 use Rattle.serde_json.specs.Data.{null, object}
-use Rattle.cert_json.specs.View.{view}
-use Rattle.cert_json.specs.declared.value.Value.{Null, the_lemmas}
-use Rattle.cert_json.proofs.Views.{view-Object}
+use Rattle.cert_values.specs.View.{view}
+use Rattle.cert_values.specs.declared.value.Value.{Null, the_lemmas}
+use Rattle.cert_values.proofs.Views.{view-Object}
 use Rattle.cert_json.proofs.Others.{some_other, none_other}
 use Rattle.cert_json.proofs.short_object.value_of_equations.Goals as goal
 

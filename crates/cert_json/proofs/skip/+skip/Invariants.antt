@@ -3,7 +3,7 @@ use Rattle.json.specs.Json.{items, members, value, parse_map}
 use Rattle.serde_json.specs.Data.{Items, Members}
 use Rattle.serde_json.specs.Events.{members_len}
 use Rattle.serde_json.specs.Read.{of_items, of_members, converted}
-use Rattle.cert_json.specs.Shape.{are_texts}
+use Rattle.cert_values.specs.Shape.{are_texts}
 use Rattle.cert_json.specs.Lists.{join_items}
 use Rattle.cert_json.proofs.skip.+skip.Given as goal
 

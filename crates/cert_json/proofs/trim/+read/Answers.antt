@@ -6,14 +6,14 @@ use Rattle.json.specs.Reads.{token_of}
 use Rattle.json.proofs.Grammar.{value_is, value-begin_array, value-begin_object, read_key-shorter}
 use Rattle.serde_json.specs.Data.{null, boolean, number, string, array, object, no_items, item, put}
 use Rattle.serde_json.specs.Read.{of_json, of_items, converted}
-use Rattle.cert_json.specs.View.{view}
+use Rattle.cert_values.specs.View.{view}
 use Rattle.serde_json.specs.View.{number_view}
-use Rattle.cert_json.specs.declared.value.Value.{String, Number, Bool, Null, the_lemmas}
+use Rattle.cert_values.specs.declared.value.Value.{String, Number, Bool, Null, the_lemmas}
 use Rattle.serde_json.specs.Data.{no_members}
 use Rattle.cert_json.specs.Trim.{trim_items, trim_members, short_list, below, exceeds}
 use Rattle.cert_json.specs.Objects.{IsShortObject}
 use Rattle.cert_json.specs.Lists.{join_items, add_item, IsShort, settled}
-use Rattle.cert_json.specs.Shape.{are_texts}
+use Rattle.cert_values.specs.Shape.{are_texts}
 use Rattle.cert_json.proofs.TrimLaws.{trim-are_texts}
 use Rattle.cert_json.proofs.Turns.{converted-array, converted-object, item_read, item_refused, items_over, member_read, member_refused, key_refused}
 use Rattle.cert_json.proofs.Turns.{members_over}

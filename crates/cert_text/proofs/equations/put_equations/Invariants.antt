@@ -1,6 +1,6 @@
 use Rattle.std.proofs.Common.{◌≡◌}
-use Rattle.cert_json.specs.JsonTexts.{named_texts_of}
-use Rattle.cert_json.specs.View.{members_view}
+use Rattle.cert_values.specs.JsonTexts.{named_texts_of}
+use Rattle.cert_values.specs.View.{members_view}
 use Rattle.cert_text.specs.CertificateReading.{equations_read}
 use Rattle.cert_text.specs.View.{terms_in}
 use Rattle.cert_terms.specs.Repeats.{AreLast}

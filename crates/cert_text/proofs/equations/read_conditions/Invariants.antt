@@ -1,6 +1,6 @@
 use Rattle.std.proofs.Common.{◌≡◌, true, [], map, drop, length}
 use Rattle.std.specs.List.{list_all, AllByRecursion}
-use Rattle.cert_json.specs.View.{items_view}
+use Rattle.cert_values.specs.View.{items_view}
 use Rattle.nf_rel.specs.View.{literal_in}
 use Rattle.sym_facts.specs.Facts.{may_be_kept}
 use Rattle.cert_text.specs.JsonParts.{texts_of}

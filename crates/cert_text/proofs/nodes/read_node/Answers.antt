@@ -1,5 +1,5 @@
 use Rattle.std.proofs.Common.{rules, ◌≡◌, Err, ap, ◌∙◌, map}
-use Rattle.cert_json.specs.View.{view}
+use Rattle.cert_values.specs.View.{view}
 use Rattle.fs_cut.specs.View.{point_of}
 use Rattle.cert_model.specs.View.{node_of}
 use Rattle.cert_text.specs.JsonParts.{node_text_in}

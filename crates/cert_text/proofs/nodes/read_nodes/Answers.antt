@@ -1,5 +1,5 @@
 use Rattle.std.proofs.Common.{rules, suc, ◌≡◌, ◌+◌, Err, ap, ◌∙◌, map, length, arith}
-use Rattle.cert_json.specs.View.{items_view}
+use Rattle.cert_values.specs.View.{items_view}
 use Rattle.cert_model.specs.View.{node_of}
 use Rattle.cert_text.specs.JsonParts.{node_texts}
 use Rattle.cert_text.specs.CertificateReading.{nodes_read}

@@ -1,8 +1,8 @@
 use Rattle.std.proofs.Common.{◌≡◌, ◌+◌, [], true, false, map, length}
 use Rattle.std.specs.Vec.Iter.{into_iter_len}
-use Rattle.cert_json.specs.View.{items_view}
+use Rattle.cert_values.specs.View.{items_view}
 use Rattle.cert_model.specs.View.{node_of}
-use Rattle.cert_json.specs.Shape.{are_nodes, some_has_many}
+use Rattle.cert_values.specs.Shape.{are_nodes, some_has_many}
 use Rattle.cert_text.specs.JsonParts.{node_texts}
 use Rattle.cert_text.specs.CertificateReading.{nodes_read}
 use Rattle.cert_text.specs.View.{context_in}

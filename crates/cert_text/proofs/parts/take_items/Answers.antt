@@ -1,8 +1,8 @@
 use Rattle.std.proofs.Common.{◌≡◌, option_map, option_and_then, sym, ap, ◌∙◌}
 use Rattle.serde_json.specs.Find.{get, as_array}
-use Rattle.cert_json.specs.View.{view}
-use Rattle.cert_json.specs.declared.value.Value.{Object}
-use Rattle.cert_json.proofs.Views.{view-Object, view-lookup}
+use Rattle.cert_values.specs.View.{view}
+use Rattle.cert_values.specs.declared.value.Value.{Object}
+use Rattle.cert_values.proofs.Views.{view-Object, view-lookup}
 use Rattle.cert_text.specs.JsonParts.{items_or_none}
 use Rattle.cert_text.proofs.parts.take_items.Goals as goal
 

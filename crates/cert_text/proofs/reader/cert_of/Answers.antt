@@ -1,5 +1,5 @@
 use Rattle.std.proofs.Common.{IfOk, subst}
-use Rattle.cert_json.specs.View.{view}
+use Rattle.cert_values.specs.View.{view}
 use Rattle.cert_json.specs.Refusals.{IsShortFileOf}
 use Rattle.cert_text.proofs.ShortFiles.{refused}
 use Rattle.cert_text.proofs.reader.cert_of.Goals as goal

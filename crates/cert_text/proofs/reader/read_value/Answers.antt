@@ -1,4 +1,4 @@
-use Rattle.cert_json.specs.View.{view}
+use Rattle.cert_values.specs.View.{view}
 use Rattle.fs_pair.specs.Positions.{positions}
 use Rattle.cert_terms.specs.CertificateNames.{place_named, find_in}
 use Rattle.cert_terms.specs.TextFunctions.{meanings_by}

@@ -1,11 +1,11 @@
 -- The number of an object's members.
 use Rattle.std.proofs.Common.{◌≡◌, ℕ, List, ◌==◌, length, nat_lt, Some, sym, ap, ◌∙◌}
 use Rattle.serde_json.specs.Data.{Data}
-use Rattle.cert_json.specs.View.{members_view, items_view}
-use Rattle.cert_json.specs.declared.value.Value.{Value}
+use Rattle.cert_values.specs.View.{members_view, items_view}
+use Rattle.cert_values.specs.declared.value.Value.{Value}
 use Rattle.serde_json.specs.Find.{as_object, as_array}
-use Rattle.cert_json.proofs.Views.{members_len-members_view, items_len-items_view, Entry}
-use Rattle.cert_json.specs.Shape.{has_members, member_count_of, has_more}
+use Rattle.cert_values.proofs.Views.{members_len-members_view, items_len-items_view, Entry}
+use Rattle.cert_values.specs.Shape.{has_members, member_count_of, has_more}
 
 pub counts : (d : Data) (es : List Entry) (n : ℕ) → Some (members_view es) ≡ as_object d → (length es == n) ≡ has_members n d
 counts d es n e = ap (λ k. k == n) (sym (members_len-members_view es)) ∙ ap (λ o. member_count_of o == n) e

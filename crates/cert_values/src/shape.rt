@@ -1,12 +1,11 @@
 //! The form of a certificate.
 
 ghost use Rattle.std.specs.Prelude.{◌≡◌, Option, option_map, option_and_then};
-ghost use Rattle.cert_json.specs.View.{view, items_view, members_view};
+ghost use Rattle.cert_values.specs.View.{view, items_view, members_view};
 ghost use Rattle.serde_json.specs.Find.{as_array, as_object, as_str};
-ghost use Rattle.cert_json.specs.Shape.{has_members, is_text, are_texts, name_texts, is_list_of_texts, is_map_of_texts, is_mode};
-ghost use Rattle.cert_json.specs.Shape.{is_within, whole_number_in, is_node, are_nodes, is_list_of_nodes, is_format, is_file};
-ghost use Rattle.cert_json.specs.Shape.{is_mode_name, has_more, some_has_many, some_of_file_has_many};
-ghost use Rattle.cert_json.specs.Shape.{has_too_many};
+ghost use Rattle.cert_values.specs.Shape.{has_members, is_text, are_texts, name_texts, is_list_of_texts, is_map_of_texts};
+ghost use Rattle.cert_values.specs.Shape.{is_mode, is_within, whole_number_in, is_node, are_nodes, is_list_of_nodes, is_format};
+ghost use Rattle.cert_values.specs.Shape.{is_file, is_mode_name, has_more, some_has_many, some_of_file_has_many, has_too_many};
 
 use crate::value::Value;
 use serde_json::Map;

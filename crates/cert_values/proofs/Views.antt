@@ -8,8 +8,8 @@ use Rattle.std.specs.BTreeMap.{insert_entry, is_at}
 use Rattle.serde_json.specs.Data.{Data, object, put}
 use Rattle.serde_json.specs.Events.{items_len, members_len}
 use Rattle.serde_json.specs.Find.{get_member}
-use Rattle.cert_json.specs.View.{view, items_view, members_view}
-use Rattle.cert_json.specs.declared.value.Value.{Value, Object, the_lemmas}
+use Rattle.cert_values.specs.View.{view, items_view, members_view}
+use Rattle.cert_values.specs.declared.value.Value.{Value, Object, the_lemmas}
 
 abbrev pub Entry : Type 0
 Entry = Bor (List ℕ) × Value

@@ -1,7 +1,7 @@
 use Rattle.std.proofs.Common.{option_map, ap, ◌∙◌}
-use Rattle.cert_json.specs.View.{view}
-use Rattle.cert_json.proofs.Views.{view_of_ref, view-lookup}
-use Rattle.cert_json.proofs.value.member_of.Goals as goal
+use Rattle.cert_values.specs.View.{view}
+use Rattle.cert_values.proofs.Views.{view_of_ref, view-lookup}
+use Rattle.cert_values.proofs.value.member_of.Goals as goal
 
 pub returns : goal.returns
 returns c = view_of_ref c.get.result ∙ ap (option_map view) c.get.ensures.value ∙ view-lookup c.args.name.now c.args.members.now.entries

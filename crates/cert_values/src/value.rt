@@ -3,7 +3,7 @@
 ghost use Rattle.std.specs.Prelude.{◌≡◌, is_some, option_map, option_and_then};
 ghost use Rattle.serde_json.specs.Find.{get, get_member, as_number, as_str, as_array, as_object, as_u64};
 ghost use Rattle.serde_json.specs.View.{number_view};
-ghost use Rattle.cert_json.specs.View.{view, items_view, members_view};
+ghost use Rattle.cert_values.specs.View.{view, items_view, members_view};
 
 use serde_json::{Map, Number};
 

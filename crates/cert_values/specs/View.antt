@@ -3,8 +3,8 @@ use Rattle.std.specs.Prelude.{List, [], ◌∷◌, map, ℕ}
 use Rattle.std.specs.Borrow.{Bor}
 use Rattle.serde_json.specs.Data.{Data, null, boolean, number, string, array, object, Items, Members, no_members, member}
 use Rattle.serde_json.specs.View.{number_view, items_of}
-use Rattle.cert_json.specs.declared.value.Value.{Value, fold-Value}
-use Rattle.cert_json.specs.declared.value.Value.TheOpen.{Value-F}
+use Rattle.cert_values.specs.declared.value.Value.{Value, fold-Value}
+use Rattle.cert_values.specs.declared.value.Value.TheOpen.{Value-F}
 
 -- names that are borrowed, with their data
 abbrev pub borrowed_members : List (Bor (List ℕ) × Data) → Members

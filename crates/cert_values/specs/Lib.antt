@@ -1,0 +1,3 @@
+pub mod JsonTexts
+pub mod Shape
+pub mod View

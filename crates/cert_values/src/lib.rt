@@ -1,0 +1,13 @@
+//! JSON values whose texts are borrowed, and which of them have the form of a certificate.
+//!
+//! Promises: a value's texts, items and members; whether a value has the form of a node or of a certificate, and whether it
+//! has too many nodes or conditions.
+//!
+//! Rules: `specs/View`, `specs/Shape`, `specs/JsonTexts`.
+//!
+//! Words:
+//! - format (of a certificate): 1 or 2, the value of `format`; where ports are named it is 2
+#![tactic(auto)]
+
+pub mod shape;
+pub mod value;
