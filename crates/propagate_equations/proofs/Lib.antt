@@ -5,3 +5,4 @@ pub mod SplitTurns
 pub mod Splitting
 pub mod Without
 pub mod Needed
+mod FirstTie
