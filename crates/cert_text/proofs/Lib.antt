@@ -4,6 +4,7 @@ mod LawfulNodes
 mod Shapes
 mod Contexts
 mod NodeLists
+mod NodeParts
 mod OneWay
 mod Refused
 mod FirstEquations

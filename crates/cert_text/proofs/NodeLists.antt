@@ -38,7 +38,7 @@ module _ (left rest : List Value) (x : Value) (is : left ≡ x ∷ rest) where
   others_few s = neither_second (has_many_conditions (view x)) (some_has_many (items_view rest)) (sym (ap (λ vs. some_has_many (items_view vs)) is) ∙ s)
 
 -- where a part stops, the whole does
-stopped_first : {V W X Y : Type 0} (v : V → X) (w : W → Y) (e : Stop) (y : Result X CertError) (next : X → Result Y CertError) → Tells v (Err e) y
+pub stopped_first : {V W X Y : Type 0} (v : V → X) (w : W → Y) (e : Stop) (y : Result X CertError) (next : X → Result Y CertError) → Tells v (Err e) y
     → Tells w (Err e) (then_part y next)
 stopped_first v w (stop.Refused e) y next h = ap (λ z. then_part z next) h
 stopped_first v w stop.NoMemory y next h = tt

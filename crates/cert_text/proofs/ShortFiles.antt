@@ -20,11 +20,13 @@ use Rattle.sym_facts.proofs.Kept.{few_positions}
 use Rattle.nf_terms.specs.declared.form.Nf.{Nf}
 use Rattle.cert_values.specs.JsonTexts.{text_or_empty, named_texts_of}
 use Rattle.cert_json.specs.Objects.{AreBehind, AreAscending}
-use Rattle.cert_json.specs.Refusals.{IsShortFileOf}
+use Rattle.cert_json.specs.Refusals.{IsShortFileOf, IsRefusedAsShape}
 use Rattle.cert_values.specs.Shape.{is_node, are_nodes, is_file, is_list_of_nodes, is_list_of_texts, has_more, has_many_conditions, some_has_many}
 use Rattle.cert_values.specs.Shape.{some_of_file_has_many, has_too_many, whole_number_in, is_map_of_texts, has_members, is_format}
 use Rattle.cert_json.specs.Trim.{first_members, first_names, trim, trim_items, trim_members}
 use Rattle.cert_json.specs.WrittenJson.{NodeText}
+use Rattle.cert_json.specs.declared.faults.FileError.{FileError}
+use Rattle.cert_json.specs.declared.faults.FileError.TheVariants.{NotJson, Shape, TooMany, NoMemory}
 use Rattle.cert_json.specs.declared.level.Level.TheVariants.{File, FileMember, Node as NodeLevel, NodeMember}
 use Rattle.cert_json.proofs.FirstNames.{ascending_first}
 use Rattle.cert_json.proofs.KeptParts.{conds_kept, equations_kept, nodes_kept}
@@ -41,7 +43,7 @@ use Rattle.cert_text.specs.CertificateReading.{node_read, node_added, nodes_read
 use Rattle.cert_text.specs.JsonParts.{texts_of, items_or_none, members_or_none, number_or_zero, equations_in, node_text_in, node_texts, file_nodes, file_format}
 use Rattle.cert_text.specs.NodePointNames.{then_part, points_read}
 use Rattle.cert_text.specs.Refusals.{context_of, file_read, ComesTo, TellsNodes, SpellsNodes, IsRefusedAsCertificate}
-use Rattle.cert_text.specs.PartAnswers.{error_of}
+use Rattle.cert_text.specs.PartAnswers.{error_of_file, error_of}
 use Rattle.cert_text.specs.TextMeanings.{TextMeanings, AreRead}
 use Rattle.cert_text.proofs.FirstEquations.{few_known, first_read}
 use Rattle.cert_text.proofs.Refused.{nodes_refused}
@@ -267,3 +269,10 @@ pub refused : (a b : Fsmd) (bytes : List ℕ) (v : Data) (ps : List Position) (s
     → TellsNodes a b v (Err s) → IsRefusedAsCertificate a b bytes (error_of s)
 refused a b bytes v ps s paired same h told =
     nodes_refused a b bytes h.value s h.file (told_of_file a b bytes v s (few_here a b ps paired same) h told)
+
+-- a file that is refused before its nodes are looked at
+pub refused_as_file : (a b : Fsmd) (bytes : List ℕ) (e : FileError) → IsRefusedAsShape bytes e → IsRefusedAsCertificate a b bytes (error_of_file e)
+refused_as_file a b bytes NotJson h = h
+refused_as_file a b bytes Shape h = h
+refused_as_file a b bytes TooMany h = h
+refused_as_file a b bytes NoMemory h = h

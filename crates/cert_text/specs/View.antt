@@ -8,10 +8,10 @@ use Rattle.cert_terms.specs.NameTables.{name_number}
 use Rattle.cert_terms.specs.View.{place_in_tables, find_of}
 
 abbrev pub states_in : CodeContext → StateTables
-states_in c = record { a = c.a.now; b = c.b.now; left = name_number c.left_states; right = name_number c.right_states }
+states_in c = record { a = c.a.now; b = c.b.now; left = name_number c.left_states.now; right = name_number c.right_states.now }
 
 abbrev pub terms_in : Places → TermContext
 terms_in t = record { place = place_in_tables t; positions = t.positions.now; format = t.format; texts = meanings_by (find_of t) }
 
 abbrev pub context_in : CodeContext → Context
-context_in c = record { states = states_in c; terms = terms_in c.places }
+context_in c = record { states = states_in c; terms = terms_in c.places.now }

@@ -54,21 +54,21 @@ fn mode_named(text: &str) -> Mode
 #[tactic(auto, using(crate::proofs::Facts::unwritten_fit))]
 fn read_equations(
     alloc: Global,
-    c: &Context<'_>,
+    c: &Context<'_, '_>,
     node: u32,
     value: &Value<'_>,
     last: &mut Vec<Option<ReadText>>,
 ) -> Result<Vec<Option<SharedForm>>, Stop>
-    requires { AreLast c.now.places last.old.items }
+    requires { AreLast c.now.places.now last.old.items }
     ensures told { Tells (λ fs. fs.items) result
-        (equations_read (terms_in c.now.places) node (map (unwritten_equation c.now.places.format) c.now.places.positions.now)
-        (equations_in (view value.now))) }
-    ensures kept { IfOk result (λ fs. AreEquationsOf c.now.places.positions.now fs.items) }
-    ensures last { OnOk result (AreLast c.now.places last.new.items) }
+        (equations_read (terms_in c.now.places.now) node
+        (map (unwritten_equation c.now.places.now.format) c.now.places.now.positions.now) (equations_in (view value.now))) }
+    ensures kept { IfOk result (λ fs. AreEquationsOf c.now.places.now.positions.now fs.items) }
+    ensures last { OnOk result (AreLast c.now.places.now last.new.items) }
 {
     let mut forms = all_unwritten(alloc, c.places.format, c.places.positions)?;
     if let Some(members) = members_at(value, "equations") {
-        put_equations(alloc, &c.places, node, members, last, &mut forms)?;
+        put_equations(alloc, c.places, node, members, last, &mut forms)?;
     }
     Ok(forms)
 }
@@ -77,18 +77,18 @@ fn read_equations(
 #[tactic(auto, using(crate::proofs::Facts::fact_parts))]
 fn solved_fact(
     alloc: Global,
-    c: &Context<'_>,
+    c: &Context<'_, '_>,
     node: u32,
     forms: Vec<Option<SharedForm>>,
     conds: Vec<NLit>,
 ) -> Result<Fact, Stop>
-    requires pairing { c.now.pairing.now ≡ c.now.places.positions.now }
-    requires equations { AreEquationsOf c.now.places.positions.now forms.items }
+    requires pairing { c.now.pairing.now ≡ c.now.places.now.positions.now }
+    requires equations { AreEquationsOf c.now.places.now.positions.now forms.items }
     requires few { length conds.items ≤ most_literals }
     requires kept { IsTrue (list_all may_be_kept (map literal_in conds.items)) }
-    requires within { AllByRecursion (LiteralWithin (find_of c.now.places)) (map literal_in conds.items) }
-    ensures told { Tells (λ f. f) result (fact_read (terms_in c.now.places) node forms.items (map literal_in conds.items)) }
-    ensures of { IfOk result (λ f. IsFactOf c.now.places.positions.now f) }
+    requires within { AllByRecursion (LiteralWithin (find_of c.now.places.now)) (map literal_in conds.items) }
+    ensures told { Tells (λ f. f) result (fact_read (terms_in c.now.places.now) node forms.items (map literal_in conds.items)) }
+    ensures of { IfOk result (λ f. IsFactOf c.now.places.now.positions.now f) }
 {
     match Fact::of_shared(alloc, c.pairing, forms, conds) {
         Ok(fact) => Ok(fact),
@@ -103,25 +103,24 @@ fn solved_fact(
 #[tactic(auto, using(crate::proofs::Shapes::conds_few), unfolding(crate::specs::CertificateReading::node_fact))]
 fn read_fact(
     alloc: Global,
-    c: &Context<'_>,
+    c: &Context<'_, '_>,
     node: u32,
     value: &Value<'_>,
     last: &mut Vec<Option<ReadText>>,
 ) -> Result<Fact, Stop>
-    requires pairing { c.now.pairing.now ≡ c.now.places.positions.now }
+    requires pairing { c.now.pairing.now ≡ c.now.places.now.positions.now }
     requires few { has_many_conditions (view value.now) ≡ false }
-    requires last { AreLast c.now.places last.old.items }
-    ensures told { Tells (λ f. f) result (node_fact (terms_in c.now.places) node (node_text_in (view value.now))) }
-    ensures of { IfOk result (λ f. IsFactOf c.now.places.positions.now f) }
-    ensures last { OnOk result (AreLast c.now.places last.new.items) }
+    requires last { AreLast c.now.places.now last.old.items }
+    ensures told { Tells (λ f. f) result (node_fact (terms_in c.now.places.now) node (node_text_in (view value.now))) }
+    ensures of { IfOk result (λ f. IsFactOf c.now.places.now.positions.now f) }
+    ensures last { OnOk result (AreLast c.now.places.now last.new.items) }
 {
     let forms = read_equations(alloc, c, node, value, last)?;
-    let conds = read_conditions(alloc, &c.places, node, items_at(value, "conds"))?;
+    let conds = read_conditions(alloc, c.places, node, items_at(value, "conds"))?;
     solved_fact(alloc, c, node, forms, conds)
 }
 
 // The rank of a node.
-#[tactic(auto, using(crate::proofs::Shapes::rank_low))]
 fn rank_of(value: &Value<'_>) -> u32
     requires { is_node (view value.now) ≡ true }
     ensures same { result ≡ number_under (codes "rank") (view value.now) }
@@ -134,21 +133,21 @@ fn rank_of(value: &Value<'_>) -> u32
 #[tactic(auto, unfolding(crate::specs::CertificateReading::node_read))]
 fn read_node(
     alloc: Global,
-    c: &Context<'_>,
+    c: &Context<'_, '_>,
     node: u32,
     earlier: &[Node],
     value: &Value<'_>,
     last: &mut Vec<Option<ReadText>>,
 ) -> Result<Node, Stop>
-    requires pairing { c.now.pairing.now ≡ c.now.places.positions.now }
+    requires pairing { c.now.pairing.now ≡ c.now.places.now.positions.now }
     requires shape { is_node (view value.now) ≡ true }
     requires few { has_many_conditions (view value.now) ≡ false }
-    requires last { AreLast c.now.places last.old.items }
+    requires last { AreLast c.now.places.now last.old.items }
     ensures told { Tells node_of result
         (node_read (context_in c.now) node (map node_of earlier.now) (node_text_in (view value.now))) }
     ensures free { IfOk result (λ n. list_any (node_is_at (node_of n).left (node_of n).right) (map node_of earlier.now) ≡ false) }
-    ensures of { IfOk result (λ n. IsNodeOf c.now.a.now c.now.b.now c.now.places.positions.now (node_of n)) }
-    ensures last { OnOk result (AreLast c.now.places last.new.items) }
+    ensures of { IfOk result (λ n. IsNodeOf c.now.a.now c.now.b.now c.now.places.now.positions.now (node_of n)) }
+    ensures last { OnOk result (AreLast c.now.places.now last.new.items) }
 {
     let (left, right) = read_points(
         c,
@@ -170,23 +169,23 @@ fn read_node(
 // Adds a node to earlier ones.
 fn push_node(
     alloc: Global,
-    c: &Context<'_>,
+    c: &Context<'_, '_>,
     node: u32,
     nodes: &mut Vec<Node>,
     value: &Value<'_>,
     last: &mut Vec<Option<ReadText>>,
 ) -> Result<(), Stop>
-    requires pairing { c.now.pairing.now ≡ c.now.places.positions.now }
+    requires pairing { c.now.pairing.now ≡ c.now.places.now.positions.now }
     requires shape { is_node (view value.now) ≡ true }
     requires few { has_many_conditions (view value.now) ≡ false }
-    requires last { AreLast c.now.places last.old.items }
+    requires last { AreLast c.now.places.now last.old.items }
     ensures told { Tells (λ _. map node_of nodes.new.items) result
         (node_added (context_in c.now) node (map node_of nodes.old.items) (node_text_in (view value.now))) }
     ensures lawful { OnOk result
-        (AreNodesOf c.now.a.now c.now.b.now c.now.places.positions.now (map node_of nodes.old.items)
-        → AreNodesOf c.now.a.now c.now.b.now c.now.places.positions.now (map node_of nodes.new.items)) }
+        (AreNodesOf c.now.a.now c.now.b.now c.now.places.now.positions.now (map node_of nodes.old.items)
+        → AreNodesOf c.now.a.now c.now.b.now c.now.places.now.positions.now (map node_of nodes.new.items)) }
     ensures count { OnOk result (length nodes.new.items ≡ length nodes.old.items + 1) }
-    ensures last { OnOk result (AreLast c.now.places last.new.items) }
+    ensures last { OnOk result (AreLast c.now.places.now last.new.items) }
 {
     let next = read_node(alloc, c, node, nodes.as_slice(), value, last)?;
     nodes.push(next)?;
@@ -196,23 +195,23 @@ fn push_node(
 // Adds a node to earlier ones, and lets go of its value.
 fn push_value(
     alloc: Global,
-    c: &Context<'_>,
+    c: &Context<'_, '_>,
     node: u32,
     nodes: &mut Vec<Node>,
     value: Value<'_>,
     last: &mut Vec<Option<ReadText>>,
 ) -> Result<(), Stop>
-    requires pairing { c.now.pairing.now ≡ c.now.places.positions.now }
+    requires pairing { c.now.pairing.now ≡ c.now.places.now.positions.now }
     requires shape { is_node (view value) ≡ true }
     requires few { has_many_conditions (view value) ≡ false }
-    requires last { AreLast c.now.places last.old.items }
+    requires last { AreLast c.now.places.now last.old.items }
     ensures told { Tells (λ _. map node_of nodes.new.items) result
         (node_added (context_in c.now) node (map node_of nodes.old.items) (node_text_in (view value.entry))) }
     ensures lawful { OnOk result
-        (AreNodesOf c.now.a.now c.now.b.now c.now.places.positions.now (map node_of nodes.old.items)
-        → AreNodesOf c.now.a.now c.now.b.now c.now.places.positions.now (map node_of nodes.new.items)) }
+        (AreNodesOf c.now.a.now c.now.b.now c.now.places.now.positions.now (map node_of nodes.old.items)
+        → AreNodesOf c.now.a.now c.now.b.now c.now.places.now.positions.now (map node_of nodes.new.items)) }
     ensures count { OnOk result (length nodes.new.items ≡ length nodes.old.items + 1) }
-    ensures last { OnOk result (AreLast c.now.places last.new.items) }
+    ensures last { OnOk result (AreLast c.now.places.now last.new.items) }
 {
     let pushed = push_node(alloc, c, node, nodes, &value, last);
     drop(value);
@@ -221,17 +220,21 @@ fn push_value(
 
 /// The nodes of a file, in order. Each value is let go when its node is read, so that values and nodes are never all there at
 /// once.
-pub fn read_nodes(alloc: Global, c: &Context<'_>, values: Vec<Value<'_>>) -> Result<Vec<Node>, Stop>
-    requires pairing { c.now.pairing.now ≡ c.now.places.positions.now }
+pub fn read_nodes(
+    alloc: Global,
+    c: &Context<'_, '_>,
+    values: Vec<Value<'_>>,
+) -> Result<Vec<Node>, Stop>
+    requires pairing { c.now.pairing.now ≡ c.now.places.now.positions.now }
     requires shape { are_nodes (items_view values.items) ≡ true }
     requires few { some_has_many (items_view values.items) ≡ false }
     requires count { length values.items ≤ most_nodes }
     ensures told { Tells (λ ns. map node_of ns.items) result
         (nodes_read (context_in c.now) 0 [] (node_texts (items_view values.entry.items))) }
-    ensures of { IfOk result (λ ns. AreNodesOf c.now.a.now c.now.b.now c.now.places.positions.now (map node_of ns.items)) }
+    ensures of { IfOk result (λ ns. AreNodesOf c.now.a.now c.now.b.now c.now.places.now.positions.now (map node_of ns.items)) }
     ensures count { IfOk result (λ ns. length ns.items ≡ length values.entry.items) }
 {
-    let mut last = none_read(alloc, &c.places)?;
+    let mut last = none_read(alloc, c.places)?;
     let mut nodes = Vec::new(alloc);
     let mut rest = values.into_iter();
     while let Some(value) = rest.next() {

@@ -98,7 +98,7 @@ fn free_points(
 /// The points of a node behind earlier ones.
 #[tactic(auto, unfolding(crate::specs::NodePointNames::points_read))]
 pub fn read_points(
-    c: &Context<'_>,
+    c: &Context<'_, '_>,
     node: u32,
     earlier: &[Node],
     left: &[u8],
@@ -110,8 +110,8 @@ pub fn read_points(
     ensures left { IfOk result (λ P. is_point c.now.a.now (point_of P.0) ≡ true) }
     ensures right { IfOk result (λ P. is_point c.now.b.now (point_of P.1) ≡ true) }
 {
-    let first = known_point(node, &c.left_states, left)?;
-    let second = known_point(node, &c.right_states, right)?;
+    let first = known_point(node, c.left_states, left)?;
+    let second = known_point(node, c.right_states, right)?;
     let first = cut_point(node, c.a, first)?;
     let second = cut_point(node, c.b, second)?;
     free_points(node, earlier, first, second)

@@ -7,6 +7,8 @@ ghost use Rattle.cert_model.specs.Lawful.{IsLawful, most_nodes};
 ghost use Rattle.cert_model.specs.View.{node_of};
 ghost use Rattle.cert_json.specs.Refusals.{IsShortFileOf, IsRefusedAsShape};
 ghost use Rattle.cert_values.specs.Shape.{is_file, has_too_many};
+ghost use Rattle.cert_terms.specs.CertificateNames.{state_named};
+ghost use Rattle.cert_terms.specs.NameTables.{name_number};
 ghost use Rattle.cert_text.specs.JsonParts.{file_nodes};
 ghost use Rattle.cert_text.specs.CertificateReading.{nodes_read};
 ghost use Rattle.cert_text.specs.Refusals.{TellsNodes, SpellsNodes, IsRefusedAsCertificate};
@@ -14,13 +16,15 @@ ghost use Rattle.cert_text.specs.PartAnswers.{Tells, error_of_file as error_from
 ghost use Rattle.cert_text.specs.View.{context_in};
 ghost use Rattle.cert_text.specs.Within.{AreNodesOf};
 
-use crate::context::{Context, context_of};
+use crate::context::Context;
 use crate::faults::{CertError, Stop};
 use crate::nodes::read_nodes;
 use crate::parts::{number_at, take_items};
 use cert_json::faults::FileError;
 use cert_json::reader::{Room, read_file};
 use cert_model::cert::Cert;
+use cert_terms::name_places::{places_of, state_tables};
+use cert_terms::table::NameTable;
 use cert_values::value::Value;
 use fs_ast::machine::Machine;
 use fs_pair::positions::Pairing;
@@ -28,27 +32,60 @@ use std::alloc::Global;
 
 // The certificate of a file, of which the nodes are taken out, over what it is read against.
 #[tactic(auto, using(crate::proofs::Shapes::file_shapes))]
-fn read_against(alloc: Global, c: &Context<'_>, value: &mut Value<'_>) -> Result<Cert, Stop>
-    requires pairing { c.now.pairing.now ≡ c.now.places.positions.now }
+fn read_against(alloc: Global, c: &Context<'_, '_>, value: &mut Value<'_>) -> Result<Cert, Stop>
+    requires pairing { c.now.pairing.now ≡ c.now.places.now.positions.now }
     requires shape { is_file (view value.old) ≡ true }
     requires few { has_too_many (view value.old) ≡ false }
     ensures told { Tells (λ cert. map node_of cert.nodes.items) result
         (nodes_read (context_in c.now) 0 [] (file_nodes (view value.old))) }
     ensures of { IfOk result
-        (λ cert. AreNodesOf c.now.a.now c.now.b.now c.now.places.positions.now (map node_of cert.nodes.items)) }
+        (λ cert. AreNodesOf c.now.a.now c.now.b.now c.now.places.now.positions.now (map node_of cert.nodes.items)) }
     ensures few { IfOk result (λ cert. length cert.nodes.items ≤ most_nodes) }
 {
     let nodes = read_nodes(alloc, c, take_items(alloc, value, "nodes"))?;
     Ok(Cert { nodes })
 }
 
-// The certificate of a file, of which the nodes are taken out.
-fn read_value(
+// The certificate of a file, of which the nodes are taken out, by the tables of the names of states.
+fn read_by_states<'a>(
     alloc: Global,
     value: &mut Value<'_>,
-    a: &Machine,
-    b: &Machine,
-    p: &Pairing,
+    a: &'a Machine,
+    b: &'a Machine,
+    p: &'a Pairing,
+    states: &(NameTable<'a>, NameTable<'a>),
+) -> Result<Cert, Stop>
+    requires pairing { p.now ≡ positions a.now b.now }
+    requires left { (x : List ℕ) → name_number states.now.0 x ≡ state_named a.now x }
+    requires right { (x : List ℕ) → name_number states.now.1 x ≡ state_named b.now x }
+    requires shape { is_file (view value.old) ≡ true }
+    requires few { has_too_many (view value.old) ≡ false }
+    ensures told { TellsNodes a.now b.now (view value.old) result }
+    ensures lawful { IfOk result (λ c. IsLawful a.now b.now (map node_of c.nodes.items)) }
+{
+    match places_of(alloc, a, b, p, number_at(value, "format")) {
+        Ok(places) => {
+            let context = Context {
+                a,
+                b,
+                pairing: p,
+                left_states: &states.0,
+                right_states: &states.1,
+                places: &places,
+            };
+            read_against(alloc, &context, value)
+        }
+        Err(_) => Err(Stop::NoMemory),
+    }
+}
+
+// The certificate of a file, of which the nodes are taken out.
+fn read_value<'a>(
+    alloc: Global,
+    value: &mut Value<'_>,
+    a: &'a Machine,
+    b: &'a Machine,
+    p: &'a Pairing,
 ) -> Result<Cert, Stop>
     requires pairing { p.now ≡ positions a.now b.now }
     requires shape { is_file (view value.old) ≡ true }
@@ -56,8 +93,8 @@ fn read_value(
     ensures told { TellsNodes a.now b.now (view value.old) result }
     ensures lawful { IfOk result (λ c. IsLawful a.now b.now (map node_of c.nodes.items)) }
 {
-    match context_of(alloc, a, b, p, number_at(value, "format")) {
-        Ok(context) => read_against(alloc, &context, value),
+    match state_tables(alloc, a, b) {
+        Ok(states) => read_by_states(alloc, value, a, b, p, &states),
         Err(_) => Err(Stop::NoMemory),
     }
 }
