@@ -1,13 +1,15 @@
 -- A list that is in order where a test holds of each item and of what is behind it: a loop's next item, where the test holds and where it fails.
-use Rattle.std.proofs.Common.{◌≡◌, ℕ, ℤ, pos, ◌+◌, ◌-◌, ◌<◌, Bool, true, false, not, ◌&&◌, List, ◌∷◌, map, take, drop, length, get_or}
-use Rattle.std.proofs.Common.{of_z, refl, ap, sym, ◌∙◌, arith}
+use Rattle.std.proofs.Common.{◌≡◌, ℕ, ℤ, pos, ◌+◌, ◌-◌, ◌<◌, Bool, true, false, not, ◌&&◌, ◌||◌, List, [], ◌∷◌, map, take, drop, length, get_or}
+use Rattle.std.proofs.Common.{int_lt, slice_get, Some, None, of_z, to_z, FitsSigned, refl, ap, sym, ◌∙◌, arith}
 use Rattle.std.specs.Int.{w128}
+use Rattle.std.proofs.lemmas.Int.{to_z-of_z}
 use Rattle.std.specs.Ordering.{int_eq}
 use Rattle.std.proofs.lemmas.Bool.Decides.{Decides-int_eq}
 use Rattle.std.proofs.lemmas.List.{take_all, length-drop}
 use Rattle.fs_model.proofs.Lists.{drop_next}
-use Rattle.nf_terms.specs.NormalTerms.{monomial_of, polynomial_of, writes_of}
+use Rattle.nf_terms.specs.NormalTerms.{Polynomial, monomial_of, polynomial_of, writes_of}
 use Rattle.nf_terms.specs.Normal.{atom_rises, monomial_rises, write_rises, is_written, ordered_atom, ordered_monomial, ordered}
+use Rattle.nf_terms.specs.Normal.{differ_by_constant, constant_part}
 use Rattle.nf_terms.specs.View.{atom_in, monomial_in, polynomial_in, term_in, write_in}
 use Rattle.nf_terms.specs.declared.tree.Atom.{Atom}
 use Rattle.nf_terms.specs.declared.tree.MonoTree.{MonoTree}
@@ -47,6 +49,13 @@ pub both_hold : (a b : Bool) → a ≡ true → b ≡ true → (a && b) ≡ true
 both_hold true b e h = h
 both_hold false b e h = e
 
+-- what a chain of tests gives so far, with the last one that was made: all before it hold, or one of them fails
+pub one_more_test : (before last : Bool) {a v : Bool} → a ≡ before → a ≡ true → v ≡ last → v ≡ (before && last)
+one_more_test before last p h e = e ∙ ap (λ b. b && last) (sym (sym p ∙ h))
+
+pub no_more_test : (before last : Bool) {a v : Bool} → a ≡ before → a ≡ false → v ≡ a → v ≡ (before && last)
+no_more_test before last p h e = e ∙ h ∙ ap (λ b. b && last) (sym (sym p ∙ h))
+
 -- what the bits of a number tell of whether it is 0
 pub is_not_zero : (z : ℤ) → (of_z w128 z ≡ 0 → ⊥) → not (int_eq z (pos 0)) ≡ true
 is_not_zero z h = by_test (int_eq z (pos 0)) (Decides-int_eq z (pos 0)).0
@@ -54,3 +63,19 @@ is_not_zero z h = by_test (int_eq z (pos 0)) (Decides-int_eq z (pos 0)).0
     by_test : (b : Bool) → (b ≡ true → z ≡ pos 0) → not b ≡ true
     by_test false f = refl
     by_test true f = absurd (h (ap (of_z w128) (f refl)))
+
+pub is_zero : (z : ℤ) → FitsSigned w128 z → of_z w128 z ≡ 0 → int_eq z (pos 0) ≡ true
+is_zero z f e = ap (λ y. int_eq y (pos 0)) (sym (to_z-of_z w128 z f) ∙ ap (to_z w128) e)
+
+-- a write rises over the first one of those behind it
+pub rises_over_none : (i : Polynomial) (ws : List (PolyTree × PolyTree)) → slice_get ws 0 ≡ None → write_rises i (writes_of (map write_in ws)) ≡ true
+rises_over_none i [] e = refl
+rises_over_none i (w ∷ ws) e = absurd (cc e)
+
+pub rises_over_first : (i : Polynomial) (ws : List (PolyTree × PolyTree)) (x : PolyTree × PolyTree) → slice_get ws 0 ≡ Some x
+    → write_rises i (writes_of (map write_in ws))
+    ≡ (not (differ_by_constant i (polynomial_in x.0)) || int_lt (constant_part i) (constant_part (polynomial_in x.0)))
+rises_over_first i [] x e = absurd (cc e)
+rises_over_first i (w ∷ ws) x e =
+    let same : w ≡ x = cc e in
+    ap (λ y. not (differ_by_constant i (polynomial_in y.0)) || int_lt (constant_part i) (constant_part (polynomial_in y.0))) same

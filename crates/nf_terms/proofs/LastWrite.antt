@@ -52,5 +52,3 @@ pub stays_symbol : (a : ArrTree) (p : Pos) (i : Polynomial) → slice_get (out-A
     → (out-ArrTree a).base ≡ base.Sym p → stays_read (array_in a) i ≡ true
 stays_symbol a p i e b = ap (λ t. stays_read t i) (array_in-is a) ∙ stays_bare (out-ArrTree a).base (out-ArrTree a).writes.items i e
     ∙ ap (λ z. stays_read (Over z NoWrites) i) b
-
-pub ruleset last_write = (stays_with_last, stays_zero, stays_symbol)

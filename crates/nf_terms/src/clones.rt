@@ -4,7 +4,7 @@ ghost use Rattle.std.specs.Prelude.{◌≡◌, IfOk};
 ghost use Rattle.nf_terms.specs.View.{atom_in, monomial_in, polynomial_in, array_in};
 
 use crate::atoms::{make_quotient, make_read, make_remainder};
-use crate::copies::{push_atom, push_term, push_write};
+use crate::copies::{both, push_atom, push_term, push_write};
 use crate::stop::NoMemory;
 use crate::tree::{ArrTree, Atom, MonoTree, PolyTree};
 use std::alloc::Global;
@@ -18,13 +18,16 @@ impl Atom {
         match self {
             Atom::Sym(p) => Ok(Atom::Sym(*p)),
             Atom::Read(array, index) => {
-                make_read(alloc, array.try_clone(alloc)?, index.try_clone(alloc)?)
+                let (array, index) = both(array.try_clone(alloc), index.try_clone(alloc))?;
+                make_read(alloc, array, index)
             }
             Atom::Div(left, right) => {
-                make_quotient(alloc, left.try_clone(alloc)?, right.try_clone(alloc)?)
+                let (left, right) = both(left.try_clone(alloc), right.try_clone(alloc))?;
+                make_quotient(alloc, left, right)
             }
             Atom::Rem(left, right) => {
-                make_remainder(alloc, left.try_clone(alloc)?, right.try_clone(alloc)?)
+                let (left, right) = both(left.try_clone(alloc), right.try_clone(alloc))?;
+                make_remainder(alloc, left, right)
             }
         }
     }
@@ -66,11 +69,8 @@ impl ArrTree {
     {
         let mut writes = Vec::with_capacity(alloc, self.writes.len())?;
         for (index, value) in &self.writes {
-            push_write(
-                &mut writes,
-                index.try_clone(alloc)?,
-                value.try_clone(alloc)?,
-            )?;
+            let (index, value) = both(index.try_clone(alloc), value.try_clone(alloc))?;
+            push_write(&mut writes, index, value)?;
         }
         Ok(ArrTree {
             base: self.base,

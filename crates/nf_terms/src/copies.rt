@@ -1,10 +1,21 @@
-//! Lists that grow.
+//! Copies, and lists that grow.
 
-ghost use Rattle.std.specs.Prelude.{◌≡◌, ◌++◌, ◌∷◌, [], map, OnOk};
+ghost use Rattle.std.specs.Prelude.{◌≡◌, ◌++◌, ◌∷◌, [], map, Ok, IfOk, OnOk};
 ghost use Rattle.nf_terms.specs.View.{atom_in, monomial_in, polynomial_in, term_in, write_in};
 
 use crate::stop::NoMemory;
 use crate::tree::{Atom, MonoTree, PolyTree};
+
+/// Two copies that were made, or that one of them was refused.
+pub(crate) fn both<A: Drop, B: Drop>(
+    left: Result<A, NoMemory>,
+    right: Result<B, NoMemory>,
+) -> Result<(A, B), NoMemory>
+    ensures left { IfOk result (λ p. left ≡ Ok p.0) }
+    ensures right { IfOk result (λ p. right ≡ Ok p.1) }
+{
+    Ok((left?, right?))
+}
 
 /// Adds an atom. The one refusal is out of memory.
 pub fn push_atom(out: &mut Vec<Atom>, atom: Atom) -> Result<(), NoMemory>

@@ -65,7 +65,10 @@ pub fn arr_mentions(arr: &ArrTree, p: &Pos) -> bool
         return true;
     }
     for (index, value) in &arr.writes {
-        if poly_mentions(index, p) || poly_mentions(value, p) {
+        if poly_mentions(index, p) {
+            return true;
+        }
+        if poly_mentions(value, p) {
             return true;
         }
     }

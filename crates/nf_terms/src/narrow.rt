@@ -63,10 +63,16 @@ pub fn is_narrow_arr(arr: &ArrTree) -> bool
     ensures { result ≡ narrow_array (array_in arr.now) }
 {
     for (index, value) in &arr.writes {
-        if !is_light(index) || !is_narrow_inside(index) {
+        if !is_light(index) {
             return false;
         }
-        if !is_light(value) || !is_narrow_inside(value) {
+        if !is_narrow_inside(index) {
+            return false;
+        }
+        if !is_light(value) {
+            return false;
+        }
+        if !is_narrow_inside(value) {
             return false;
         }
     }

@@ -17,7 +17,7 @@ pub fn is_written(index: &PolyTree, writes: &[(PolyTree, PolyTree)]) -> bool
     ensures { result ≡ written (polynomial_in index.now) (writes_of (map write_in writes.now)) }
 {
     for (other, _value) in writes {
-        if compare_polys(index, other) == Ordering::Equal {
+        if compare_polys(index, other).is_eq() {
             return true;
         }
     }
@@ -57,7 +57,6 @@ fn monomial_rises(mono: &MonoTree, later: &[(MonoTree, i128)]) -> bool
 }
 
 /// Whether a read of the array at the index stays an atom.
-#[tactic(auto, using(crate::proofs::LastWrite::last_write))]
 pub fn stays_read(array: &ArrTree, index: &PolyTree) -> bool
     ensures { result ≡ stays (array_in array.now) (polynomial_in index.now) }
 {

@@ -1,9 +1,14 @@
-use Rattle.std.proofs.Common.{◌+◌, ◌||◌, ap, sym, ◌∙◌, map, drop}
+use Rattle.std.proofs.Common.{◌+◌, ◌||◌, refl, ap, sym, ◌∙◌, map, drop}
 use Rattle.std.proofs.lemmas.List.{at_drop_all}
 use Rattle.fs_model.proofs.Lists.{map_drop_next}
-use Rattle.nf_terms.specs.NormalTerms.{monomial_of, polynomial_of}
-use Rattle.nf_terms.specs.Mentions.{mentions_monomial, mentions}
-use Rattle.nf_terms.specs.View.{atom_in, term_in}
+use Rattle.nf_terms.specs.NormalTerms.{monomial_of, polynomial_of, writes_of}
+use Rattle.nf_terms.specs.Mentions.{mentions_atom, mentions_monomial, mentions, mentions_writes, mentions_array}
+use Rattle.nf_terms.specs.View.{atom_in, polynomial_in, array_in, term_in, write_in}
+use Rattle.nf_terms.specs.declared.tree.ArrTree.{out-ArrTree}
+use Rattle.nf_terms.proofs.Compared.{polynomial_in-is}
+use Rattle.nf_terms.proofs.Degrees.{monomial_in-is}
+use Rattle.nf_terms.proofs.LastWrite.{array_in-is}
+use Rattle.nf_terms.proofs.TreeParts.{atom_of_read, of_division}
 use Rattle.nf_terms.proofs.mentions.+names.Goals as goal
 
 pub mono_mentions-loop-atom-preserved : goal.mono_mentions-loop-atom-preserved
@@ -52,3 +57,104 @@ pub poly_mentions-returns : goal.poly_mentions-returns
 poly_mentions-returns t c =
     sym (at_drop_all (λ ys. mentions c.args.p.now (polynomial_of (map term_in ys))) c.deref-mono-items.result.now c.loop-mono.mono-index c.loop-mono-test.false)
     ∙ c.loop-mono.invariant
+
+pub arr_mentions-returns-then-poly_mentions : goal.arr_mentions-returns-then-poly_mentions
+arr_mentions-returns-then-poly_mentions t c =
+    let p = c.args.p.now in
+    let xs = c.deref-index-items.result.now in
+    let i = c.loop-index.index-index in
+    let x = c.loop-index-item.result in
+    let later = mentions_writes p (writes_of (map write_in (drop (i + 1) xs))) in
+    ap (λ b. b || mentions p (polynomial_in x.1) || later) (sym c.if-poly_mentions.true ∙ c.poly_mentions.ensures)
+    ∙ ap (λ ys. mentions_writes p (writes_of ys)) (sym (map_drop_next write_in xs i x c.loop-index-test.true c.loop-index-item.is))
+    ∙ c.loop-index.invariant
+
+pub arr_mentions-returns-then-poly_mentions-2 : goal.arr_mentions-returns-then-poly_mentions-2
+arr_mentions-returns-then-poly_mentions-2 t c =
+    let p = c.args.p.now in
+    let xs = c.deref-index-items.result.now in
+    let i = c.loop-index.index-index in
+    let x = c.loop-index-item.result in
+    let later = mentions_writes p (writes_of (map write_in (drop (i + 1) xs))) in
+    ap (λ b. b || later) (sym c.if-poly_mentions-2.true ∙ c.poly_mentions-in-loop-index.ensures)
+    ∙ ap (λ b. b || mentions p (polynomial_in x.1) || later) (sym c.if-poly_mentions.false ∙ c.poly_mentions.ensures)
+    ∙ ap (λ ys. mentions_writes p (writes_of ys)) (sym (map_drop_next write_in xs i x c.loop-index-test.true c.loop-index-item.is))
+    ∙ c.loop-index.invariant
+
+pub arr_mentions-loop-index-preserved : goal.arr_mentions-loop-index-preserved
+arr_mentions-loop-index-preserved t c =
+    let p = c.args.p.now in
+    let xs = c.deref-index-items.result.now in
+    let i = c.loop-index.index-index in
+    let x = c.loop-index-item.result in
+    let later = mentions_writes p (writes_of (map write_in (drop (i + 1) xs))) in
+    ap (λ b. b || later) (sym c.if-poly_mentions-2.false ∙ c.poly_mentions-in-loop-index.ensures)
+    ∙ ap (λ b. b || mentions p (polynomial_in x.1) || later) (sym c.if-poly_mentions.false ∙ c.poly_mentions.ensures)
+    ∙ ap (λ ys. mentions_writes p (writes_of ys)) (sym (map_drop_next write_in xs i x c.loop-index-test.true c.loop-index-item.is))
+    ∙ c.loop-index.invariant
+
+pub arr_mentions-returns : goal.arr_mentions-returns
+arr_mentions-returns t c =
+    sym (at_drop_all (λ ys. mentions_writes c.args.p.now (writes_of (map write_in ys)))
+    c.deref-index-items.result.now c.loop-index.index-index c.loop-index-test.false)
+    ∙ c.loop-index.invariant
+
+pub mono_mentions-loop-atom-init : goal.mono_mentions-loop-atom-init
+mono_mentions-loop-atom-init t c =
+    let p = c.args.p.now in
+    ap (λ xs. mentions_monomial p (monomial_of (map atom_in xs))) c.deref-atom-items.ensures.value
+    ∙ sym (ap (mentions_monomial p) (monomial_in-is c.args.mono.now))
+
+pub poly_mentions-loop-mono-init : goal.poly_mentions-loop-mono-init
+poly_mentions-loop-mono-init t c =
+    let p = c.args.p.now in
+    ap (λ xs. mentions p (polynomial_of (map term_in xs))) c.deref-mono-items.ensures.value ∙ sym (ap (mentions p) (polynomial_in-is c.args.poly.now))
+
+pub arr_mentions-loop-index-init : goal.arr_mentions-loop-index-init
+arr_mentions-loop-index-init t c =
+    let p = c.args.p.now in
+    let a = c.args.arr.now in
+    ap (λ xs. mentions_writes p (writes_of (map write_in xs))) c.deref-index-items.ensures.value
+    ∙ ap (λ b. b || mentions_writes p (writes_of (map write_in (out-ArrTree a).writes.items))) (sym (sym c.base_mentions.ensures ∙ c.if-base_mentions.false))
+    ∙ sym (ap (mentions_array p) (array_in-is a))
+
+pub arr_mentions-returns-then-base_mentions : goal.arr_mentions-returns-then-base_mentions
+arr_mentions-returns-then-base_mentions t c =
+    let p = c.args.p.now in
+    let a = c.args.arr.now in
+    sym (ap (mentions_array p) (array_in-is a)
+    ∙ ap (λ b. b || mentions_writes p (writes_of (map write_in (out-ArrTree a).writes.items))) (sym c.base_mentions.ensures ∙ c.if-base_mentions.true))
+
+pub atom_mentions-returns-then-arr_mentions : goal.atom_mentions-returns-then-arr_mentions
+atom_mentions-returns-then-arr_mentions t c =
+    let p = c.args.p.now in
+    let array = c.arr_mentions.ensures ∙ ap (λ a. mentions_array p (array_in a)) c.deref.ensures in
+    c.if-arr_mentions.true
+    ∙ sym (ap (mentions_atom p) (atom_of_read c.args.atom.now c.in-Read.array c.in-Read.index c.in-Read.is)
+    ∙ ap (λ b. b || mentions p (polynomial_in c.in-Read.index.value)) (sym array ∙ c.if-arr_mentions.true))
+
+pub atom_mentions-returns-else-arr_mentions : goal.atom_mentions-returns-else-arr_mentions
+atom_mentions-returns-else-arr_mentions t c =
+    let p = c.args.p.now in
+    let array = c.arr_mentions.ensures ∙ ap (λ a. mentions_array p (array_in a)) c.deref.ensures in
+    c.poly_mentions.ensures
+    ∙ ap (λ i. mentions p (polynomial_in i)) c.deref-else-arr_mentions.ensures
+    ∙ sym (ap (mentions_atom p) (atom_of_read c.args.atom.now c.in-Read.array c.in-Read.index c.in-Read.is)
+    ∙ ap (λ b. b || mentions p (polynomial_in c.in-Read.index.value)) (sym array ∙ c.if-arr_mentions.false))
+
+pub atom_mentions-returns-then-poly_mentions : goal.atom_mentions-returns-then-poly_mentions
+atom_mentions-returns-then-poly_mentions t c =
+    let p = c.args.p.now in
+    let left = c.poly_mentions-in-Div.ensures ∙ ap (λ l. mentions p (polynomial_in l)) c.deref-in-Div.ensures in
+    c.if-poly_mentions.true
+    ∙ sym (of_division (mentions_atom p) c.args.atom.now c.in-Div.left c.in-Div.right refl c.in-Div.is
+    ∙ ap (λ b. b || mentions p (polynomial_in c.in-Div.right.value)) (sym left ∙ c.if-poly_mentions.true))
+
+pub atom_mentions-returns-else-poly_mentions : goal.atom_mentions-returns-else-poly_mentions
+atom_mentions-returns-else-poly_mentions t c =
+    let p = c.args.p.now in
+    let left = c.poly_mentions-in-Div.ensures ∙ ap (λ l. mentions p (polynomial_in l)) c.deref-in-Div.ensures in
+    c.poly_mentions-else-poly_mentions.ensures
+    ∙ ap (λ r. mentions p (polynomial_in r)) c.deref-else-poly_mentions.ensures
+    ∙ sym (of_division (mentions_atom p) c.args.atom.now c.in-Div.left c.in-Div.right refl c.in-Div.is
+    ∙ ap (λ b. b || mentions p (polynomial_in c.in-Div.right.value)) (sym left ∙ c.if-poly_mentions.false))

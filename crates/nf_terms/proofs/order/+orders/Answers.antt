@@ -1,6 +1,10 @@
 use Rattle.std.proofs.Common.{◌≡◌, length, sym, ap, subst, arith, ◌∙◌}
 use Rattle.std.specs.Ordering.{nat_cmp, ordering_then}
 use Rattle.std.specs.Slice.{IsItemAt}
+use Rattle.nf_terms.specs.NormalTerms.{Symbol}
+use Rattle.nf_terms.specs.Order.{cmp_atom, cmp_array, cmp_polynomial}
+use Rattle.nf_terms.specs.View.{atom_in, polynomial_in, array_in}
+use Rattle.nf_terms.proofs.TreeParts.{atom_of_symbol, atom_of_read, atom_of_quotient, atom_of_remainder}
 use Rattle.nf_terms.proofs.Degrees.{same_degree}
 use Rattle.nf_terms.proofs.Compared.{terms_compared, writes_compared, compare_atom_lists, compare_term_lists, compare_write_lists}
 use Rattle.nf_terms.proofs.Compared.{atom_lists, term_lists, write_lists, right_ends, left_ends, both_end, decided, tied}
@@ -144,3 +148,41 @@ compare_monos-loop-i-init t c =
     ap (λ xs. compare_atom_lists xs r.atoms.items) c.deref-a-items.ensures.value
     ∙ sym (same_degree l r
     (ap (λ n. nat_cmp n (length l.atoms.items)) (sym theirs) ∙ ap (nat_cmp c.len.result) (sym ours) ∙ sym c.cmp.ensures ∙ c.in-Equal.is))
+
+pub compare_atoms-returns-in-Sym-r : goal.compare_atoms-returns-in-Sym-r
+compare_atoms-returns-in-Sym-r t c =
+    c.compare_pos.ensures
+    ∙ sym (ap (λ a. cmp_atom a (atom_in c.args.r.now)) (atom_of_symbol c.args.l.now c.in-Sym.p c.in-Sym.is)
+    ∙ ap (cmp_atom (Symbol c.in-Sym.p)) (atom_of_symbol c.args.r.now c.in-Sym-r.q c.in-Sym-r.is))
+
+pub compare_atoms-returns-in-Read-r-2 : goal.compare_atoms-returns-in-Read-r-2
+compare_atoms-returns-in-Read-r-2 t c =
+    let arrays = c.compare_arrs.ensures ∙ (λ k. cmp_array (array_in (c.deref.ensures k)) (array_in (c.deref-in-Read-r-2.ensures k))) in
+    let indices = c.compare_polys.ensures
+    ∙ (λ k. cmp_polynomial (polynomial_in (c.deref-in-Read-r-2-2.ensures k)) (polynomial_in (c.deref-in-Read-r-2-3.ensures k))) in
+    c.then.ensures
+    ∙ (λ k. ordering_then (arrays k) (indices k))
+    ∙ sym (λ k. cmp_atom (atom_of_read c.args.l.now c.in-Read.a c.in-Read.i c.in-Read.is k)
+    (atom_of_read c.args.r.now c.in-Read-r-2.b c.in-Read-r-2.j c.in-Read-r-2.is k))
+
+pub compare_atoms-returns-in-Div-r-2 : goal.compare_atoms-returns-in-Div-r-2
+compare_atoms-returns-in-Div-r-2 t c =
+    let left = c.compare_polys-in-Div-r-2.ensures
+    ∙ (λ k. cmp_polynomial (polynomial_in (c.deref-in-Div-r-2.ensures k)) (polynomial_in (c.deref-in-Div-r-2-2.ensures k))) in
+    let right = c.compare_polys-in-Div-r-2-2.ensures
+    ∙ (λ k. cmp_polynomial (polynomial_in (c.deref-in-Div-r-2-3.ensures k)) (polynomial_in (c.deref-in-Div-r-2-4.ensures k))) in
+    c.then-in-Div-r-2.ensures
+    ∙ (λ k. ordering_then (left k) (right k))
+    ∙ sym (λ k. cmp_atom (atom_of_quotient c.args.l.now c.in-Div.a c.in-Div.b c.in-Div.is k)
+    (atom_of_quotient c.args.r.now c.in-Div-r-2.c c.in-Div-r-2.d c.in-Div-r-2.is k))
+
+pub compare_atoms-returns-in-Rem-r-2 : goal.compare_atoms-returns-in-Rem-r-2
+compare_atoms-returns-in-Rem-r-2 t c =
+    let left = c.compare_polys-in-Rem-r-2.ensures
+    ∙ (λ k. cmp_polynomial (polynomial_in (c.deref-in-Rem-r-2.ensures k)) (polynomial_in (c.deref-in-Rem-r-2-2.ensures k))) in
+    let right = c.compare_polys-in-Rem-r-2-2.ensures
+    ∙ (λ k. cmp_polynomial (polynomial_in (c.deref-in-Rem-r-2-3.ensures k)) (polynomial_in (c.deref-in-Rem-r-2-4.ensures k))) in
+    c.then-in-Rem-r-2.ensures
+    ∙ (λ k. ordering_then (left k) (right k))
+    ∙ sym (λ k. cmp_atom (atom_of_remainder c.args.l.now c.in-Rem.a c.in-Rem.b c.in-Rem.is k)
+    (atom_of_remainder c.args.r.now c.in-Rem-r-2.c c.in-Rem-r-2.d c.in-Rem-r-2.is k))

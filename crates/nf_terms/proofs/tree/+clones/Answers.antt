@@ -4,7 +4,9 @@ use Rattle.nf_terms.specs.View.{atom_in, polynomial_in, array_in, term_in, write
 use Rattle.nf_terms.specs.declared.tree.ArrTree.{out-ArrTree}
 use Rattle.nf_terms.proofs.TreeParts.{atom_of_read, atom_of_quotient, atom_of_remainder, polynomial_of_terms, array_over_writes}
 use Rattle.nf_terms.proofs.Degrees.{monomial_in-is}
-use Rattle.nf_terms.proofs.Loops.{one_more, all_there}
+use Rattle.nf_terms.proofs.Compared.{polynomial_in-is}
+use Rattle.nf_terms.proofs.LastWrite.{array_in-is}
+use Rattle.nf_terms.proofs.Loops.{one_more, all_there, copied}
 use Rattle.nf_terms.proofs.tree.+clones.Goals as goal
 
 pub MonoTree::try_clone-loop-atom-preserved : goal.MonoTree::try_clone-loop-atom-preserved
@@ -27,9 +29,11 @@ PolyTree::try_clone-loop-mono-preserved t c =
 pub ArrTree::try_clone-loop-index-preserved : goal.ArrTree::try_clone-loop-index-preserved
 ArrTree::try_clone-loop-index-preserved t c =
     let old = map write_in c.loop-index.writes.items in
+    let index = copied polynomial_in c.try_clone.ensures c.in_ok-index.ensures.left in
+    let value = copied polynomial_in c.try_clone-in-loop-index.ensures c.in_ok-index.ensures.right in
     ap (λ ws. Over (out-ArrTree c.args.self.now).base (writes_of ws))
     (one_more write_in old _ c.deref-index-items.result.now c.loop-index.index-index c.loop-index-item.result c.loop-index-test.true c.loop-index-item.is
-    (c.in_ok-push_write.ensures ∙ (λ j. old ++ (c.in_ok-try_clone.ensures j, c.in_ok-try_clone-2.ensures j) ∷ [])))
+    (c.in_ok-push_write.ensures ∙ (λ j. old ++ (index j, value j) ∷ [])))
     ∙ c.loop-index.invariant
 
 pub MonoTree::try_clone-returns : goal.MonoTree::try_clone-returns
@@ -51,23 +55,50 @@ ArrTree::try_clone-returns t c =
     (all_there write_in (map write_in c.loop-index.writes.items) c.deref-index-items.result.now c.loop-index.index-index c.loop-index-test.false)
     ∙ c.loop-index.invariant
 
-pub Atom::try_clone-returns-in_ok-try_clone-in-Read-2 : goal.Atom::try_clone-returns-in_ok-try_clone-in-Read-2
-Atom::try_clone-returns-in_ok-try_clone-in-Read-2 t c =
-    let parts = (λ j. Read (c.in_ok-try_clone-in-Read.ensures j) (c.in_ok-try_clone-in-Read-2.ensures j))
+pub Atom::try_clone-returns-in_ok-array-in-Read : goal.Atom::try_clone-returns-in_ok-array-in-Read
+Atom::try_clone-returns-in_ok-array-in-Read t c =
+    let array = copied array_in c.try_clone.ensures c.in_ok-array-in-Read.ensures.left in
+    let index = copied polynomial_in c.try_clone-in-Read.ensures c.in_ok-array-in-Read.ensures.right in
+    let parts = (λ j. Read (array j) (index j))
     ∙ (λ j. Read (array_in (c.deref.ensures j)) (polynomial_in (c.deref-in-Read.ensures j)))
     ∙ sym (atom_of_read c.args.self.now c.in-Read.array c.in-Read.index c.in-Read.is) in
     subst (λ x. IfOk c.make_read.result (λ a. atom_in a ≡ x)) parts c.make_read.ensures
 
-pub Atom::try_clone-returns-in_ok-try_clone-in-Div-2 : goal.Atom::try_clone-returns-in_ok-try_clone-in-Div-2
-Atom::try_clone-returns-in_ok-try_clone-in-Div-2 t c =
-    let parts = (λ j. Quotient (c.in_ok-try_clone-in-Div.ensures j) (c.in_ok-try_clone-in-Div-2.ensures j))
+pub Atom::try_clone-returns-in_ok-left-in-Div : goal.Atom::try_clone-returns-in_ok-left-in-Div
+Atom::try_clone-returns-in_ok-left-in-Div t c =
+    let left = copied polynomial_in c.try_clone-in-Div.ensures c.in_ok-left-in-Div.ensures.left in
+    let right = copied polynomial_in c.try_clone-in-Div-2.ensures c.in_ok-left-in-Div.ensures.right in
+    let parts = (λ j. Quotient (left j) (right j))
     ∙ (λ j. Quotient (polynomial_in (c.deref-in-Div.ensures j)) (polynomial_in (c.deref-in-Div-2.ensures j)))
     ∙ sym (atom_of_quotient c.args.self.now c.in-Div.left c.in-Div.right c.in-Div.is) in
     subst (λ x. IfOk c.make_quotient.result (λ a. atom_in a ≡ x)) parts c.make_quotient.ensures
 
-pub Atom::try_clone-returns-in_ok-try_clone-in-Rem-2 : goal.Atom::try_clone-returns-in_ok-try_clone-in-Rem-2
-Atom::try_clone-returns-in_ok-try_clone-in-Rem-2 t c =
-    let parts = (λ j. Remainder (c.in_ok-try_clone-in-Rem.ensures j) (c.in_ok-try_clone-in-Rem-2.ensures j))
+pub Atom::try_clone-returns-in_ok-left-in-Rem : goal.Atom::try_clone-returns-in_ok-left-in-Rem
+Atom::try_clone-returns-in_ok-left-in-Rem t c =
+    let left = copied polynomial_in c.try_clone-in-Rem.ensures c.in_ok-left-in-Rem.ensures.left in
+    let right = copied polynomial_in c.try_clone-in-Rem-2.ensures c.in_ok-left-in-Rem.ensures.right in
+    let parts = (λ j. Remainder (left j) (right j))
     ∙ (λ j. Remainder (polynomial_in (c.deref-in-Rem.ensures j)) (polynomial_in (c.deref-in-Rem-2.ensures j)))
     ∙ sym (atom_of_remainder c.args.self.now c.in-Rem.left c.in-Rem.right c.in-Rem.is) in
     subst (λ x. IfOk c.make_remainder.result (λ a. atom_in a ≡ x)) parts c.make_remainder.ensures
+
+pub Atom::try_clone-returns-in-Sym : goal.Atom::try_clone-returns-in-Sym
+Atom::try_clone-returns-in-Sym t c = ap atom_in (sym c.in-Sym.is)
+
+pub MonoTree::try_clone-loop-atom-init : goal.MonoTree::try_clone-loop-atom-init
+MonoTree::try_clone-loop-atom-init t c =
+    ap (λ ys. monomial_of (map atom_in ys ++ map atom_in c.deref-atom-items.result.now)) c.in_ok-atoms.ensures.items
+    ∙ ap (λ xs. monomial_of (map atom_in xs)) c.deref-atom-items.ensures.value
+    ∙ sym (monomial_in-is c.args.self.now)
+
+pub PolyTree::try_clone-loop-mono-init : goal.PolyTree::try_clone-loop-mono-init
+PolyTree::try_clone-loop-mono-init t c =
+    ap (λ ys. polynomial_of (map term_in ys ++ map term_in c.deref-mono-items.result.now)) c.in_ok-monos.ensures.items
+    ∙ ap (λ xs. polynomial_of (map term_in xs)) c.deref-mono-items.ensures.value
+    ∙ sym (polynomial_in-is c.args.self.now)
+
+pub ArrTree::try_clone-loop-index-init : goal.ArrTree::try_clone-loop-index-init
+ArrTree::try_clone-loop-index-init t c =
+    ap (λ ys. Over (out-ArrTree c.args.self.now).base (writes_of (map write_in ys ++ map write_in c.deref-index-items.result.now))) c.in_ok-writes.ensures.items
+    ∙ ap (λ xs. Over (out-ArrTree c.args.self.now).base (writes_of (map write_in xs))) c.deref-index-items.ensures.value
+    ∙ sym (array_in-is c.args.self.now)
