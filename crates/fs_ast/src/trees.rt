@@ -190,9 +190,9 @@ fn walk(
             walk(alloc, on_yes, way, out)?;
             way.truncate(before);
             add_negation(literal, way)?;
-            walk(alloc, on_no, way, out)?;
+            let walked = walk(alloc, on_no, way, out);
             way.truncate(before);
-            Ok(())
+            walked
         }
     }
 }
