@@ -11,3 +11,4 @@ pub mod Expressions
 pub mod Formats
 pub mod PartEnds
 pub mod Refusals
+pub mod Appending

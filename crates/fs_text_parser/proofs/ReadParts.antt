@@ -1,15 +1,15 @@
 -- What goes on behind parts that were read one after another.
-use Rattle.std.proofs.Common.{◌≡◌, ℕ, List, [], ◌∷◌, ◌++◌, map, cond, Bool, Option, Bor, Result, Ok, Err, IfOk, sym, ap, ap₂, subst, ◌∙◌, append_assoc}
+use Rattle.std.proofs.Common.{◌≡◌, ℕ, List, [], ◌∷◌, ◌++◌, map, cond, Bool, Option, Bor, Result, Ok, Err, IfOk, sym, ap, ap₂, subst, ◌∙◌}
 use Rattle.std.proofs.lemmas.List.{map-append}
 use Rattle.std.specs.Result.{result_map_both}
-use Rattle.fs_model.specs.Source.{Source, SourceTransition}
+use Rattle.fs_model.specs.Source.{Source}
 use Rattle.fs_model.specs.Terms.{Assignment, Guard}
 use Rattle.fs_grammar.specs.declared.fault.TextFault.{TextFault}
 use Rattle.fs_grammar.specs.declared.fault.ReadError.{ReadError}
 use Rattle.fs_grammar.specs.declared.token.Token.{Token}
 use Rattle.fs_grammar.specs.Tokens.{Fails, ParsesOn}
-use Rattle.fs_grammar.specs.Grammar.{OpenState, OpenTransition, with_transitions, with_assignments, close_transition, reading, at_assignment, at_transition}
-use Rattle.fs_text_parser.specs.ReadParts.{Pushes}
+use Rattle.fs_grammar.specs.Grammar.{OpenState, OpenTransition, with_transitions, close_transition, reading, at_assignment, at_transition}
+use Rattle.fs_text_parser.specs.ReadParts.{PushesRead}
 
 -- ---- a part and what was read next
 
@@ -26,34 +26,29 @@ if_joined r x (Err d) P Q is h f = subst (λ q. IfOk q P) (sym is) tt
 -- ---- a part that stands behind others now
 
 pushed : {X Y Z : Type 0} (r : Result (X × Y) ReadError) (y : Y) (old new : List X) {v : Result Z TextFault} (go : X × Y → Result Z TextFault)
-    (on : List X → Y → Result Z TextFault) → Pushes old new r (Ok y) → ParsesOn r v go → ((x : X × Y) → go x ≡ on (old ++ x.0 ∷ []) x.1) → v ≡ on new y
+    (on : List X → Y → Result Z TextFault) → PushesRead old new r (Ok y) → ParsesOn r v go → ((x : X × Y) → go x ≡ on (old ++ x.0 ∷ []) x.1) → v ≡ on new y
 pushed (Ok x) y old new go on is g same = g ∙ same x ∙ ap₂ on (sym is.0) (sym is.1)
 pushed (Err d) y old new go on is g same = absurd is
 
 -- its refusal, or none
 pub not_pushed : {X Y Z : Type 0} (r : Result (X × Y) ReadError) (e : ReadError) (old new : List X) (v : Result Z TextFault) (go : X × Y → Result Z TextFault)
-    → Pushes old new r (Err e) → ParsesOn r v go → Fails e v
+    → PushesRead old new r (Err e) → ParsesOn r v go → Fails e v
 not_pushed (Ok x) e old new v go is g = subst (λ k. Fails k v) (sym is) tt
 not_pushed (Err d) e old new v go is g = subst (λ k. Fails k v) (sym is) g
 
-pub if_pushed : {X Y : Type 0} (r : Result (X × Y) ReadError) (y : Y) (old new : List X) (P : Y → Type 0) → Pushes old new r (Ok y) → IfOk r (λ x. P x.1) → P y
+pub if_pushed : {X Y : Type 0} (r : Result (X × Y) ReadError) (y : Y) (old new : List X) (P : Y → Type 0) → PushesRead old new r (Ok y)
+    → IfOk r (λ x. P x.1) → P y
 if_pushed (Ok x) y old new P is h = subst P (sym is.1) h
 if_pushed (Err d) y old new P is h = absurd is
 
 -- where what is read so far takes the part at its end
 pub one_more : {X Y Z B S : Type 0} (f : X → B) (with_more : S → List B → S) (on : S → Y → Result Z TextFault)
     → ((s : S) (xs ys : List B) → with_more (with_more s xs) ys ≡ with_more s (xs ++ ys))
-    → (r : Result (X × Y) ReadError) (y : Y) (s : S) (old new : List X) (v : Result Z TextFault) → Pushes old new r (Ok y)
+    → (r : Result (X × Y) ReadError) (y : Y) (s : S) (old new : List X) (v : Result Z TextFault) → PushesRead old new r (Ok y)
     → ParsesOn r v (λ x. on (with_more (with_more s (map f old)) (f x.0 ∷ [])) x.1) → v ≡ on (with_more s (map f new)) y
 one_more f with_more on law r y s old new v is g =
     pushed r y old new _ (λ xs z. on (with_more s (map f xs)) z) is g
     (λ x. ap (λ t. on t x.1) (law s (map f old) (f x.0 ∷ []) ∙ ap (with_more s) (sym (map-append f old (x.0 ∷ [])))))
-
-pub more_assignments : (o : OpenTransition) (xs ys : List (Assignment (List ℕ))) → with_assignments (with_assignments o xs) ys ≡ with_assignments o (xs ++ ys)
-more_assignments o xs ys = ap (λ l. record o { assignments = l }) (append_assoc o.assignments xs ys)
-
-pub more_transitions : (d : OpenState) (xs ys : List SourceTransition) → with_transitions (with_transitions d xs) ys ≡ with_transitions d (xs ++ ys)
-more_transitions d xs ys = ap (λ l. record d { state = record d.state { lines = l } }) (append_assoc d.state.lines xs ys)
 
 -- what is read behind an assignment, where one more follows and where none does
 abbrev pub after_assignment : OpenTransition → Bool × Bor (List Token) → Result Source TextFault

@@ -2,7 +2,7 @@
 
 ghost use Rattle.std.specs.Prelude.{◌≡◌};
 ghost use Rattle.std.specs.Result.{result_map_both};
-ghost use Rattle.fs_text_parser.specs.ReadParts.{Pushes};
+ghost use Rattle.fs_text_parser.specs.ReadParts.{PushesRead};
 
 use fs_grammar::fault::ReadError;
 use fs_model::memory::push_value;
@@ -19,7 +19,7 @@ pub fn push_read<T: Drop, U: Drop>(
     parts: &mut Vec<T>,
     read: Result<(T, U), ReadError>,
 ) -> Result<U, ReadError>
-    ensures { Pushes parts.old.items parts.new.items read result }
+    ensures { PushesRead parts.old.items parts.new.items read result }
 {
     let (part, rest) = read?;
     push_value(parts, part)?;

@@ -18,6 +18,7 @@ use Rattle.fs_grammar.specs.Grammar.{OpenState, OpenTransition, with_transitions
 use Rattle.fs_grammar.specs.Grammar.{ParseState, at_sum, at_guard, at_transition, at_target, after_target, at_assignment, at_port, after_assignment_name}
 use Rattle.fs_grammar.specs.Grammar.{at_equals, after_guard, after_sum, step}
 use Rattle.fs_grammar.specs.Grammar as grammar
+use Rattle.fs_grammar.proofs.Appending.{assignments_twice, transitions_twice}
 use Rattle.fs_write.specs.NeededFormats.{is_emit, emits_in_transition}
 use Rattle.fs_write.specs.Canonical.{infix_term_text, guard_text, assignment_text, after_comma, comma_list, assignments_text, when_text, line_text}
 use Rattle.fs_write.specs.Spellable.{is_spellable_term, is_spellable_assignment, is_spellable_condition, is_spellable_transition}
@@ -142,9 +143,6 @@ more_ends (text ∷ texts) rest = record { token = tokens.Comma; follows = recor
 pub more_stops : (texts : List (List ℕ)) (rest : List ℕ) → begins_no is_word_byte (more texts rest) ≡ true
 more_stops texts rest = (more_ends texts rest).follows.stops
 
-with_two : (o : OpenTransition) (xs ys : List (Assignment (List ℕ))) → with_assignments (with_assignments o xs) ys ≡ with_assignments o (xs ++ ys)
-with_two o xs ys = ap (λ (l : List (Assignment (List ℕ))). record o { assignments = l }) (append_assoc o.assignments xs ys)
-
 more_assignments : {line_number : ℕ} {r : Result Source TextFault} (o : OpenTransition) (a : Assignment (List ℕ)) (xs : List (Assignment (List ℕ)))
     (rest : List ℕ) → Allows o.state.format (list_any is_emit xs) → list_all is_well_formed_assignment xs ≡ true → list_all is_spellable_assignment xs ≡ true
     → Reads (line_number + 1) 0 rest (at_transition (close_transition (with_assignments o (a ∷ xs)))) r
@@ -158,7 +156,7 @@ more_assignments {line_number} {r} o a (b ∷ xs) rest k h l d =
     let texts = map assignment_text xs in
     let e = more_ends texts rest in
     let last : Reads (line_number + 1) 0 rest (at_transition (close_transition (with_assignments p (b ∷ xs)))) r =
-    subst (λ (q : OpenTransition). Reads (line_number + 1) 0 rest (at_transition (close_transition q)) r) (sym (with_two o (a ∷ []) (b ∷ xs))) d in
+    subst (λ (q : OpenTransition). Reads (line_number + 1) 0 rest (at_transition (close_transition q)) r) (sym (assignments_twice o (a ∷ []) (b ∷ xs))) d in
     let tail : Reads line_number 0 (more texts rest) (valued p b) r =
     more_assignments p b xs rest (allows_right o.state.format (is_emit b) (list_any is_emit xs) k) n.1 w.1 last in
     let next : Reads line_number 128 (assignment_text b ++ more texts rest) (at_assignment p) r =
@@ -255,9 +253,6 @@ line_reads {line_number} {r} l d rest k h s c =
     let body = (guard ++ (codes "goto " ++ (l.content.target ++ (assignments_text l.content.assignments ++ codes ";\n")))) ++ rest in
     space_reads (32 ∷ body) (space_reads body (subst (λ (bytes : List ℕ). Reads line_number 0 bytes (at_transition d) r) (sym same) read))
 
-with_transitions_two : (d : OpenState) (xs ys : List SourceTransition) → with_transitions (with_transitions d xs) ys ≡ with_transitions d (xs ++ ys)
-with_transitions_two d xs ys = ap (λ (l : List SourceTransition). record d { state = record d.state { lines = l } }) (append_assoc d.state.lines xs ys)
-
 -- the transitions of a state, each on its line
 pub lines_read : {r : Result Source TextFault} (line_number : ℕ) (ls : List SourceTransition) (d : OpenState) (rest : List ℕ)
     → Allows d.format (list_any emits_in_transition ls) → list_all is_well_formed_transition ls ≡ true → list_all is_spellable_transition ls ≡ true
@@ -275,7 +270,7 @@ lines_read {r} line_number (l ∷ ls) d rest k h s c =
     subst (λ (k : ℕ). Reads k 0 rest (at_transition (with_transitions d (lines_from line_number (l ∷ ls)))) r) there c in
     let last : Reads (line_number + 1 + length ls) 0 rest (at_transition (with_transitions (with_transitions d first) (lines_from (line_number + 1) ls))) r =
     subst (λ (q : OpenState). Reads (line_number + 1 + length ls) 0 rest (at_transition q) r)
-    (sym (with_transitions_two d first (lines_from (line_number + 1) ls))) moved in
+    (sym (transitions_twice d first (lines_from (line_number + 1) ls))) moved in
     joined (line_text l) (flat_map line_text ls) rest
     (line_reads l d (flat_map line_text ls ++ rest) (allows_left d.format (emits_in_transition l) (list_any emits_in_transition ls) k) n.0 w.0
     (lines_read (line_number + 1) ls (with_transitions d first) rest

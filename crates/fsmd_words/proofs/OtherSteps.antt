@@ -1,7 +1,7 @@
 -- Words that spell no number of steps, behind `--steps`.
 use Rattle.std.proofs.Common.{◌≡◌, ◌∙◌, ◌++◌, ap, ℕ, ◌<◌, ◌≤◌, ◌+◌, Bool, true, false, refl, arith, List, [], ◌∷◌, Some, codes}
 use Rattle.std.specs.Str.Parse.{digits_value, without_leading_plus}
-use Rattle.std.proofs.lemmas.Bool.{leb-true}
+use Rattle.std.proofs.lemmas.Bool.{leb-true, false_from_ne_true}
 use Rattle.clap.specs.Words.{Shape, Text}
 use Rattle.clap.specs.Simple.{built_leaf, inherited}
 use Rattle.clap.specs.ValueTests.{accepts, is_unsigned_in}
@@ -21,10 +21,6 @@ use Rattle.fsmd_words.specs.Examples.{FailBy, IsPlainWord, SpellsNoSteps}
 
 -- ---- which words
 
-refused_by : (t : Bool) → (t ≡ true → ⊥) → t ≡ false
-refused_by true h = absurd (h refl)
-refused_by false h = refl
-
 -- what a word that spells a number of steps has
 record IsWithin (n : ℕ) : Type 0 where
   low : 1 ≤ n
@@ -36,10 +32,10 @@ within word e =
     record { low = leb-true _ _ range.0; high = leb-true _ _ range.1 }
 
 pub too_few : (word : Text) → digits_value 10 (without_leading_plus word) < 1 → is_unsigned_in 1 100000 word ≡ false
-too_few word h = refused_by (is_unsigned_in 1 100000 word) (λ e. (let low = (within word e).low in omega (arith, low, h)))
+too_few word h = false_from_ne_true (is_unsigned_in 1 100000 word) (λ e. (let low = (within word e).low in omega (arith, low, h)))
 
 pub too_many : (word : Text) → 100000 < digits_value 10 (without_leading_plus word) → is_unsigned_in 1 100000 word ≡ false
-too_many word h = refused_by (is_unsigned_in 1 100000 word) (λ e. (let high = (within word e).high in omega (arith, high, h)))
+too_many word h = false_from_ne_true (is_unsigned_in 1 100000 word) (λ e. (let high = (within word e).high in omega (arith, high, h)))
 
 -- ---- a command with its files before `--steps`
 

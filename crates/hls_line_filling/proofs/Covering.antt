@@ -13,7 +13,7 @@ use Rattle.fs_cut.proofs.Branches.{first_target, few}
 use Rattle.hls_line_filling.specs.StraightLines.{all_states, sources, is_only, is_straight, follows, next_state, line_from, straight_line_at, is_inner}
 use Rattle.hls_line_filling.specs.StraightLines.{is_first_of_line, StandsInLine}
 use Rattle.hls_line_filling.proofs.Among.{Among, joined_from, passes_test, was_among, some_of, range_within}
-use Rattle.hls_line_filling.proofs.Trails.{Trail, apart, inner, walk, follows_straight}
+use Rattle.hls_line_filling.proofs.Trails.{Trail, apart, inner, walk, follows_straight, first_outer}
 
 pub only_among : (p : ℕ) (xs : List ℕ) → is_only p xs ≡ true → Among p xs
 only_among p [] e = absurd (cc e)
@@ -136,14 +136,12 @@ module _ (m : Fsmd) where
     trail_to q a = subst (λ z. Trail m a.first z q) (let e : 0 + a.index ≡ a.index = omega arith in e)
         (walk m sound (length m.states) a.first 0 a.index a.first q a.within refl a.is)
 
-    outer_first : (h : ℕ) → is_first_of_line m h ≡ true → is_inner m h ≡ false
-    outer_first h e = not-true (is_inner m h) (and_second (is_straight m h) (not (is_inner m h)) e)
-
     pub stands_once : (q : ℕ) (a b : StandsInLine m q) → (a.first ≡ b.first) × (a.index ≡ b.index)
-    stands_once q a b = apart m a.index b.index a.first b.first q (outer_first a.first a.starts) (outer_first b.first b.starts) (trail_to q a) (trail_to q b)
+    stands_once q a b = apart m a.index b.index a.first b.first q (first_outer m a.first a.starts) (first_outer m b.first b.starts)
+        (trail_to q a) (trail_to q b)
 
     pub none_before : (p h : ℕ) → is_first_of_line m h ≡ true → p < length m.states → follows m p h ≡ false
-    none_before p h e lt = false_from_ne_true (follows m p h) (λ g. cc (sym (outer_first h e) ∙ inner m p h lt g))
+    none_before p h e lt = false_from_ne_true (follows m p h) (λ g. cc (sym (first_outer m h e) ∙ inner m p h lt g))
 
     last_step : (k h q r : ℕ) (t : Bool) → (k == length m.states) ≡ t → Trail m h k q → h < length m.states → k ≤ length m.states → follows m q r ≡ true
         → k < length m.states

@@ -20,9 +20,9 @@ use Rattle.hls_line_filling.specs.MachineSelections.{IsClosedUnderTargets}
 use Rattle.hls_line_filling.specs.ScheduledMachines.{is_kept, kept_states, scheduled_machine}
 use Rattle.hls_line_filling.proofs.Among.{Among, passes_test, was_among, stays_among, joined_from, in_joined, in_range, range_within, some_of, any_of}
 use Rattle.hls_line_filling.proofs.Among.{occurs_among}
-use Rattle.hls_line_filling.proofs.Trails.{has_source, Station, enters_from, leaves_line}
+use Rattle.hls_line_filling.proofs.Trails.{has_source, Station, enters_from, leaves_line, first_straight}
 use Rattle.hls_line_filling.proofs.Selecting.{selected_behaves}
-use Rattle.hls_line_filling.proofs.Replacing.{both_of, not_found, Does, lines_replaced, does, move_in, straight_first, move_straight, at_reset, begins}
+use Rattle.hls_line_filling.proofs.Replacing.{both_of, not_found, Does, lines_replaced, does, move_in, move_straight, at_reset, begins}
 use Rattle.hls_line_filling.proofs.Replacing.{replaced_behaves}
 
 -- ---- each transition has a branch
@@ -194,7 +194,7 @@ module _ (m : Fsmd) (sound : IsSound m) (rows : ℕ → List Item) (keeps : Keep
       let i : q < length m.states = omega (arith, j) in
       elim (leads_to (exit_of m q) (straight_line_at m q) (rows q) x w.2) as (λ _. occurs x.target Keep ≡ true) [
         | inl e ↦ subst (λ z. occurs z Keep ≡ true) (sym e)
-            (station_kept (exit_of m q) (leaves_line m sound (length m.states) q i (straight_first m sound rows keeps q f) (sound.cut q i)))
+            (station_kept (exit_of m q) (leaves_line m sound (length m.states) q i (first_straight m q f) (sound.cut q i)))
         | inr y ↦ (let g : Among y.0 (all_moves m rows) = moves_of q i f y.0 y.1 in
             subst (λ z. occurs z Keep ≡ true) y.2 (kept y.0.state (move_in m sound rows keeps y.0 g) (kept_by y.0 y.0.state g refl)))
       ]

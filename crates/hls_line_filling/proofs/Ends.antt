@@ -20,8 +20,8 @@ use Rattle.hls_line_filling.specs.RowMachines.{Move, after_row, moves, state_at,
 use Rattle.hls_line_filling.specs.MachineSelections.{selected_place, transition_renumbered, IsClosedUnderTargets}
 use Rattle.hls_line_filling.specs.ScheduledMachines.{kept_states, scheduled_machine}
 use Rattle.hls_line_filling.proofs.Among.{Among, occurs_among, joined_from, passes_test, was_among, range_within}
-use Rattle.hls_line_filling.proofs.Trails.{member, next_in, follows_on, Station, leaves_line}
-use Rattle.hls_line_filling.proofs.Replacing.{Does, does, straight_first, begins, both_of}
+use Rattle.hls_line_filling.proofs.Trails.{member, next_in, follows_on, Station, leaves_line, first_straight}
+use Rattle.hls_line_filling.proofs.Replacing.{Does, does, begins, both_of}
 use Rattle.hls_line_filling.proofs.Selecting.{lines_kept}
 use Rattle.hls_line_filling.proofs.Dropping.{station_kept, moves_of, Kind, of_kept, stays, closed}
 
@@ -225,7 +225,7 @@ module _ (m : Fsmd) (sound : IsSound m) (rows : ℕ → List Item) (keeps : Keep
       let j : w.0 < 0 + length m.states = range_within 0 (length m.states) w.0 (was_among (is_first_of_line m) w.0 (all_states m) w.1) in
       let i : w.0 < length m.states = omega (arith, j) in
       cut_from q (exit_of m w.0) (subst (λ z. Comes Old z (exit_of m w.0)) x.2 (exit_comes w.0 i f x.0 w.2))
-      (any_station (exit_of m w.0) (at_exit w.0 i (straight_first m sound rows keeps w.0 f)))
+      (any_station (exit_of m w.0) (at_exit w.0 i (first_straight m w.0 f)))
 
   kept_cut : (q : ℕ) → occurs q Keep ≡ true → Cut q
   kept_cut q o = let w = of_kept m sound rows keeps q o in kept_cut_by q w.within o w.kind

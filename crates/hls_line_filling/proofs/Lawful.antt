@@ -1,7 +1,7 @@
 -- The scheduled parts break no rule.
-use Rattle.std.proofs.Common.{◌≡◌, inl, inr, ℕ, zero, suc, ◌+◌, ◌<◌, ◌≤◌, refl, sym, ◌∙◌, ap, subst, arith, Bool, true, false, List, [], ◌∷◌, ◌++◌}
+use Rattle.std.proofs.Common.{◌≡◌, inl, inr, ℕ, zero, suc, ◌+◌, ◌<◌, ◌≤◌, refl, sym, ◌∙◌, ap, subst, arith, Bool, true, List, [], ◌∷◌, ◌++◌}
 use Rattle.std.proofs.Common.{append_assoc, map, length, Some, None}
-use Rattle.std.specs.Prelude.{◌==◌, ◌&&◌, ◌||◌, not, nat_le, cond, slice_get}
+use Rattle.std.specs.Prelude.{◌&&◌, not, nat_le, slice_get}
 use Rattle.std.proofs.lemmas.List.{same_lists, get_or-map}
 use Rattle.std.proofs.lemmas.List.Sums.{length-filter, count_by-le-length}
 use Rattle.std.proofs.lemmas.List.FromFn.{length-range_with_len, length-map-range_with_len, get_or-map-range_with_len}
@@ -18,7 +18,7 @@ use Rattle.fs_ast.specs.MachineOfParts.{machine_of}
 use Rattle.fs_ast.specs.SoundParts.{IsSound, scalar_at, array_at, port_at, input_at, changed_by, assigned_in, all_differ, scalars_in_condition}
 use Rattle.fs_ast.specs.SoundParts.{arrays_in_condition, scalars_in_assignments, arrays_in_assignments, port_in, ports_in_assignments, emit_count}
 use Rattle.fs_ast.specs.SoundParts.{names_differ}
-use Rattle.fs_ast.specs.SoundParts.{occurs, is_open, ends_open, branch_count}
+use Rattle.fs_ast.specs.SoundParts.{is_open, ends_open, branch_count}
 use Rattle.fs_ast.specs.Rules.{IsEndless, BreaksNoRule}
 use Rattle.fs_ast.proofs.Kept.{no_state, get_mapped}
 use Rattle.fs_ast_laws.proofs.Repeats.{kept_differ}
@@ -36,6 +36,7 @@ use Rattle.hls_line_filling.specs.RowMachines.{Move, moves, all_moves, move_tran
 use Rattle.hls_line_filling.specs.MachineSelections.{selected_place, transition_renumbered, IsClosedUnderTargets}
 use Rattle.hls_line_filling.specs.ScheduledMachines.{is_kept, kept_states}
 use Rattle.hls_line_filling.proofs.Among.{Among, passes_test, joined_from, occurs_among}
+use Rattle.hls_line_filling.proofs.Selecting.{place_below}
 use Rattle.hls_line_filling.proofs.Replacing.{Does, does}
 use Rattle.hls_line_filling.proofs.Dropping.{Kind, of_kept, stays, closed}
 use Rattle.hls_line_filling.proofs.Ends.{same_branches, nowhere_endless}
@@ -64,14 +65,6 @@ open_renumbered : (keep : List ℕ) (ls : List (Transition ℕ ℕ)) → ends_op
 open_renumbered keep [] = refl
 open_renumbered keep (l ∷ []) = refl
 open_renumbered keep (l ∷ k ∷ ls) = ap (λ b. not (is_open l) && b) (open_renumbered keep (k ∷ ls))
-
-below_step : (t b : Bool) (j n : ℕ) → (t || b) ≡ true → (b ≡ true → j < n) → cond {A = ℕ} t 0 (suc j) < suc n
-below_step true b j n h i = omega arith
-below_step false b j n h i = let l : j < n = i h in omega (arith, l)
-
-place_below : (keep : List ℕ) (q : ℕ) → occurs q keep ≡ true → selected_place keep q < length keep
-place_below [] q h = absurd (cc h)
-place_below (k ∷ keep) q h = below_step (k == q) (occurs q keep) (selected_place keep q) (length keep) h (place_below keep q)
 
 module _ (m : Fsmd) (units : Units) (sound : IsSound m) (within : IsWithin units m) where
   abbrev rows : ℕ → List Item

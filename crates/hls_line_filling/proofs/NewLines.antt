@@ -23,13 +23,13 @@ use Rattle.hls_line_filling.specs.StraightLines.{exit_of, is_inner, is_first_of_
 use Rattle.hls_line_filling.specs.RowMachines.{Move, after_row, moves, all_moves, move_transition, transitions_by, machine_with_rows, state_at, KeepsStores}
 use Rattle.hls_line_filling.specs.MachineSelections.{selected_place, transition_renumbered, IsClosedUnderTargets}
 use Rattle.hls_line_filling.specs.ScheduledMachines.{is_kept, kept_states, scheduled_machine}
-use Rattle.hls_line_filling.proofs.Among.{Among, passes_test, was_among, joined_from, in_range, range_within, some_of, any_of}
+use Rattle.hls_line_filling.proofs.Among.{Among, passes_test, was_among, joined_from, in_range, range_within, some_of, any_of, occurs_among}
 use Rattle.hls_line_filling.proofs.Trails.{member, is_source, has_source, is_the_only, follows_only, follows_straight, follows_on, comes_before, Trail, inner}
-use Rattle.hls_line_filling.proofs.Trails.{apart, next_in, enters_from, leaves_line}
+use Rattle.hls_line_filling.proofs.Trails.{apart, next_in, enters_from, leaves_line, first_straight, first_outer}
 use Rattle.hls_line_filling.proofs.Covering.{only_among, constant_is, stands}
-use Rattle.hls_line_filling.proofs.Replacing.{at, on_trail, outer_first, move_state, move_straight, move_in, not_reset, does, straight_first, begins}
+use Rattle.hls_line_filling.proofs.Replacing.{at, on_trail, move_state, move_straight, move_in, not_reset, does, begins}
 use Rattle.hls_line_filling.proofs.Replacing.{same_move}
-use Rattle.hls_line_filling.proofs.Selecting.{at_place, same_place, lines_kept}
+use Rattle.hls_line_filling.proofs.Selecting.{at_place, same_place, place_below, lines_kept}
 use Rattle.hls_line_filling.proofs.Dropping.{kept, kept_by, after_move, station_kept, moves_of, of_kept, stays, closed}
 use Rattle.hls_line_filling.proofs.Ends.{cut_kept, lines_here, here_kept}
 
@@ -83,15 +83,6 @@ place_filtered test a (suc n) k h =
     (λ j i. (let u : a + 1 ≤ slice_index_or zs j 0 = range_above (a + 1) n (slice_index_or zs j 0) (was_among test (slice_index_or zs j 0)
     (range_with_len (a + 1) n) (member zs j 0 i)) in omega (arith, u)))
     h (λ j i. place_filtered test (a + 1) n j i)
-
-place_in_step : (k q : ℕ) (ks : List ℕ) (t : Bool) → (t || occurs q ks) ≡ true → (occurs q ks ≡ true → selected_place ks q < length ks)
-    → cond t 0 (suc (selected_place ks q)) < suc (length ks)
-place_in_step k q ks true e h = omega arith
-place_in_step k q ks false e h = let i : selected_place ks q < length ks = h e in omega (arith, i)
-
-place_in : (ks : List ℕ) (q : ℕ) → occurs q ks ≡ true → selected_place ks q < length ks
-place_in [] q e = absurd (cc)
-place_in (k ∷ ks) q e = place_in_step k q ks (k == q) e (place_in ks q)
 
 among_at : {X : Type 0} (xs : List X) (j : ℕ) (x : X) → slice_get xs j ≡ Some x → Among x xs
 among_at [] j x e = absurd (cc e)
@@ -374,7 +365,7 @@ module _ (m : Fsmd) (sound : IsSound m) (rows : ℕ → List Item) (keeps : Keep
       (ap (λ (bs : List Branch). length bs) (branches_moved x h))
 
   in_new : (q : ℕ) → occurs q Keep ≡ true → to q < length New.states
-  in_new q k = omega (arith, place_in Keep q k, states_count)
+  in_new q k = omega (arith, place_below Keep q k, states_count)
 
   -- of a state that is in no line
   branches_kept : (q p : ℕ) → q < length m.states → is_straight m q ≡ false
@@ -434,7 +425,7 @@ module _ (m : Fsmd) (sound : IsSound m) (rows : ℕ → List Item) (keeps : Keep
 
   -- the line in which a row stands
   line_at_reach : (h : ℕ) → h < length m.states → is_first_of_line m h ≡ true → (exit_of m h < length m.states) × (is_inner m (exit_of m h) ≡ false)
-  line_at_reach h i f = leaves_line m sound (length m.states) h i (straight_first m sound rows keeps h f) (sound.cut h i)
+  line_at_reach h i f = leaves_line m sound (length m.states) h i (first_straight m h f) (sound.cut h i)
 
   abbrev moves_at : ℕ → List Move
   moves_at h = moves (exit_of m h) (straight_line_at m h) (rows h)
@@ -458,7 +449,7 @@ module _ (m : Fsmd) (sound : IsSound m) (rows : ℕ → List Item) (keeps : Keep
         | inl out ↦ (let u : is_inner m y.state ≡ false = subst (λ z. is_inner m z ≡ false) (sym out ∙ t) (line_at_reach p.head p.within p.first).1 in
             absurd (let v : is_inner m y.state ≡ true = inner_at h j y i f g in cc (sym u ∙ v)))
         | inr z ↦ (let k = trail_of p.head (suc p.place) z.0 p.within p.first z.1 in
-            let d = apart m (suc p.place) (suc j) p.head h y.state (outer_first m sound rows keeps p.head p.first) (outer_first m sound rows keeps h f)
+            let d = apart m (suc p.place) (suc j) p.head h y.state (first_outer m p.head p.first) (first_outer m h f)
             (subst (λ q. Trail m p.head (suc p.place) q) (z.2 ∙ t) k) (trail_of h (suc j) y i f g) in
             let n : p.place ≡ j = (let q : suc p.place ≡ suc j = d.1 in omega (arith, q)) in
             same_move x w (slice_get (moves_at h) j) e
@@ -552,7 +543,7 @@ module _ (m : Fsmd) (sound : IsSound m) (rows : ℕ → List Item) (keeps : Keep
         let s : Among (to y.state) (sources New (to out)) = is_source New (to y.state) 0 (to out) (in_new y.state (has_place y among_y)) has
         (next_moved y among_y ∙ t) in
         let q : y.state ≡ x.state = from_row y.state (has_place y among_y) s in
-        (apart m w.0 j g h x.state (outer_first m sound rows keeps g b) (outer_first m sound rows keeps h f)
+        (apart m w.0 j g h x.state (first_outer m g b) (first_outer m h f)
         (subst (λ z. Trail m g w.0 z) q (trail_of g w.0 y a b w.2)) (trail_of h j x i f e)).0
 
     straight_source : (w : Last m sound (length m.states) h) (p : ℕ) → p < length m.states → is_straight m p ≡ true
@@ -593,7 +584,7 @@ module _ (m : Fsmd) (sound : IsSound m) (rows : ℕ → List Item) (keeps : Keep
 
     never : ⊥
     never =
-        let w = last_of m sound (length m.states) h i (straight_first m sound rows keeps h f) (sound.cut h i) in
+        let w = last_of m sound (length m.states) h i (first_straight m h f) (sound.cut h i) in
         let only : is_only w.state (sources m out) ≡ true = only_one m sound w.state out w.within w.straight w.leads_out (only_source w) in
         let follows_last : follows m w.state out ≡ true = and_from (is_straight m w.state && is_straight m out) (is_only w.state (sources m out))
         (and_from (is_straight m w.state) (is_straight m out) w.straight out_straight) only in
@@ -628,7 +619,7 @@ module _ (m : Fsmd) (sound : IsSound m) (rows : ℕ → List Item) (keeps : Keep
   -- a state keeps its name
   pub name_kept : (q : ℕ) → q < length m.states → is_first_of_line m q ≡ true → (state_at New (to q)).name ≡ (state_at m q).name
   name_kept q i f =
-      let o : occurs q Keep ≡ true = station_kept m sound rows keeps q (i, outer_first m sound rows keeps q f) in
+      let o : occurs q Keep ≡ true = station_kept m sound rows keeps q (i, first_outer m q f) in
       ap (λ (x : State). x.name)
       (at_place
       (λ k. record {
@@ -645,9 +636,6 @@ module _ (m : Fsmd) (sound : IsSound m) (rows : ℕ → List Item) (keeps : Keep
   state_in [] k z e = absurd (cc e)
   state_in (y ∷ ms) zero z e = ap (λ (v : Move). v.state) (same_Some y z e)
   state_in (y ∷ ms) (suc k) z e = state_in ms k z e
-
-  occurs_in : (q : ℕ) (xs : List ℕ) → Among q xs → occurs q xs ≡ true
-  occurs_in q xs a = any_of (λ y. y == q) q xs a (grind (arith, nat_tests))
 
   among_states : (ms : List Move) (x : Move) → Among x ms → Among x.state (map (λ (y : Move). y.state) ms)
   among_states [] x h = absurd h
@@ -666,12 +654,12 @@ module _ (m : Fsmd) (sound : IsSound m) (rows : ℕ → List Item) (keeps : Keep
 
     own_place : (q : ℕ) (x : Move) → slice_get (moves_at h) q ≡ Some x → selected_place states_at x.state ≡ q
     own_place q x e =
-        let o : occurs x.state states_at ≡ true = occurs_in x.state states_at (among_states (moves_at h) x (among_at (moves_at h) q x e)) in
+        let o : occurs x.state states_at ≡ true = occurs_among x.state states_at (among_states (moves_at h) x (among_at (moves_at h) q x e)) in
         let k : ℕ = selected_place states_at x.state in
-        let l : k < length states_at = place_in states_at x.state o in
+        let l : k < length states_at = place_below states_at x.state o in
         let z = some_at (moves_at h) k (omega (arith, l, length_map (λ (y : Move). y.state) (moves_at h))) in
         let s : z.0.state ≡ x.state = sym (state_in (moves_at h) k z.0 z.1) ∙ own_at o in
-        (apart m k q h h x.state (outer_first m sound rows keeps h f) (outer_first m sound rows keeps h f)
+        (apart m k q h h x.state (first_outer m h f) (first_outer m h f)
         (subst (λ v. Trail m h k v) s (trail_of h k z.0 i f z.1)) (trail_of h q x i f e)).1
       where
         map_same : (ks : List ℕ) → map (λ v. v) ks ≡ ks
@@ -725,12 +713,12 @@ module _ (m : Fsmd) (sound : IsSound m) (rows : ℕ → List Item) (keeps : Keep
               let some : follows New (to z.state) (to (exit_of m p.head)) ≡ true = subst (λ q. follows New (to z.state) (to q) ≡ true) (sym t ∙ e) g in
               cc (sym none ∙ some))
           | inr y ↦ (let u : is_inner m h ≡ true = subst (λ q. is_inner m q ≡ true) (y.2 ∙ t) (inner_at p.head p.place y.0 p.within p.first y.1) in
-              let v : is_inner m h ≡ false = outer_first m sound rows keeps h f in
+              let v : is_inner m h ≡ false = first_outer m h f in
               cc (sym v ∙ u))
         ]
 
     first_here : occurs h Keep ≡ true
-    first_here = station_kept m sound rows keeps h (i, outer_first m sound rows keeps h f)
+    first_here = station_kept m sound rows keeps h (i, first_outer m h f)
 
     none_before_it : (p : ℕ) → p < length New.states → follows New p (to h) ≡ true → ⊥
     none_before_it p l g =

@@ -5,7 +5,6 @@ use Rattle.std.specs.Prelude.{◌≢◌, ◌==◌, ◌&&◌, not, cond, slice_ge
 use Rattle.std.proofs.lemmas.Bool.Decides.{nat_tests}
 use Rattle.std.proofs.lemmas.List.FromFn.{get_or-map-range_with_len}
 use Rattle.std.proofs.lemmas.Bool.{false_from_ne_true, not-true}
-use Rattle.fs_model.proofs.Booleans.{and_first, and_second}
 use Rattle.fs_model.specs.Terms.{Transition}
 use Rattle.fs_model.specs.Machines.{State, Fsmd, transitions_of}
 use Rattle.fs_model.specs.Stores.{Store}
@@ -21,6 +20,7 @@ use Rattle.hls_line_filling.specs.StraightLines.{is_first_of_line, firsts, item_
 use Rattle.hls_line_filling.specs.RowMachines.{Move, after_row, moves, all_moves, move_transition, transitions_by, state_at, machine_with_rows, KeepsStores}
 use Rattle.hls_line_filling.proofs.Among.{Among, passes_test, was_among, stays_among, joined_from, in_joined, in_range, range_within, some_of}
 use Rattle.hls_line_filling.proofs.Trails.{Trail, apart, walk, line_in, trail_straight, next_in, Station, enters, leaves_line, follows_straight, follows_on}
+use Rattle.hls_line_filling.proofs.Trails.{first_straight, first_outer}
 use Rattle.hls_line_filling.proofs.Paces.{Passes, Pace, same_by_paces}
 
 pub both_of : (b c : Bool) → b ≡ true → c ≡ false → (b && not c) ≡ true
@@ -123,12 +123,6 @@ module _ (m : Fsmd) (sound : IsSound m) (rows : ℕ → List Item) (keeps : Keep
       let i : w.0 < 0 + length m.states = range_within 0 (length m.states) w.0 (was_among (is_first_of_line m) w.0 (all_states m) w.1) in
       record { head = w.0; within = omega (arith, i); first = passes_test (is_first_of_line m) w.0 (all_states m) w.1; place = p.place; is = p.is }
 
-  pub straight_first : (q : ℕ) → is_first_of_line m q ≡ true → is_straight m q ≡ true
-  straight_first q e = and_first (is_straight m q) (not (is_inner m q)) e
-
-  pub outer_first : (q : ℕ) → is_first_of_line m q ≡ true → is_inner m q ≡ false
-  outer_first q e = not-true (is_inner m q) (and_second (is_straight m q) (not (is_inner m q)) e)
-
   pub on_trail : (x : Move) (a : At x) → Trail m a.head (0 + a.place) x.state
   on_trail x a = walk m sound (length m.states) a.head 0 a.place a.head x.state a.within refl
       (move_state (exit_of m a.head) (straight_line_at m a.head) (rows a.head) a.place x a.is)
@@ -137,7 +131,7 @@ module _ (m : Fsmd) (sound : IsSound m) (rows : ℕ → List Item) (keeps : Keep
   one_move x y g h e =
       let a = at x g in
       let b = at y h in
-      let d = apart m (0 + a.place) (0 + b.place) a.head b.head x.state (outer_first a.head a.first) (outer_first b.head b.first) (on_trail x a)
+      let d = apart m (0 + a.place) (0 + b.place) a.head b.head x.state (first_outer m a.head a.first) (first_outer m b.head b.first) (on_trail x a)
       (subst (λ z. Trail m b.head (0 + b.place) z) e (on_trail y b)) in
       let i : b.place ≡ a.place = omega (arith, d.1) in
       let f : slice_get (moves (exit_of m a.head) (straight_line_at m a.head) (rows a.head)) a.place ≡ Some y =
@@ -146,7 +140,7 @@ module _ (m : Fsmd) (sound : IsSound m) (rows : ℕ → List Item) (keeps : Keep
       same_move x y (slice_get (moves (exit_of m a.head) (straight_line_at m a.head) (rows a.head)) a.place) a.is f
 
   pub move_straight : (x : Move) → Among x (all_moves m rows) → is_straight m x.state ≡ true
-  move_straight x h = let a = at x h in trail_straight m sound (0 + a.place) a.head x.state (straight_first a.head a.first) (on_trail x a)
+  move_straight x h = let a = at x h in trail_straight m sound (0 + a.place) a.head x.state (first_straight m a.head a.first) (on_trail x a)
 
   pub not_reset : (q : ℕ) → is_straight m q ≡ true → q ≢ m.reset
   not_reset q e = let f : is_cutpoint m q ≡ false = not-true (is_cutpoint m q) e in λ h. absurd (grind (arith, nat_tests))

@@ -1,9 +1,8 @@
 -- A schedule keeps behaviour and lengths.
 use Rattle.std.proofs.Common.{◌≡◌, ℕ, zero, suc, ◌<◌, ◌≤◌, refl, sym, ◌∙◌, ap, subst, arith, Bool, true, false, List, [], ◌∷◌, map, length}
-use Rattle.std.specs.Prelude.{◌≢◌, not, cond, slice_get}
+use Rattle.std.specs.Prelude.{◌≢◌, cond, slice_get}
 use Rattle.std.specs.List.{slice_index_or}
 use Rattle.std.proofs.lemmas.Bool.{not-true}
-use Rattle.fs_model.proofs.Booleans.{and_first}
 use Rattle.fs_model.proofs.Lists.{one_element, length_map}
 use Rattle.fs_model.specs.Terms.{Transition}
 use Rattle.fs_model.specs.Machines.{Fsmd, transitions_of}
@@ -16,9 +15,9 @@ use Rattle.fs_cut.proofs.Branches.{some_branch, few}
 use Rattle.hls_line_filling.specs.Items.{Item, store_after_items}
 use Rattle.hls_line_filling.specs.Placings.{Placed, rows_from}
 use Rattle.hls_line_filling.proofs.IntoRows.{rows_keep_the_store}
-use Rattle.hls_line_filling.specs.StraightLines.{is_straight, next_state, line_from, straight_line_at, is_inner, is_first_of_line, item_of, items_at, follows}
+use Rattle.hls_line_filling.specs.StraightLines.{is_straight, next_state, line_from, straight_line_at, is_first_of_line, item_of, items_at, follows}
 use Rattle.hls_line_filling.specs.RowMachines.{KeepsStores}
-use Rattle.hls_line_filling.proofs.Trails.{next_in, follows_on}
+use Rattle.hls_line_filling.proofs.Trails.{next_in, follows_on, first_straight}
 use Rattle.hls_line_filling.proofs.Dropping.{scheduled_behaves}
 use Rattle.hls_line_filling.specs.ItemUnits.{Units, none_used, used_by, suffice}
 use Rattle.hls_line_filling.specs.Heights.{chain_of, heights}
@@ -66,11 +65,8 @@ module _ (m : Fsmd) (units : Units) (sound : IsSound m) (within : IsWithin units
   each_item (suc n) (suc j) q h e i = each_step n j q (follows m q (next_state m q)) refl (omega (arith, i))
       (λ f k. each_item n j (next_state m q) (next_in m sound q h) (follows_on m q (next_state m q) f) k)
 
-  straight_first : (q : ℕ) → is_first_of_line m q ≡ true → is_straight m q ≡ true
-  straight_first q e = and_first (is_straight m q) (not (is_inner m q)) e
-
   pub each_fits : (q : ℕ) → q < length m.states → is_first_of_line m q ≡ true → EachItemFits (graph_of (items_at m q)) units
-  each_fits q h e j i = each_item (length m.states) j q h (straight_first q e) i
+  each_fits q h e j i = each_item (length m.states) j q h (first_straight m q e) i
 
   some_item : (n q : ℕ) → 0 < length (map (item_of m) (line_from m n q))
   some_item zero q = omega arith

@@ -1,6 +1,6 @@
 -- States to which nothing leads may be left out.
-use Rattle.std.proofs.Common.{◌≡◌, ℕ, suc, refl, sym, ◌∙◌, ap, arith, Bool, true, false, List, [], ◌∷◌, map, Option, Some}
-use Rattle.std.specs.Prelude.{◌==◌, cond, option_map, slice_get}
+use Rattle.std.proofs.Common.{◌≡◌, ℕ, suc, ◌<◌, length, refl, sym, ◌∙◌, ap, arith, Bool, true, false, List, [], ◌∷◌, map, Option, Some}
+use Rattle.std.specs.Prelude.{◌==◌, ◌||◌, cond, option_map, slice_get}
 use Rattle.std.specs.List.{slice_index_or}
 use Rattle.std.proofs.lemmas.Bool.Decides.{nat_tests}
 use Rattle.fs_model.proofs.Booleans.{or_other}
@@ -24,6 +24,14 @@ at_step f k q xs p d false e h = h e
 pub at_place : {X : Type 0} (f : ℕ → X) (keep : List ℕ) (q : ℕ) (d : X) → occurs q keep ≡ true → slice_index_or (map f keep) (selected_place keep q) d ≡ f q
 at_place f [] q d h = absurd (cc)
 at_place f (k ∷ ks) q d h = at_step f k q (map f ks) (selected_place ks q) d (k == q) refl (λ e. at_place f ks q d (or_other (k == q) (occurs q ks) e h))
+
+below_step : (t b : Bool) (j n : ℕ) → (t || b) ≡ true → (b ≡ true → j < n) → cond {A = ℕ} t 0 (suc j) < suc n
+below_step true b j n h i = omega arith
+below_step false b j n h i = let l : j < n = i h in omega (arith, l)
+
+pub place_below : (keep : List ℕ) (q : ℕ) → occurs q keep ≡ true → selected_place keep q < length keep
+place_below [] q h = absurd (cc h)
+place_below (k ∷ keep) q h = below_step (k == q) (occurs q keep) (selected_place keep q) (length keep) h (place_below keep q)
 
 pub same_place : (keep : List ℕ) (q r : ℕ) → occurs q keep ≡ true → occurs r keep ≡ true → selected_place keep q ≡ selected_place keep r → q ≡ r
 same_place keep q r h i e =

@@ -1,6 +1,6 @@
 -- The lines of a machine do not meet, and lead out of all lines.
 use Rattle.std.proofs.Common.{◌≡◌, inl, inr, ℕ, zero, suc, ◌+◌, ◌<◌, refl, sym, ◌∙◌, ap, subst, arith, Bool, true, false, List, [], ◌∷◌, map, length, Some}
-use Rattle.std.specs.Prelude.{◌==◌, ◌&&◌, cond, filter, slice_get}
+use Rattle.std.specs.Prelude.{◌==◌, ◌&&◌, cond, filter, not, slice_get}
 use Rattle.std.specs.List.{list_any, slice_index_or}
 use Rattle.std.proofs.lemmas.Bool.Decides.{nat_tests}
 use Rattle.std.proofs.lemmas.Bool.{false_from_ne_true, not-true}
@@ -11,8 +11,16 @@ use Rattle.fs_model.specs.Trees.{Branch, branches_of}
 use Rattle.fs_ast.specs.SoundParts.{IsSound, branch_count, is_cutpoint, reaches_cutpoint, first_transition_target}
 use Rattle.fs_cut.specs.Paths.{branch_at, target_of}
 use Rattle.fs_cut.proofs.Branches.{target_in, some_branch, first_target}
-use Rattle.hls_line_filling.specs.StraightLines.{all_states, sources, is_only, is_straight, follows, next_state, line_from, exit_from, is_inner}
+use Rattle.hls_line_filling.specs.StraightLines.{all_states, sources, is_only, is_straight, follows, next_state, line_from, exit_from}
+use Rattle.hls_line_filling.specs.StraightLines.{is_inner, is_first_of_line}
 use Rattle.hls_line_filling.proofs.Among.{Among, in_range, in_joined, some_of, any_of, stays_among}
+
+-- where a line begins
+pub first_straight : (m : Fsmd) (q : ℕ) → is_first_of_line m q ≡ true → is_straight m q ≡ true
+first_straight m q e = and_first (is_straight m q) (not (is_inner m q)) e
+
+pub first_outer : (m : Fsmd) (q : ℕ) → is_first_of_line m q ≡ true → is_inner m q ≡ false
+first_outer m q e = not-true (is_inner m q) (and_second (is_straight m q) (not (is_inner m q)) e)
 
 pub is_the_only : (q p : ℕ) (xs : List ℕ) → is_only q xs ≡ true → Among p xs → p ≡ q
 is_the_only q p [] e h = absurd h

@@ -2,13 +2,12 @@
 use Rattle.std.proofs.Common.{◌≡◌, ◌≤◌, Bool, true, false, ◌&&◌, ◌||◌, not, cond, arith, refl}
 use Rattle.std.proofs.lemmas.Bool.{and_from}
 use Rattle.base_laws.proofs.Booleans.{and_first, and_second, not_or_second}
-use Rattle.nf_terms.specs.NormalTerms.{Polynomial, ArrayTerm, Writes, Read, Over, NoWrites, Write}
+use Rattle.nf_terms.specs.NormalTerms.{Polynomial, Writes, Over, NoWrites, Write}
 use Rattle.nf_terms.specs.Order.{same_polynomial}
 use Rattle.nf_terms.specs.Measures.{size_of_writes, depth_of_writes}
-use Rattle.nf_terms.specs.Normal.{IsNormal, IsNormalArray, ordered, ordered_writes, ordered_array, is_written, write_rises, is_light, narrow_inside}
-use Rattle.nf_terms.specs.Normal.{narrow_writes, narrow_array, stays_read}
+use Rattle.nf_terms.specs.Normal.{IsNormal, IsNormalArray, ordered, ordered_writes, is_written, write_rises, is_light, narrow_inside}
+use Rattle.nf_terms.specs.Normal.{narrow_writes}
 use Rattle.nf_terms.specs.declared.tree.Base.{Base}
-use Rattle.nf_arrays.specs.NewAtoms.{IsNewAtom}
 use Rattle.nf_arrays.specs.Writes.{written_last, are_apart, stop_at, prefix_for}
 
 -- a write before others is tidy
@@ -148,16 +147,3 @@ last_normal b (Write k w ws) j v n = last_normal b ws j v (record {
   shallow = omega (arith, n.shallow);
   narrow = (narrow_write k w (written_last ws j v) n.narrow).rest;
 })
-
--- a read that stays one is a new atom
-pub new_read : (a : ArrayTerm) (i : Polynomial) → IsNormalArray a → IsNormal i → stays_read a i ≡ true → IsNewAtom (Read a i)
-new_read a i n m s = record {
-  in_order = and_from (ordered_array a && ordered i) (stays_read a i) (and_from (ordered_array a) (ordered i) n.ordered m.ordered) s;
-  narrow = and_deep (narrow_array a) (is_light i) (narrow_inside i) n.narrow m.narrow;
-  size = omega (arith, n.small, m.small);
-  depth = omega (arith, n.shallow, m.shallow);
-}
-  where
-    and_deep : (a b c : Bool) → a ≡ true → b && c ≡ true → a && b && c ≡ true
-    and_deep true b c p q = q
-    and_deep false b c p q = cc

@@ -27,9 +27,10 @@ use Rattle.search_tables.specs.declared.moves.Move.{Move}
 use Rattle.search_tables.specs.SearchTables.{MachinePair, positions_of, SearchNode, Table, is_at, start_node, Keeps, effect}
 use Rattle.search_tables.specs.Next.{mode_at, paths_in, Nothing, next_move}
 use Rattle.search_tables.specs.Legal.{Difference, first_differing, output_at, difference_at, stuck_from, stuck, Makes}
-use Rattle.search_tables.specs.LoneMoves.{lone_targets, lone_in, lone_from, lone_moves}
+use Rattle.search_tables.specs.LoneMoves.{lone_targets, lone_in, lone_moves}
 use Rattle.search_tables.specs.Certifying.{node_without_mode, Certifies}
 use Rattle.search_tables.proofs.Lists.{all_in, all_maps, all_flat, all_flats}
+use Rattle.search_tables.proofs.Chains.{lone_at, mapped_at}
 use Rattle.search_tables.proofs.Closing.{quiet}
 use Rattle.search_tables.proofs.Fitting.{mode_is_fit}
 use Rattle.search_tables.proofs.Judging.{moves_hold, rank_at}
@@ -42,18 +43,6 @@ Held r = r ≡ Done None
 yes_where_held : (k : ℕ) (rs : List Judged) → AllByRecursion Held rs → verdict_from k rs ≡ Yes
 yes_where_held k [] h = refl
 yes_where_held k (r ∷ rs) h = ap (λ z. verdict_by k z (verdict_from (k + 1) rs)) h.0 ∙ yes_where_held (k + 1) rs h.1
-
-mapped_at : (cs : List (CertificateNode Fact)) (k : ℕ) (c : CertificateNode Fact) → slice_get cs k ≡ Some c
-    → slice_get (map node_without_mode cs) k ≡ Some (node_without_mode c)
-mapped_at [] k c e = absurd (cc e)
-mapped_at (d ∷ cs) zero c e = let i : d ≡ c = cc e in ap (λ z. Some (node_without_mode z)) i
-mapped_at (d ∷ cs) (suc k) c e = mapped_at cs k c e
-
-lone_at : (m : MachinePair) (T : Table) (ns : List SearchNode) (k : ℕ) (n : SearchNode) → slice_get ns k ≡ Some n
-    → slice_get (lone_from m T ns) k ≡ Some (lone_in m T n (mode_at m n))
-lone_at m T [] k n e = absurd (cc e)
-lone_at m T (a ∷ ns) zero n e = let i : a ≡ n = cc e in ap (λ z. Some (lone_in m T z (mode_at m z))) i
-lone_at m T (a ∷ ns) (suc k) n e = lone_at m T ns k n e
 
 -- ---- outputs
 

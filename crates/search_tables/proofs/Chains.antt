@@ -57,17 +57,17 @@ module _ (m : MachinePair) (T : Table) (x : Mode) (shared : IsShared x) where
       ∙ none_alone n ys
 
 -- ---- the ranks of a certificate
-lone_at : (m : MachinePair) (T : Table) (ns : List SearchNode) (i : ℕ) (n : SearchNode) → slice_get ns i ≡ Some n
+pub lone_at : (m : MachinePair) (T : Table) (ns : List SearchNode) (i : ℕ) (n : SearchNode) → slice_get ns i ≡ Some n
     → slice_get (lone_from m T ns) i ≡ Some (lone_in m T n (mode_at m n))
 lone_at m T [] i n e = absurd (cc e)
 lone_at m T (k ∷ ns) zero n e = let q : k ≡ n = cc e in ap (λ z. Some (lone_in m T z (mode_at m z))) q
 lone_at m T (k ∷ ns) (suc i) n e = lone_at m T ns i n e
 
-node_at : (cs : List (CertificateNode Fact)) (i : ℕ) (c : CertificateNode Fact) → slice_get cs i ≡ Some c
+pub mapped_at : (cs : List (CertificateNode Fact)) (i : ℕ) (c : CertificateNode Fact) → slice_get cs i ≡ Some c
     → slice_get (map node_without_mode cs) i ≡ Some (node_without_mode c)
-node_at [] i c e = absurd (cc e)
-node_at (d ∷ cs) zero c e = let q : d ≡ c = cc e in ap (λ z. Some (node_without_mode z)) q
-node_at (d ∷ cs) (suc i) c e = node_at cs i c e
+mapped_at [] i c e = absurd (cc e)
+mapped_at (d ∷ cs) zero c e = let q : d ≡ c = cc e in ap (λ z. Some (node_without_mode z)) q
+mapped_at (d ∷ cs) (suc i) c e = mapped_at cs i c e
 
 module _ (m : MachinePair) (T : Table) (ranks : List ℕ) (cs : List (CertificateNode Fact)) (are : AreRanks (lone_moves m T) ranks)
     (h : Certifies m T ranks cs) where
@@ -84,7 +84,7 @@ module _ (m : MachinePair) (T : Table) (ranks : List ℕ) (cs : List (Certificat
       let at : mode_at m (node_without_mode c) ≡ Found c.mode =
       each_at (λ (d : CertificateNode Fact). mode_at m (node_without_mode d) ≡ Found d.mode) cs i c h.modes e in
       let found : mode_at m (node_without_mode c) ≡ Found x = at ∙ ap Found q in
-      let stands : slice_get T i ≡ Some (node_without_mode c) = ap (λ l. slice_get l i) (sym h.nodes) ∙ node_at cs i c e in
+      let stands : slice_get T i ≡ Some (node_without_mode c) = ap (λ l. slice_get l i) (sym h.nodes) ∙ mapped_at cs i c e in
       let edges : slice_get (lone_moves m T) i ≡ Some [] =
       lone_at m T T i (node_without_mode c) stands ∙ ap (λ t. Some (lone_in m T (node_without_mode c) t)) found ∙ ap Some none in
       sym (rank_is i c e) ∙ are.each i [] edges

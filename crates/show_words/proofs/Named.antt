@@ -1,7 +1,7 @@
 -- Where clap takes words, one of the commands is named, and the matches are what is asked.
 use Rattle.std.proofs.Common.{◌≡◌, ◌∙◌, ap, ap₂, Bool, true, false, List, [], ◌∷◌, Option, Some, None, refl, sym, is_some, option_map}
 use Rattle.std.specs.Prelude.{find, IfSome}
-use Rattle.fsmd_words.proofs.Named.{second_none, found_here, name_is}
+use Rattle.fsmd_words.proofs.Named.{Each, second_none, found_has, name_is}
 use Rattle.clap.specs.Matches.{subcommand_name_of}
 use Rattle.clap.specs.Words.{Row, Shape, Text, fault_of, subcommand_of, subcommand_rows_of}
 use Rattle.clap.specs.Simple.{built, entered, rows_at, label_of, argument_words}
@@ -13,15 +13,6 @@ use Rattle.clap.specs.declared.parser.matches.ArgMatches.{ArgMatches}
 use Rattle.clap.specs.declared.parser.matches.ArgMatches.TheViews.{out-ArgMatches}
 use Rattle.show_words.specs.ViewCommandLine.{view_command_line}
 use Rattle.show_words.specs.ViewWords.{AreTakenAsView, ShownView, shown_by, shown_in, shown_of, matched_view_of, where_taken}
-
--- what each shape in a list has, the one that is found has
-abbrev Each : (Shape → Type 0) → List Shape → Type 0
-Each P [] = Unit {0}
-Each P (x ∷ xs) = P x × Each P xs
-
-found_has : (f : Shape → Bool) (P : Shape → Type 0) (xs : List Shape) → Each P xs → IfSome (find f xs) P
-found_has f P [] h = tt
-found_has f P (x ∷ xs) h = found_here P x (find f xs) (f x) h.0 (found_has f P xs h.1)
 
 abbrev IsCommand : Shape → Type 0
 IsCommand s = (rows : List Row) → is_some (shown_by s.name rows) ≡ true

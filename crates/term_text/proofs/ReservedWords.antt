@@ -4,7 +4,7 @@ use Rattle.std.specs.Prelude.{nat_le}
 use Rattle.std.specs.List.{list_all, list_any}
 use Rattle.std.specs.Str.{bytes_eq}
 use Rattle.std.specs.Cmp.Lexicographic.{same_text}
-use Rattle.std.proofs.lemmas.Bool.{leb-true, and_parts}
+use Rattle.std.proofs.lemmas.Bool.{leb-true, and_parts, false_from_ne_true}
 use Rattle.fs_model.specs.Words.{is_reserved, reserved_words}
 
 abbrev has_reserved_length : List ℕ → Bool
@@ -27,12 +27,8 @@ reserved_fit x e =
     let p = and_parts (nat_le 4 (length x)) (nat_le (length x) 6) (among_words x reserved_words refl e) in
     (leb-true 4 (length x) p.0, leb-true (length x) 6 p.1)
 
-not_so : (t : Bool) → (t ≡ true → ⊥) → t ≡ false
-not_so true h = absurd (h refl)
-not_so false h = refl
-
 pub short_word : (x : List ℕ) → length x < 4 → is_reserved x ≡ false
-short_word x h = not_so (is_reserved x) (λ e. let low = (reserved_fit x e).0 in omega (arith, low, h))
+short_word x h = false_from_ne_true (is_reserved x) (λ e. let low = (reserved_fit x e).0 in omega (arith, low, h))
 
 pub long_word : (x : List ℕ) → 6 < length x → is_reserved x ≡ false
-long_word x h = not_so (is_reserved x) (λ e. let high = (reserved_fit x e).1 in omega (arith, high, h))
+long_word x h = false_from_ne_true (is_reserved x) (λ e. let high = (reserved_fit x e).1 in omega (arith, high, h))

@@ -24,7 +24,7 @@ use Rattle.term_values.specs.NameMeanings.{Find}
 use Rattle.term_values.specs.Checks.{numbers_fit, names_known, sorts_fit, ones_left_out, faultless, monomial_passes, sum_passes}
 use Rattle.term_values.specs.TermValues.{exact, polynomial_value}
 use Rattle.term_values.specs.TermFaults.{unless, term_fault, of_reading, HasFault, IsRefusedAsTerm}
-use Rattle.term_values.specs.SumTallies.{monomial_count, tally_fault, Counts, HasTally, IsTallied}
+use Rattle.term_values.specs.SumTallies.{monomial_count, tally_fault, CountsMonomial, HasTally, IsTallied}
 use Rattle.term_values.proofs.Faultless.{monomial_too, is_known}
 use Rattle.term_values.proofs.Lists.{first_passes, more_passes}
 use Rattle.term_values.proofs.Sizes.{too_long}
@@ -66,7 +66,7 @@ one_more a b n k h e f = omega (arith, h, e, f)
 
 pub first_tally : (find : Find) (bytes rest : List ℕ) (t : Tally) (m : Bool × Monomial)
     → ((k : ForPolynomial) → term_reading bytes (at_polynomial k) ≡ term_reading rest (after_sum (first_sum m) k))
-    → Counts find (record { count = 0; numbers = true; names = true; sorts = true }) t m.1 → HasTally find bytes rest t
+    → CountsMonomial find (record { count = 0; numbers = true; names = true; sorts = true }) t m.1 → HasTally find bytes rest t
 first_tally find bytes rest t m goes c = record {
   sum = first_sum m;
   goes = goes whole_polynomial;
@@ -79,7 +79,7 @@ first_tally find bytes rest t m goes c = record {
 pub more_tally : (find : Find) (bytes rest signed_at left : List ℕ) (old new : Tally) (m : Bool × Monomial)
     → HasTally find bytes rest old → rest ≡ 32 ∷ signed_at
     → ((s : Sum) (k : ForPolynomial) → term_reading signed_at (at_sign s k) ≡ term_reading left (after_sum (more_sum s m) k))
-    → Counts find old new m.1 → HasTally find bytes left new
+    → CountsMonomial find old new m.1 → HasTally find bytes left new
 more_tally find bytes rest signed_at left old new m h e goes c = record {
   sum = more_sum h.sum m;
   goes = h.goes ∙ ap (λ (bs : List ℕ). term_reading bs (after_sum h.sum whole_polynomial)) e ∙ goes h.sum whole_polynomial;
@@ -92,7 +92,8 @@ more_tally find bytes rest signed_at left old new m h e goes c = record {
 -- where the first monomial was read, or refused
 pub first_tallied : (find : Find) (bytes : List ℕ) (r : Result (Bool × WrittenMonomial × Bor (List ℕ)) ReadError) (s : Result (Tally × Bor (List ℕ)) ReadError)
     → ((k : ForPolynomial) → Goes r (term_reading bytes (at_polynomial k)) (λ x. term_reading x.2.now (after_sum (first_sum (x.0, written_monomial_in x.1)) k)))
-    → MadeFrom r s (λ m x. Counts find (record { count = 0; numbers = true; names = true; sorts = true }) x.0 (written_monomial_in m.1) × (x.1.now ≡ m.2.now))
+    → MadeFrom r s (λ m x. CountsMonomial find (record { count = 0; numbers = true; names = true; sorts = true }) x.0 (written_monomial_in m.1)
+    × (x.1.now ≡ m.2.now))
     → IsTallied bytes s (λ x. HasTally find bytes x.1.now x.0)
 first_tallied find bytes (Ok m) (Ok x) goes made =
     subst (λ rest. HasTally find bytes rest x.0) (sym made.1) (first_tally find bytes m.2.now x.0 (m.0, written_monomial_in m.1) goes made.0)
@@ -108,7 +109,7 @@ pub next_tallied : (find : Find) (whole bytes : List ℕ) (t : Tally) (r : Resul
     (s : Result (Tally × Bor (List ℕ)) ReadError) → HasTally find whole (32 ∷ bytes) t
     → ((s : Sum) (k : ForPolynomial) → Goes r (term_reading bytes (at_sign s k))
     (λ x. term_reading x.2.now (after_sum (more_sum s (x.0, written_monomial_in x.1)) k)))
-    → MadeFrom r s (λ m x. Counts find t x.0 (written_monomial_in m.1) × (x.1.now ≡ m.2.now)) → IsTallied whole s (λ x. HasTally find whole x.1.now x.0)
+    → MadeFrom r s (λ m x. CountsMonomial find t x.0 (written_monomial_in m.1) × (x.1.now ≡ m.2.now)) → IsTallied whole s (λ x. HasTally find whole x.1.now x.0)
 next_tallied find whole bytes t (Ok m) (Ok x) h goes made =
     subst (λ rest. HasTally find whole rest x.0) (sym made.1)
     (more_tally find whole (32 ∷ bytes) bytes m.2.now t x.0 (m.0, written_monomial_in m.1) h refl goes made.0)
@@ -121,7 +122,7 @@ next_tallied find whole bytes t (Err d) (Err unread.NoMemory) h goes made = tt
 
 pub tallied_shorter : (n : ℕ) (find : Find) (t : Tally) (r : Result (Bool × WrittenMonomial × Bor (List ℕ)) ReadError)
     (s : Result (Tally × Bor (List ℕ)) ReadError) → IfOk r (λ x. length x.2.now < n)
-    → MadeFrom r s (λ m x. Counts find t x.0 (written_monomial_in m.1) × (x.1.now ≡ m.2.now)) → IfOk s (λ x. length x.1.now < n)
+    → MadeFrom r s (λ m x. CountsMonomial find t x.0 (written_monomial_in m.1) × (x.1.now ≡ m.2.now)) → IfOk s (λ x. length x.1.now < n)
 tallied_shorter n find t (Ok m) (Ok x) h made = omega (arith, h, ap length made.1)
 tallied_shorter n find t (Ok m) (Err e) h made = tt
 tallied_shorter n find t (Err d) (Ok x) h made = absurd made

@@ -22,7 +22,7 @@ abbrev pub tally_fault : Tally → TermError
 tally_fault t = cond t.numbers (cond t.names (cond t.sorts NotNormal SortOf) UnknownName) NumberTooBig
 
 -- what one monomial makes of the tally before it
-pub record Counts (find : Find) (old new : Tally) (m : Monomial) : Type 0 where
+pub record CountsMonomial (find : Find) (old new : Tally) (m : Monomial) : Type 0 where
   pub count : new.count ≤ suc old.count
   pub numbers : new.numbers ≡ (old.numbers && monomial_passes numbers_fit m)
   pub names : new.names ≡ (old.names && monomial_passes (names_known find) m)

@@ -8,7 +8,7 @@ ghost use Rattle.term_text.specs.Machine.{begins};
 ghost use Rattle.term_text.specs.View.{written_monomial_in};
 ghost use Rattle.term_values.specs.Checks.{numbers_fit, names_known, sorts_fit, monomial_passes};
 ghost use Rattle.term_values.specs.TermFaults.{IsRefusedAsTerm};
-ghost use Rattle.term_values.specs.SumTallies.{tally_fault, Counts, HasTally, IsTallied};
+ghost use Rattle.term_values.specs.SumTallies.{tally_fault, CountsMonomial, HasTally, IsTallied};
 
 use crate::checks::monomial_passes;
 use crate::faults::TermError;
@@ -73,7 +73,7 @@ fn tally_with<'a, N: Names>(
     term: Result<(bool, WrittenMonomial<'a>, &'a [u8]), ReadError>,
 ) -> Result<(Tally, &'a [u8]), ReadError>
     ensures { MadeFrom term.entry result
-        (λ m x. Counts (N.find names.now) tally x.0 (written_monomial_in m.1) × (x.1.now ≡ m.2.now)) }
+        (λ m x. CountsMonomial (N.find names.now) tally x.0 (written_monomial_in m.1) × (x.1.now ≡ m.2.now)) }
 {
     match term {
         Ok((_minus, monomial, rest)) => Ok((with_monomial(names, tally, &monomial), rest)),

@@ -1,4 +1,4 @@
-use Rattle.std.proofs.Common.{ap, sym, subst, ◌∙◌}
+use Rattle.std.proofs.Common.{sym, subst, ◌∙◌}
 use Rattle.nf_terms.specs.NormalTerms.{Remainder}
 use Rattle.nf_terms.specs.Computed.{Answers}
 use Rattle.nf_arrays.specs.NewAtoms.{IsNewAtom, new_atom}
