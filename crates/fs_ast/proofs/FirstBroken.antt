@@ -15,7 +15,7 @@ use Rattle.fs_rules.specs.MachineOfParts.{names_of, variables_of, state_names, p
 use Rattle.fs_rules.specs.SoundParts.{first_transition_target, is_cutpoint}
 use Rattle.fs_rules.specs.Rules.{rule_rank, is_sooner, plain_faults, branch_faults, after_steps, IsEndless, IsFirstBroken}
 use Rattle.fs_rules.specs.FirstFault.{earliest}
-use Rattle.fs_ast.specs.NumberedParts.{spelled_state_with_line, states_with_lines}
+use Rattle.fs_branches.specs.NumberedParts.{spelled_state_with_line, states_with_lines}
 use Rattle.fs_ast.specs.Shapes.{skeleton, forked_faults, endless_faults, IsFirstOfShapes}
 use Rattle.fs_rules.proofs.FirstFaults.{earliest-append}
 use Rattle.fs_rules.proofs.Rounds.{get_back, get_either}

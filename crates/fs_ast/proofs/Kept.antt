@@ -37,7 +37,7 @@ use Rattle.fs_rules.specs.Rules.{changes_input, transition_faults, transitions_f
 use Rattle.fs_rules.specs.Rules.{branch_faults, after_steps, BreaksNoRule}
 use Rattle.fs_rules.specs.Places.{declared_name_list}
 use Rattle.fs_rules.proofs.Naming.{names_declared, names_of_declared}
-use Rattle.fs_ast.proofs.Leaves.{length_leaves}
+use Rattle.fs_branches.proofs.Leaves.{length_leaves}
 use Rattle.fs_ast.proofs.Numbers.{numbers_in_transition, state_numbers, transition_numbers}
 
 -- ---- lists with nothing in them

@@ -6,7 +6,7 @@ use Rattle.fs_model.proofs.Booleans.{and_second}
 use Rattle.fs_rules.specs.SoundParts.{ends_open}
 use Rattle.fs_model.specs.Terms.{Guard, Test, Not, And, Or, Transition}
 use Rattle.fs_model.specs.Trees.{Tree, Empty, Leaf, Branch, tree_of_guard, tree_of_condition, tree_of_transitions, leaves, branches_of, count_leaves}
-use Rattle.fs_ast.proofs.Leaves.{length_leaves}
+use Rattle.fs_branches.proofs.Leaves.{length_leaves}
 
 count-guard : (g : Guard ℕ) (y n : Tree) → count_leaves y + count_leaves n ≤ count_leaves (tree_of_guard g y n)
 count-guard (Test l) y n = omega arith

@@ -9,14 +9,14 @@ use Rattle.fs_model.specs.Machines.{State, Fsmd, transitions_of}
 use Rattle.fs_model.specs.Trees.{tree_of_transitions, branches_of, count_leaves}
 use Rattle.fs_rules.specs.declared.check.CheckRule.TheVariants.{EndlessLine}
 use Rattle.fs_rules.specs.declared.check.CheckFault.{CheckFault}
-use Rattle.fs_ast.specs.declared.resolve.State.{State as NumberedState}
+use Rattle.fs_branches.specs.declared.resolve.State.{State as NumberedState}
 use Rattle.fs_rules.specs.SoundParts.{first_transition_target, branch_count, is_cutpoint, reaches_cutpoint}
 use Rattle.fs_rules.specs.Rules.{at_lines, after_steps, IsEndless}
-use Rattle.fs_ast.specs.NumberedParts.{resolved_state, state_with_line}
+use Rattle.fs_branches.specs.NumberedParts.{resolved_state, state_with_line}
 use Rattle.fs_rules.specs.TargetWalks.{state_after_walk, is_cut, walk_reaches_cut, IsRound, IsTargetList}
 use Rattle.fs_ast.specs.Shapes.{skeleton, forked_faults, endless_faults, LeadOn, IsFirstOfShapes}
 use Rattle.fs_rules.specs.FirstFault.{earliest}
-use Rattle.fs_ast.proofs.Leaves.{length_leaves}
+use Rattle.fs_branches.proofs.Leaves.{length_leaves}
 
 -- the line of a state
 pub line_there : (states : List NumberedState) (q : ℕ) (x : NumberedState) → q < length states → x ≡ get_or states q x

@@ -1,6 +1,6 @@
 -- From the parts of a text to a machine that keeps all rules.
 use Rattle.std.proofs.Common.{◌≡◌, ℕ, zero, suc, ◌<◌, ◌≤◌, Bool, true, List, [], ◌∷◌, ◌++◌, length, refl, sym, ◌∙◌, ap, ap₂, arith}
-use Rattle.std.specs.Prelude.{◌||◌, ◌==◌, nat_lt, Option, Some, None, Result, Ok, Err, IfOk, map, slice_get}
+use Rattle.std.specs.Prelude.{◌||◌, ◌==◌, nat_lt, Option, Some, None, map, slice_get}
 use Rattle.std.specs.List.{list_all, flat_map, slice_index_or}
 use Rattle.std.specs.Option.{option_to_list}
 use Rattle.std.proofs.lemmas.Bool.{and_parts, ltb-true}
@@ -13,12 +13,12 @@ use Rattle.fs_model.specs.Machines.{State, Fsmd, transitions_of}
 use Rattle.fs_model.specs.Trees.{branches_of}
 use Rattle.fs_rules.specs.declared.check.CheckRule.TheVariants.{EndlessLine}
 use Rattle.fs_rules.specs.declared.check.CheckFault.{CheckFault}
-use Rattle.fs_ast.specs.declared.resolve.State.{State as NumberedState}
+use Rattle.fs_branches.specs.declared.resolve.State.{State as NumberedState}
 use Rattle.fs_rules.specs.MachineOfParts.{variables_of, names_of, state_names, place_or_end, machine_of}
 use Rattle.fs_rules.specs.SoundParts.{first_transition_target, is_cutpoint, reaches_cutpoint}
 use Rattle.fs_rules.specs.Rules.{at_lines, branch_faults}
 use Rattle.fs_rules.specs.FirstFault.{sooner, earliest}
-use Rattle.fs_ast.specs.NumberedParts.{resolved_state, state_with_line, spelled_state_with_line, states_with_lines}
+use Rattle.fs_branches.specs.NumberedParts.{resolved_state, state_with_line, spelled_state_with_line, states_with_lines}
 use Rattle.fs_ast.specs.Shapes.{skeleton, forked_faults, endless_faults, LeadOn, IsFirstOfShapes}
 use Rattle.fs_rules.specs.Scopes.{IsScopeOf}
 use Rattle.fs_rules.proofs.Turns.{flat_map_map}
@@ -47,10 +47,6 @@ few_stated p vars states s k =
     omega arith
 
 -- ---- states
-
-pub if_ok : {T E : Type 0} (r : Result T E) {P Q : T → Type 0} → ((x : T) → P x → Q x) → IfOk r P → IfOk r Q
-if_ok (Ok x) f h = f x h
-if_ok (Err e) f h = tt
 
 pub placed_is : (p : Source) (vars : List VarInfo) (states : List SourceState) (resolved : List NumberedState) → IsScopeOf p vars states
     → map state_with_line resolved ≡ map (spelled_state_with_line (names_of vars) (state_names states)) p.states

@@ -1,5 +1,3 @@
-pub mod NumberedParts
-pub mod Forks
 pub mod Shapes
 pub mod StoredBranches
 pub mod BuildAnswers

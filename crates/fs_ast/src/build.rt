@@ -8,11 +8,11 @@ ghost use Rattle.fs_rules.specs.MachineOfParts.{state_names, place_or_end, machi
 ghost use Rattle.fs_rules.specs.Rules.{plain_faults, Broken, IsFirstBroken, BreaksNoRule};
 ghost use Rattle.fs_rules.specs.Scopes.{IsScopeOf};
 ghost use Rattle.fs_ast.specs.BuildAnswers.{IfCheck};
-ghost use Rattle.fs_ast.specs.NumberedParts.{state_with_line, states_with_lines};
+ghost use Rattle.fs_branches.specs.NumberedParts.{state_with_line, states_with_lines};
 
 use crate::machine::Machine;
-use crate::resolve::{State, resolve};
 use crate::shape_rules::check_shapes;
+use fs_branches::resolve::{State, resolve};
 use fs_model::name::NoMemory;
 use fs_model::parts::{Parts, StateId, VarInfo};
 use fs_rules::check::CheckFault;

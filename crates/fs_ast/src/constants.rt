@@ -5,9 +5,9 @@ ghost use Rattle.std.specs.Result.{OnOk};
 ghost use Rattle.fs_model.specs.View.{term_of, guard_of, assignment_of};
 ghost use Rattle.fs_rules.specs.SoundParts.{numbers_in, numbers_in_guard, numbers_in_condition, numbers_in_assignment};
 ghost use Rattle.fs_rules.specs.SoundParts.{numbers_in_assignments, numbers_in_transitions, numbers_in_states};
-ghost use Rattle.fs_ast.specs.NumberedParts.{resolved_transition, resolved_state};
+ghost use Rattle.fs_branches.specs.NumberedParts.{resolved_transition, resolved_state};
 
-use crate::resolve::{State, Transition};
+use fs_branches::resolve::{State, Transition};
 use fs_model::memory::push_value;
 use fs_model::name::NoMemory;
 use fs_model::parts::{Assign, Expr, Guard, VarId};

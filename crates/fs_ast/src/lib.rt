@@ -1,20 +1,17 @@
-//! Machines from their parts: numbers for names, decision trees and their branches.
+//! Machines from their parts: built, with the branches and the numbers of their states, where no rule is broken.
 //!
 //! The rules that parts keep stand in `fs_rules`; its definitions are passed on by `specs/`.
 //!
 //! Promises: `Machine::build` gives the machine that well-formed parts spell, and what is sound.
 //!
-//! Rules: `specs/Forks`, `specs/Branches`, `src/laws`.
+//! Rules: `specs/Shapes`, `specs/Branches`, `src/laws`.
 #![tactic(auto)]
 
 pub mod build;
 mod constants;
 pub mod laws;
 pub mod machine;
-mod resolve;
 mod shape_rules;
-mod shared_literal;
-mod trees;
 
 pub use fs_model::{name, parts};
 pub use fs_rules::check;

@@ -6,13 +6,13 @@ ghost use Rattle.fs_model.specs.Machines.{transitions_of};
 ghost use Rattle.fs_model.specs.Trees.{branches_of};
 ghost use Rattle.fs_model.specs.View.{branch_of};
 ghost use Rattle.fs_rules.specs.SoundParts.{IsSound, numbers_in_states};
-ghost use Rattle.fs_ast.specs.NumberedParts.{resolved_state};
+ghost use Rattle.fs_branches.specs.NumberedParts.{resolved_state};
 ghost use Rattle.fs_ast.specs.StoredBranches.{state_name_of, KeepsTypes};
 ghost use Rattle.fs_model.specs.Words.{is_name};
 
 use crate::constants::constants_of;
-use crate::resolve::State;
-use crate::trees::branches;
+use fs_branches::resolve::State;
+use fs_branches::trees::branches;
 use fs_model::memory::{push_value, share};
 use fs_model::name::{Name, NoMemory};
 use fs_model::parts::{Branch, StateId, VarInfo};
@@ -41,7 +41,7 @@ impl Model for Machine {
     ghost use Rattle.fs_model.specs.Machines.{Fsmd};
     ghost use Rattle.fs_model.specs.Codes.{coded_fsmd};
     ghost use Rattle.fs_model.specs.View.{branch_of};
-    ghost use Rattle.fs_ast.specs.NumberedParts.{resolved_state};
+    ghost use Rattle.fs_branches.specs.NumberedParts.{resolved_state};
     ghost use Rattle.fs_ast.specs.StoredBranches.{IsStoredMachine};
 
     ghost Value = { Fsmd };

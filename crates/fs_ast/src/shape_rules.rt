@@ -3,13 +3,13 @@
 ghost use Rattle.std.specs.Prelude.{◌≡◌, ◌<◌, ◌||◌, ◌==◌, ℕ, [], ◌∷◌, length, map, nat_lt, IfOk};
 ghost use Rattle.fs_rules.specs.SoundParts.{first_transition_target, is_cutpoint};
 ghost use Rattle.fs_rules.specs.FirstFault.{earliest};
-ghost use Rattle.fs_ast.specs.NumberedParts.{resolved_transition, resolved_state, state_with_line};
+ghost use Rattle.fs_branches.specs.NumberedParts.{resolved_transition, resolved_state, state_with_line};
 ghost use Rattle.fs_rules.specs.TargetWalks.{is_cut};
 ghost use Rattle.fs_model.specs.Trees.{tree_of_transitions, count_leaves};
 ghost use Rattle.fs_ast.specs.Shapes.{forked_faults, endless_faults, skeleton, LeadOn, IsFirstOfShapes};
 
-use crate::resolve::{State, Transition};
-use crate::trees::count_leaves;
+use fs_branches::resolve::{State, Transition};
+use fs_branches::trees::count_leaves;
 use fs_model::limits::BRANCH_LIMIT;
 use fs_model::memory::push_value;
 use fs_model::name::NoMemory;

@@ -3,9 +3,10 @@ use Rattle.std.specs.Prelude.{map}
 use Rattle.fs_model.specs.View.{source_of, source_state_of}
 use Rattle.fs_rules.specs.MachineOfParts.{names_of}
 use Rattle.fs_rules.specs.Places.{names_stated}
-use Rattle.fs_ast.specs.NumberedParts.{spelled_state_with_line}
+use Rattle.fs_branches.specs.NumberedParts.{spelled_state_with_line}
 use Rattle.fs_ast.proofs.Kept.{all_kept}
-use Rattle.fs_ast.proofs.Whole.{few_vars, few_stated, if_ok, placed_is}
+use Rattle.fs_branches.proofs.Numbered.{if_ok}
+use Rattle.fs_ast.proofs.Whole.{few_vars, few_stated, placed_is}
 use Rattle.fs_ast.proofs.build.numbered_states.Goals as goal
 
 pub resolve-requires-clause-variables : goal.resolve-requires-clause-variables

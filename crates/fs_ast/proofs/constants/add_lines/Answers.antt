@@ -1,5 +1,5 @@
 use Rattle.fs_rules.specs.SoundParts.{numbers_in_transitions}
-use Rattle.fs_ast.specs.NumberedParts.{resolved_transition}
+use Rattle.fs_branches.specs.NumberedParts.{resolved_transition}
 use Rattle.fs_ast.proofs.Numbers.{numbers_in_transition, lines_push, put_numbers}
 use Rattle.fs_ast.proofs.constants.add_lines.Goals as goal
 

@@ -1,7 +1,7 @@
 use Rattle.std.proofs.Common.{[], ◌∙◌, ap, ◌++◌}
 use Rattle.std.specs.Prelude.{map}
 use Rattle.fs_rules.specs.SoundParts.{numbers_in_transitions, numbers_in_states}
-use Rattle.fs_ast.specs.NumberedParts.{resolved_state, resolved_transition}
+use Rattle.fs_branches.specs.NumberedParts.{resolved_state, resolved_transition}
 use Rattle.fs_ast.proofs.Numbers.{states_push, put_numbers}
 use Rattle.fs_ast.proofs.constants.constants_of.Goals as goal
 

@@ -1,7 +1,7 @@
 use Rattle.std.proofs.Common.{◌≡◌, take}
 use Rattle.std.specs.Prelude.{map}
 use Rattle.fs_rules.specs.SoundParts.{numbers_in_states}
-use Rattle.fs_ast.specs.NumberedParts.{resolved_state}
+use Rattle.fs_branches.specs.NumberedParts.{resolved_state}
 use Rattle.fs_ast.proofs.constants.constants_of.Given as goal
 
 abbrev pub invariant-loop-state : goal.invariant-loop-state

@@ -1,7 +1,7 @@
 use Rattle.std.proofs.Common.{◌∙◌, ap, ap₂, length}
 use Rattle.std.specs.Prelude.{map}
 use Rattle.fs_rules.specs.FirstFault.{earliest}
-use Rattle.fs_ast.specs.NumberedParts.{state_with_line}
+use Rattle.fs_branches.specs.NumberedParts.{state_with_line}
 use Rattle.fs_rules.specs.TargetWalks.{is_cut}
 use Rattle.fs_ast.specs.Shapes.{forked_faults, endless_faults}
 use Rattle.fs_ast.proofs.Shapes.{graph_of, shapes_of}

@@ -1,7 +1,7 @@
 use Rattle.std.proofs.Common.{◌≡◌, ℕ, ◌<◌, length}
 use Rattle.std.specs.Prelude.{map}
 use Rattle.fs_rules.specs.SoundParts.{is_cutpoint}
-use Rattle.fs_ast.specs.NumberedParts.{state_with_line}
+use Rattle.fs_branches.specs.NumberedParts.{state_with_line}
 use Rattle.fs_rules.specs.TargetWalks.{is_cut}
 use Rattle.fs_ast.specs.Shapes.{skeleton}
 use Rattle.fs_ast.proofs.shape_rules.cutpoints.Given as goal

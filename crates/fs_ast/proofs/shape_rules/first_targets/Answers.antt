@@ -1,7 +1,7 @@
 use Rattle.std.proofs.Common.{[], ap, ◌∙◌, map}
 use Rattle.fs_rules.specs.SoundParts.{first_transition_target}
 use Rattle.fs_rules.proofs.Turns.{put_done}
-use Rattle.fs_ast.specs.NumberedParts.{resolved_state, resolved_transition}
+use Rattle.fs_branches.specs.NumberedParts.{resolved_state, resolved_transition}
 use Rattle.fs_ast.proofs.shape_rules.first_targets.Goals as goal
 
 pub loop-state-preserved : goal.loop-state-preserved

@@ -1,7 +1,7 @@
 use Rattle.std.proofs.Common.{◌<◌, ◌≤◌, ◌∙◌, length, sym, ap, rules, tests}
 use Rattle.std.specs.Prelude.{map, Some, None}
 use Rattle.fs_rules.specs.FirstFault.{earliest}
-use Rattle.fs_ast.specs.NumberedParts.{state_with_line}
+use Rattle.fs_branches.specs.NumberedParts.{state_with_line}
 use Rattle.fs_ast.proofs.Shapes.{line_there, line_past, endless_one}
 use Rattle.fs_ast.proofs.shape_rules.note_endless_at.Goals as goal
 

@@ -1,7 +1,7 @@
 use Rattle.std.proofs.Common.{◌≡◌, drop}
 use Rattle.std.specs.Prelude.{map}
 use Rattle.fs_rules.specs.FirstFault.{earliest}
-use Rattle.fs_ast.specs.NumberedParts.{state_with_line}
+use Rattle.fs_branches.specs.NumberedParts.{state_with_line}
 use Rattle.fs_ast.specs.Shapes.{forked_faults}
 use Rattle.fs_ast.proofs.shape_rules.note_forked.Given as goal
 

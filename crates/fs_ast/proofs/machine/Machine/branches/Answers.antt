@@ -5,7 +5,7 @@ use Rattle.fs_model.specs.Machines.{State, transitions_of}
 use Rattle.fs_model.specs.Trees.{branches_of}
 use Rattle.fs_model.specs.View.{branch_of}
 use Rattle.fs_ast.specs.declared.machine.StoredMachine.{StoredMachine}
-use Rattle.fs_ast.specs.NumberedParts.{resolved_state}
+use Rattle.fs_branches.specs.NumberedParts.{resolved_state}
 use Rattle.fs_ast.proofs.Numbers.{same_at}
 use Rattle.fs_ast.proofs.Kept.{no_state}
 use Rattle.fs_ast.proofs.machine.Machine.branches.Goals as goal

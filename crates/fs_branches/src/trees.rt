@@ -5,8 +5,8 @@ ghost use Rattle.std.specs.Result.{OnOk};
 ghost use Rattle.fs_model.specs.View.{shared_literal_of, guard_of, branch_of};
 ghost use Rattle.fs_model.specs.Trees.{Leaf, Node, tree_of_guard, tree_of_condition, tree_of_transitions, leaves, branches_of};
 ghost use Rattle.fs_model.specs.Trees.{count_leaves, negated_literal};
-ghost use Rattle.fs_ast.specs.NumberedParts.{resolved_transition};
-ghost use Rattle.fs_ast.specs.Forks.{tree_of, leaves_by, leaves_by_condition, capped_leaves};
+ghost use Rattle.fs_branches.specs.NumberedParts.{resolved_transition};
+ghost use Rattle.fs_branches.specs.Forks.{tree_of, leaves_by, leaves_by_condition, capped_leaves};
 
 use crate::resolve::Transition;
 use crate::shared_literal::SharedLiteral;

@@ -5,8 +5,8 @@ use Rattle.fs_model.specs.Machines.{State}
 use Rattle.fs_model.specs.View.{guard_of, assignment_of}
 use Rattle.fs_model.specs.Source.{SourceState, Source}
 use Rattle.fs_rules.specs.MachineOfParts.{variables_of, names_of, state_names, state_spelled}
-use Rattle.fs_ast.specs.declared.resolve.Transition.{Transition as NumberedLine}
-use Rattle.fs_ast.specs.declared.resolve.State.{State as NumberedState}
+use Rattle.fs_branches.specs.declared.resolve.Transition.{Transition as NumberedLine}
+use Rattle.fs_branches.specs.declared.resolve.State.{State as NumberedState}
 
 -- what a transition says
 abbrev pub resolved_transition : NumberedLine → Transition ℕ ℕ

@@ -1,6 +1,6 @@
 -- Guards and assignments over the numbers of variables.
 use Rattle.std.proofs.Common.{◌≡◌, ℕ, List, [], ◌∷◌, refl, sym, ◌∙◌, ap, ap₂}
-use Rattle.std.specs.Prelude.{map}
+use Rattle.std.specs.Prelude.{map, Result, Ok, Err, IfOk}
 use Rattle.fs_model.proofs.Lists.{map_map}
 use Rattle.fs_model.specs.declared.parts.VarId.{VarId}
 use Rattle.fs_model.specs.declared.parts.Guard.{Guard as DeclaredGuard}
@@ -27,3 +27,7 @@ assignments_numbered f bs copies h =
     ∙ map_map (assignment_over (λ (x : VarId). x.0)) (assignment_over (λ n. record { 0 = f n })) (map named_assignment bs)
     ∙ map_same (λ a. assignment_over (λ (x : VarId). x.0) (assignment_over (λ n. record { 0 = f n }) a)) (assignment_over f)
     (assignment_over_over (λ (x : VarId). x.0) (λ n. record { 0 = f n })) (map named_assignment bs)
+
+pub if_ok : {T E : Type 0} (r : Result T E) {P Q : T → Type 0} → ((x : T) → P x → Q x) → IfOk r P → IfOk r Q
+if_ok (Ok x) f h = f x h
+if_ok (Err e) f h = tt

@@ -3,7 +3,7 @@ use Rattle.std.proofs.Common.{◌≡◌, ℕ, ◌+◌, List, [], ◌∷◌, ◌+
 use Rattle.std.specs.Prelude.{Option, Some, None}
 use Rattle.fs_model.specs.Terms.{Literal, Guard, Test, Not, And, Or, Transition}
 use Rattle.fs_model.specs.Trees.{Tree, Empty, Leaf, Node, tree_of_guard, tree_of_condition, tree_of_transitions, leaves, count_leaves, negated_literal}
-use Rattle.fs_ast.specs.Forks.{leaves_by, leaves_by_condition, capped_leaves}
+use Rattle.fs_branches.specs.Forks.{leaves_by, leaves_by_condition, capped_leaves}
 
 pub capped_both : (g : Guard ℕ) (y n v m : ℕ) → capped_leaves y ≡ capped_leaves v → capped_leaves n ≡ capped_leaves m
     → capped_leaves (leaves_by g y n) ≡ capped_leaves (leaves_by g v m)

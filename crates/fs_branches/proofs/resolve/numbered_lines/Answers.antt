@@ -2,8 +2,8 @@ use Rattle.fs_model.specs.View.{source_transition_of}
 use Rattle.fs_model.proofs.Filled.{one_more}
 use Rattle.fs_rules.specs.MachineOfParts.{names_of, transition_spelled}
 use Rattle.fs_rules.specs.Places.{names_stated}
-use Rattle.fs_ast.specs.NumberedParts.{resolved_transition}
-use Rattle.fs_ast.proofs.resolve.numbered_lines.Goals as goal
+use Rattle.fs_branches.specs.NumberedParts.{resolved_transition}
+use Rattle.fs_branches.proofs.resolve.numbered_lines.Goals as goal
 
 pub loop-raw-preserved : goal.loop-raw-preserved
 loop-raw-preserved c =

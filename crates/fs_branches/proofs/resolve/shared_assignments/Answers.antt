@@ -1,9 +1,8 @@
 use Rattle.std.proofs.Common.{◌∙◌, ap, map}
 use Rattle.fs_model.specs.View.{assignment_of}
 use Rattle.fs_rules.specs.MachineOfParts.{place_or_end, names_of}
-use Rattle.fs_ast.proofs.Numbered.{assignments_numbered}
-use Rattle.fs_ast.proofs.Whole.{if_ok}
-use Rattle.fs_ast.proofs.resolve.shared_assignments.Goals as goal
+use Rattle.fs_branches.proofs.Numbered.{assignments_numbered, if_ok}
+use Rattle.fs_branches.proofs.resolve.shared_assignments.Goals as goal
 
 pub returns : goal.returns
 returns c =

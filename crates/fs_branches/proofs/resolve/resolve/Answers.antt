@@ -2,8 +2,8 @@ use Rattle.fs_model.specs.View.{source_state_of}
 use Rattle.fs_model.proofs.Filled.{one_more}
 use Rattle.fs_rules.specs.MachineOfParts.{names_of}
 use Rattle.fs_rules.specs.Places.{names_stated}
-use Rattle.fs_ast.specs.NumberedParts.{state_with_line, spelled_state_with_line}
-use Rattle.fs_ast.proofs.resolve.resolve.Goals as goal
+use Rattle.fs_branches.specs.NumberedParts.{state_with_line, spelled_state_with_line}
+use Rattle.fs_branches.proofs.resolve.resolve.Goals as goal
 
 pub loop-raw-preserved : goal.loop-raw-preserved
 loop-raw-preserved c =

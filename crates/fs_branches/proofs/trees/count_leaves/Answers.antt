@@ -2,10 +2,10 @@ use Rattle.std.proofs.Common.{◌≡◌, ◌∙◌, ◌+◌, ◌-◌, ◌<◌, �
 use Rattle.std.specs.Prelude.{map, ℕ}
 use Rattle.fs_model.proofs.Lists.{map_drop_next}
 use Rattle.fs_model.specs.Trees.{tree_of_transitions, count_leaves}
-use Rattle.fs_ast.specs.NumberedParts.{resolved_transition}
-use Rattle.fs_ast.specs.Forks.{capped_leaves}
-use Rattle.fs_ast.proofs.Leaves.{count_more}
-use Rattle.fs_ast.proofs.trees.count_leaves.Goals as goal
+use Rattle.fs_branches.specs.NumberedParts.{resolved_transition}
+use Rattle.fs_branches.specs.Forks.{capped_leaves}
+use Rattle.fs_branches.proofs.Leaves.{count_more}
+use Rattle.fs_branches.proofs.trees.count_leaves.Goals as goal
 
 pub loop-k-preserved : goal.loop-k-preserved
 loop-k-preserved c =

@@ -2,9 +2,9 @@
 use Rattle.std.specs.Prelude.{ℕ, ◌+◌, min, Option, Some, None}
 use Rattle.fs_model.specs.Terms.{Guard, Test, Not, And, Or}
 use Rattle.fs_model.specs.Trees.{Tree, Empty, Leaf, Node}
-use Rattle.fs_ast.specs.declared.trees.DecisionTree.{DecisionTree}
-use Rattle.fs_ast.specs.declared.trees.DecisionTree.TheVariants as trees
-use Rattle.fs_ast.specs.NumberedParts.{resolved_transition}
+use Rattle.fs_branches.specs.declared.trees.DecisionTree.{DecisionTree}
+use Rattle.fs_branches.specs.declared.trees.DecisionTree.TheVariants as trees
+use Rattle.fs_branches.specs.NumberedParts.{resolved_transition}
 
 -- the tree that a value of the code stands for
 abbrev pub tree_of : DecisionTree → Tree

@@ -7,7 +7,7 @@ ghost use Rattle.fs_model.specs.View.{named_guard, named_assignment, guard_of, a
 ghost use Rattle.fs_model.specs.View.{source_state_of};
 ghost use Rattle.fs_rules.specs.MachineOfParts.{place_or_end, names_of, transition_spelled};
 ghost use Rattle.fs_rules.specs.Places.{names_stated};
-ghost use Rattle.fs_ast.specs.NumberedParts.{resolved_transition, state_with_line, spelled_state_with_line};
+ghost use Rattle.fs_branches.specs.NumberedParts.{resolved_transition, state_with_line, spelled_state_with_line};
 
 use fs_model::copies::renamed_assignments;
 use fs_model::memory::{push_value, share};

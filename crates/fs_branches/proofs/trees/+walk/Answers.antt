@@ -3,10 +3,10 @@ use Rattle.std.proofs.lemmas.List.{append-nil}
 use Rattle.std.proofs.lemmas.Result.{on_ok_weaker}
 use Rattle.fs_model.specs.Trees.{Node, leaves, negated_literal}
 use Rattle.fs_model.specs.View.{branch_of, shared_literal_of}
-use Rattle.fs_ast.specs.Forks.{tree_of}
-use Rattle.fs_ast.specs.declared.trees.DecisionTree.TheVariants as trees
-use Rattle.fs_ast.proofs.Ways.{as_before, both_sides}
-use Rattle.fs_ast.proofs.trees.+walk.Goals as goal
+use Rattle.fs_branches.specs.Forks.{tree_of}
+use Rattle.fs_branches.specs.declared.trees.DecisionTree.TheVariants as trees
+use Rattle.fs_branches.proofs.Ways.{as_before, both_sides}
+use Rattle.fs_branches.proofs.trees.+walk.Goals as goal
 
 pub returns-in_ok-add_negation-in-Test-clause-branches : goal.returns-in_ok-add_negation-in-Test-clause-branches
 returns-in_ok-add_negation-in-Test-clause-branches t c =

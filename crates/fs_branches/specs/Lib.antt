@@ -1,0 +1,2 @@
+pub mod NumberedParts
+pub mod Forks
