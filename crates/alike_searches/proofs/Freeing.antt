@@ -12,8 +12,8 @@ use Rattle.nf_terms.specs.Computed.{Computed, Done, after}
 use Rattle.nf_terms.specs.declared.symbols.Sort.{Sort as TermSort}
 use Rattle.nf_terms.specs.declared.symbols.Sort.TheVariants as term
 use Rattle.fs_model.specs.declared.sides.Pos.{Pos}
-use Rattle.nf_terms.specs.declared.tree.Base.{Base}
-use Rattle.nf_terms.specs.declared.tree.Base.TheVariants as base
+use Rattle.nf_trees.specs.declared.tree.Base.{Base}
+use Rattle.nf_trees.specs.declared.tree.Base.TheVariants as base
 use Rattle.nf_terms.specs.declared.tree.SeqBase.{SeqBase}
 use Rattle.nf_terms.specs.declared.tree.SeqBase.TheVariants as list
 use Rattle.nf_terms.specs.declared.form.Nf.{Nf}

@@ -10,8 +10,8 @@ use Rattle.nf_terms.specs.Normal.{is_constant, constant_sum, is_written, last_in
 use Rattle.nf_terms.specs.RawSums.{raw_sum, raw_difference, raw_product}
 use Rattle.nf_terms.specs.Tidied.{last_writes, goes_after, with_write, rising_stretches, tidy_array}
 use Rattle.nf_terms.specs.Computed.{Computed, Done}
-use Rattle.nf_terms.specs.declared.tree.Base.{Base}
-use Rattle.nf_terms.specs.declared.tree.Base.TheVariants as base
+use Rattle.nf_trees.specs.declared.tree.Base.{Base}
+use Rattle.nf_trees.specs.declared.tree.Base.TheVariants as base
 use Rattle.nf_sums.specs.Operations.{normal_sum, normal_difference, normal_product, number}
 use Rattle.nf_sums.proofs.Values.{small_is}
 use Rattle.nf_arrays.specs.NewAtoms.{polynomial_of_atom, new_atom, quotient_of, remainder_of}

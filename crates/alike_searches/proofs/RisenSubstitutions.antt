@@ -5,8 +5,8 @@ use Rattle.nf_terms.specs.NormalTerms.{Polynomial, ArrayTerm, Writes, Zero, Plus
 use Rattle.nf_terms.specs.RawSums.{raw_difference}
 use Rattle.nf_terms.specs.Computed.{Done, after}
 use Rattle.fs_model.specs.declared.sides.Pos.{Pos}
-use Rattle.nf_terms.specs.declared.tree.Base.{Base}
-use Rattle.nf_terms.specs.declared.tree.Base.TheVariants as base
+use Rattle.nf_trees.specs.declared.tree.Base.{Base}
+use Rattle.nf_trees.specs.declared.tree.Base.TheVariants as base
 use Rattle.nf_terms.specs.declared.form.Nf.{Nf}
 use Rattle.nf_terms.proofs.Computed.{same_Done}
 use Rattle.nf_sums.specs.OrderedSums.{worth_of}

@@ -1,6 +1,6 @@
 -- Answers with a progress.
 use Rattle.std.proofs.Common.{◌≡◌, ℕ, List, ap, ◌∙◌, IfOk, Result, Ok, Err}
-use Rattle.nf_terms.specs.declared.stop.NoMemory.{NoMemory}
+use Rattle.nf_trees.specs.declared.stop.NoMemory.{NoMemory}
 use Rattle.cert_model.specs.Obligations.{Judged}
 use Rattle.cert_check.specs.Progress.{progress_from}
 use Rattle.cert_check.specs.declared.progress.Progress.{Progress}

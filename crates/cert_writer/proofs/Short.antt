@@ -2,8 +2,8 @@
 use Rattle.std.proofs.Common.{ℕ, ◌+◌, ◌*◌, ◌≤◌, List, [], ◌∷◌, length, arith}
 use Rattle.std.proofs.lemmas.Bool.{and_parts}
 use Rattle.fs_model.specs.declared.sides.Pos.{Pos}
-use Rattle.nf_terms.specs.declared.tree.Base.{Base}
-use Rattle.nf_terms.specs.declared.tree.Base.TheVariants as bases
+use Rattle.nf_trees.specs.declared.tree.Base.{Base}
+use Rattle.nf_trees.specs.declared.tree.Base.TheVariants as bases
 use Rattle.nf_terms.specs.declared.tree.SeqBase.{SeqBase}
 use Rattle.nf_terms.specs.declared.tree.SeqBase.TheVariants as list_bases
 use Rattle.nf_terms.specs.declared.form.Nf.{Nf}

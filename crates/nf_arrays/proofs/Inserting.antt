@@ -8,8 +8,8 @@ use Rattle.nf_terms.specs.NormalTerms.{Polynomial, ArrayTerm, Over, base_of, wri
 use Rattle.nf_terms.specs.View.{polynomial_in, write_in}
 use Rattle.nf_terms.specs.Order.{same_polynomial}
 use Rattle.nf_terms.specs.Normal.{ordered, ordered_writes, is_written}
-use Rattle.nf_terms.specs.declared.tree.Base.{Base}
-use Rattle.nf_terms.specs.declared.tree.PolyTree.{PolyTree}
+use Rattle.nf_trees.specs.declared.tree.Base.{Base}
+use Rattle.nf_trees.specs.declared.tree.PolyTree.{PolyTree}
 use Rattle.nf_terms.specs.Tidied.{goes_after, with_write, rising_stretches, last_writes, tidy_array}
 use Rattle.nf_arrays.specs.Writes.{written_last, with_last_write, indices_ordered}
 use Rattle.nf_arrays.proofs.Tidy.{tidy_write}

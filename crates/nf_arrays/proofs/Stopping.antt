@@ -12,13 +12,13 @@ use Rattle.std.specs.Cmp.{signed_Decides}
 use Rattle.nf_terms.specs.Normal.{constant_sum}
 use Rattle.nf_sums.proofs.Constants.{same_of_equal, equal_of_same, equal_by_sums, constant_is}
 use Rattle.nf_terms.specs.Tidied.{goes_after}
-use Rattle.nf_terms.specs.declared.tree.Base.{Base}
-use Rattle.nf_terms.specs.declared.tree.Base.TheVariants as starts
+use Rattle.nf_trees.specs.declared.tree.Base.{Base}
+use Rattle.nf_trees.specs.declared.tree.Base.TheVariants as starts
 use Rattle.nf_terms.specs.Computed.{Done}
 use Rattle.nf_arrays.specs.NewAtoms.{new_atom}
 use Rattle.nf_arrays.proofs.Tidy.{tidy_write, last_normal, prefix_normal}
 use Rattle.nf_terms.specs.View.{polynomial_in, write_in}
-use Rattle.nf_terms.specs.declared.tree.PolyTree.{PolyTree}
+use Rattle.nf_trees.specs.declared.tree.PolyTree.{PolyTree}
 use Rattle.nf_arrays.specs.Writes.{written_last, are_apart, stop_at, prefix_for, last_value, read_here, read_at}
 
 -- the writes of a list

@@ -7,7 +7,7 @@ use Rattle.nf_terms.specs.Order.{same_polynomial}
 use Rattle.nf_terms.specs.Measures.{size_of_writes, depth_of_writes}
 use Rattle.nf_terms.specs.Normal.{IsNormal, IsNormalArray, ordered, ordered_writes, is_written, write_rises, is_light, narrow_inside}
 use Rattle.nf_terms.specs.Normal.{narrow_writes}
-use Rattle.nf_terms.specs.declared.tree.Base.{Base}
+use Rattle.nf_trees.specs.declared.tree.Base.{Base}
 use Rattle.nf_arrays.specs.Writes.{written_last, are_apart, stop_at, prefix_for}
 
 -- a write before others is tidy

@@ -12,8 +12,8 @@ use Rattle.nf_terms.specs.Order.{same_polynomial}
 use Rattle.nf_terms.specs.Measures.{size_of, size_of_array, depth_of, depth_of_array}
 use Rattle.nf_terms.specs.TermMeaning.{Valuation, contents_after_write as stored, contents_of_base, value_of, value_of_atom, contents_after, contents}
 use Rattle.nf_terms.specs.Normal.{is_written, is_constant, differ_by_constant, last_index}
-use Rattle.nf_terms.specs.declared.tree.Base.{Base}
-use Rattle.nf_terms.specs.declared.tree.Base.TheVariants as starts
+use Rattle.nf_trees.specs.declared.tree.Base.{Base}
+use Rattle.nf_trees.specs.declared.tree.Base.TheVariants as starts
 use Rattle.nf_terms.specs.Computed.{Computed, Done}
 use Rattle.nf_terms.specs.Normal.{constant_sum}
 use Rattle.nf_terms.specs.Tidied.{last_writes, goes_after, with_write, rising_stretches, tidy_array}

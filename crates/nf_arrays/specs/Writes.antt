@@ -5,7 +5,7 @@ use Rattle.nf_terms.specs.NormalTerms.{Polynomial, ArrayTerm, Writes, Read, Zero
 use Rattle.nf_terms.specs.Order.{same_polynomial}
 use Rattle.nf_terms.specs.Measures.{size_of, size_of_array, depth_of_array}
 use Rattle.nf_terms.specs.Normal.{differ_by_constant, ordered, last_index}
-use Rattle.nf_terms.specs.declared.tree.Base.TheVariants as base
+use Rattle.nf_trees.specs.declared.tree.Base.TheVariants as base
 use Rattle.nf_terms.specs.Computed.{Computed, Done, if_small}
 use Rattle.nf_terms.specs.Normal.{constant_sum}
 use Rattle.nf_terms.specs.Tidied.{tidy_array}

@@ -11,7 +11,7 @@ use nf_terms::limits::{DEPTH_LIMIT, SIZE_LIMIT};
 use nf_terms::measures::{depth_of_atom, size_of_atom};
 use nf_terms::poly::Poly;
 use nf_terms::stop::{NfStop, NoMemory};
-use nf_terms::tree::{Atom, MonoTree, PolyTree};
+use nf_trees::tree::{Atom, MonoTree, PolyTree};
 use std::alloc::Global;
 
 // The monomial of an atom alone.

@@ -7,7 +7,7 @@ ghost use Rattle.nf_terms.specs.View.{atom_in, polynomial_in, array_in, write_in
 use nf_terms::atoms::make_read;
 use nf_terms::copies::push_write;
 use nf_terms::stop::NoMemory;
-use nf_terms::tree::{ArrTree, Atom, Base, PolyTree};
+use nf_trees::tree::{ArrTree, Atom, Base, PolyTree};
 use std::alloc::Global;
 
 /// Adds a copy of a write. The one refusal is out of memory.

@@ -15,7 +15,7 @@ use nf_sums::sums::constant_of;
 use nf_terms::atoms::{make_quotient, make_remainder};
 use nf_terms::poly::Poly;
 use nf_terms::stop::{NfStop, NoMemory};
-use nf_terms::tree::{Atom, PolyTree};
+use nf_trees::tree::{Atom, PolyTree};
 use std::alloc::Global;
 
 // The number that a polynomial is, which is not the least `i128`.

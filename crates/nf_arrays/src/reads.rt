@@ -16,7 +16,7 @@ use nf_terms::constants::differs_by_constant;
 use nf_terms::order::compare_polys;
 use nf_terms::poly::Poly;
 use nf_terms::stop::NfStop;
-use nf_terms::tree::{Base, PolyTree};
+use nf_trees::tree::{Base, PolyTree};
 use std::alloc::Global;
 use std::cmp::Ordering;
 

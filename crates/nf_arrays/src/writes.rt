@@ -16,7 +16,7 @@ use nf_terms::limits::{DEPTH_LIMIT, SIZE_LIMIT};
 use nf_terms::measures::depth_of_arr;
 use nf_terms::poly::Poly;
 use nf_terms::stop::{NfStop, NoMemory};
-use nf_terms::tree::{ArrTree, PolyTree};
+use nf_trees::tree::{ArrTree, PolyTree};
 use std::alloc::Global;
 
 // Whether two indices in order differ by a constant, and the second one is the lower.

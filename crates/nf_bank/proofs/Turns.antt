@@ -3,10 +3,10 @@ use Rattle.std.proofs.Common.{◌≡◌, ℕ, ◌+◌, ◌<◌, ◌≤◌, ℤ, 
 use Rattle.std.proofs.lemmas.List.{map_push, map_more, take_all}
 use Rattle.nf_terms.specs.NormalTerms.{Atom, Monomial, Polynomial, ArrayTerm, Over, monomial_of, polynomial_of, writes_of}
 use Rattle.nf_terms.specs.View.{atom_in, monomial_in, polynomial_in, term_in, write_in}
-use Rattle.nf_terms.specs.declared.tree.Atom.{Atom as AtomTree}
-use Rattle.nf_terms.specs.declared.tree.MonoTree.{MonoTree}
-use Rattle.nf_terms.specs.declared.tree.PolyTree.{PolyTree}
-use Rattle.nf_terms.specs.declared.tree.Base.{Base}
+use Rattle.nf_trees.specs.declared.tree.Atom.{Atom as AtomTree}
+use Rattle.nf_trees.specs.declared.tree.MonoTree.{MonoTree}
+use Rattle.nf_trees.specs.declared.tree.PolyTree.{PolyTree}
+use Rattle.nf_trees.specs.declared.tree.Base.{Base}
 use Rattle.nf_bank.specs.declared.node.AtomId.{AtomId}
 use Rattle.nf_bank.specs.declared.node.Term.{Term}
 use Rattle.nf_bank.specs.declared.node.Write.{Write}

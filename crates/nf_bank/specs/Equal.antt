@@ -10,8 +10,8 @@ use Rattle.fs_model.specs.declared.sides.Side.{Side}
 use Rattle.fs_model.specs.declared.sides.Side.TheVariants.{Left, Right}
 use Rattle.fs_model.specs.declared.sides.Pos.{Pos}
 use Rattle.fs_model.specs.Sides.{same_side}
-use Rattle.nf_terms.specs.declared.tree.Base.{Base}
-use Rattle.nf_terms.specs.declared.tree.Base.TheVariants as base
+use Rattle.nf_trees.specs.declared.tree.Base.{Base}
+use Rattle.nf_trees.specs.declared.tree.Base.TheVariants as base
 use Rattle.nf_bank.specs.declared.node.AtomId.{AtomId}
 use Rattle.nf_bank.specs.declared.node.Term.{Term}
 use Rattle.nf_bank.specs.declared.node.Write.{Write}

@@ -13,7 +13,7 @@ use crate::numbering::put_atom;
 use crate::trees::atom_tree;
 use indexmap::IndexSet;
 use nf_terms::stop::NoMemory;
-use nf_terms::tree::Atom;
+use nf_trees::tree::Atom;
 use std::alloc::Global;
 use std::marker::Model;
 

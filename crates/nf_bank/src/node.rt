@@ -3,7 +3,7 @@
 ghost use Rattle.std.specs.Prelude.{◌≡◌};
 
 use crate::items::Items;
-use nf_terms::tree::{Base, Pos};
+use nf_trees::tree::{Base, Pos};
 use std::hash::Hash;
 
 /// The number of an atom of a bank.

@@ -9,7 +9,7 @@ use crate::bank::Bank;
 use crate::items::Items;
 use crate::node::{Array, AtomId, Node, Term, Write};
 use nf_terms::stop::NoMemory;
-use nf_terms::tree::{ArrTree, Atom, MonoTree, PolyTree};
+use nf_trees::tree::{ArrTree, Atom, MonoTree, PolyTree};
 use std::alloc::Global;
 
 /// The number of an atom, which is put last, after those in it, if it is not there.

@@ -10,7 +10,7 @@ use crate::node::{Array, AtomId, Node, Term};
 use nf_terms::atoms::{make_quotient, make_read, make_remainder};
 use nf_terms::copies::{push_atom, push_term, push_write};
 use nf_terms::stop::NoMemory;
-use nf_terms::tree::{ArrTree, Atom, MonoTree, PolyTree};
+use nf_trees::tree::{ArrTree, Atom, MonoTree, PolyTree};
 use std::alloc::Global;
 
 /// The atom of a number.

@@ -12,7 +12,7 @@ ghost use Rattle.nf_rel.specs.Literals.{common_divisor, divide_coefficients};
 use nf_sums::copies::push_term_copy;
 use nf_terms::constants::has_atoms;
 use nf_terms::stop::NoMemory;
-use nf_terms::tree::MonoTree;
+use nf_trees::tree::MonoTree;
 use std::alloc::Global;
 
 // The greatest common divisor.

@@ -22,7 +22,7 @@ use nf_sums::sums::{neg, sub};
 use nf_terms::constants::constant_part;
 use nf_terms::poly::Poly;
 use nf_terms::stop::{NfStop, NoMemory};
-use nf_terms::tree::{MonoTree, PolyTree};
+use nf_trees::tree::{MonoTree, PolyTree};
 use std::alloc::Global;
 
 /// How a polynomial is compared with 0.

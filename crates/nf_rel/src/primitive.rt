@@ -10,7 +10,7 @@ ghost use Rattle.nf_rel.specs.NormalLiterals.{lacks_constant, is_primitive};
 use crate::divisors::divisor;
 use nf_terms::constants::has_atoms;
 use nf_terms::poly::Poly;
-use nf_terms::tree::MonoTree;
+use nf_trees::tree::MonoTree;
 
 /// Whether the first coefficient of a monomial with atoms is positive.
 pub fn begins_positive(terms: &[(MonoTree, i128)]) -> bool

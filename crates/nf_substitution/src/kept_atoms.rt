@@ -6,7 +6,7 @@ ghost use Rattle.nf_bank.specs.Atoms.{with_monomial, with_terms, IsFront};
 
 use nf_bank::bank::Bank;
 use nf_terms::stop::NoMemory;
-use nf_terms::tree::{MonoTree, PolyTree};
+use nf_trees::tree::{MonoTree, PolyTree};
 use std::alloc::Global;
 
 // Keeps the atoms of a monomial.

@@ -19,7 +19,7 @@ use nf_terms::arr::Arr;
 use nf_terms::poly::Poly;
 use nf_terms::seq::Seq;
 use nf_terms::stop::NfStop;
-use nf_terms::tree::{ArrTree, PolyTree};
+use nf_trees::tree::{ArrTree, PolyTree};
 use nf_vectors::vector::Vector;
 use std::alloc::Global;
 

@@ -6,7 +6,7 @@ ghost use Rattle.nf_substitution.specs.StayingTerms.{is_symbol, symbol_stays, at
 
 use nf_terms::form::Nf;
 use nf_terms::symbols::Sort;
-use nf_terms::tree::{Atom, MonoTree, PolyTree, Pos};
+use nf_trees::tree::{Atom, MonoTree, PolyTree, Pos};
 use nf_vectors::bare_numbers::bare_number;
 use nf_vectors::vector::Vector;
 

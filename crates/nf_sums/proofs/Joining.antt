@@ -12,7 +12,7 @@ use Rattle.nf_terms.specs.Order.{cmp_atom}
 use Rattle.nf_terms.specs.Normal.{ordered_atom, ordered_monomial}
 use Rattle.nf_terms.specs.RawSums.{monomial_product}
 use Rattle.nf_terms.specs.Comparison.{atoms_total}
-use Rattle.nf_terms.specs.declared.tree.Atom.{Atom as AtomTree}
+use Rattle.nf_trees.specs.declared.tree.Atom.{Atom as AtomTree}
 use Rattle.nf_sums.specs.OrderedSums.{IgnoresOrder, IsOrderedJoin}
 use Rattle.nf_sums.proofs.Sorted.{sorted, follows, Sorted, sorted_move, sorted_insert}
 use Rattle.nf_sums.proofs.Sorting.{joined_deep}

@@ -7,7 +7,7 @@ use Rattle.nf_terms.specs.View.{term_in, monomial_in}
 use Rattle.nf_terms.specs.Order.{cmp_monomial}
 use Rattle.nf_terms.specs.Normal.{ordered}
 use Rattle.nf_terms.specs.Comparison.{monomials_total}
-use Rattle.nf_terms.specs.declared.tree.MonoTree.{MonoTree}
+use Rattle.nf_trees.specs.declared.tree.MonoTree.{MonoTree}
 use Rattle.nf_sums.specs.OrderedSums.{IsOrderedSum, first_order, joined_firsts}
 use Rattle.nf_sums.proofs.Terms.{terms_in}
 use Rattle.nf_sums.proofs.Merging.{Merging, started, finished, merge_left, merge_right, merge_equal}

@@ -4,7 +4,7 @@ use Rattle.std.proofs.lemmas.List.{drop_all, append-nil}
 use Rattle.nf_terms.specs.NormalTerms.{Monomial, polynomial_of, Plus}
 use Rattle.nf_terms.specs.View.{term_in, monomial_in}
 use Rattle.nf_terms.specs.RawSums.{raw_negation}
-use Rattle.nf_terms.specs.declared.tree.MonoTree.{MonoTree}
+use Rattle.nf_trees.specs.declared.tree.MonoTree.{MonoTree}
 
 -- a term with the negation of its coefficient
 abbrev pub opposite : MonoTree × ℤ → Monomial × ℤ

@@ -8,7 +8,7 @@ use Rattle.nf_terms.specs.TermLimits.{size_limit, depth_limit}
 use Rattle.nf_terms.specs.Normal.{IsNormal, IsNormalArray, ordered, ordered_atom, ordered_monomial, ordered_array, ordered_writes, atom_rises, is_constant}
 use Rattle.nf_terms.specs.Normal.{is_written, write_rises, stays_read, is_light, narrow_atom, narrow_monomial, narrow_inside, narrow_array, narrow_writes}
 use Rattle.nf_terms.specs.TermParts.{HasNormalParts, AtomsHaveNormalParts, MonomialsHaveNormalParts, WritesAreNormal}
-use Rattle.nf_terms.specs.declared.tree.Base.{Base}
+use Rattle.nf_trees.specs.declared.tree.Base.{Base}
 use Rattle.nf_sums.proofs.Partings.{ordered_term}
 
 divided_parts : (a b : Polynomial) → ordered a && ordered b && not (is_constant a && is_constant b) ≡ true

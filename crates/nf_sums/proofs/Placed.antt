@@ -16,7 +16,7 @@ use Rattle.nf_terms.specs.Measures.{size_of, size_of_monomial, weight_of}
 use Rattle.nf_terms.specs.TermLimits.{weight_limit, size_limit}
 use Rattle.nf_terms.specs.Normal.{IsNormal, ordered}
 use Rattle.nf_terms.specs.RawSums.{raw_sum, IsNormalFormOf}
-use Rattle.nf_terms.specs.declared.tree.MonoTree.{MonoTree}
+use Rattle.nf_trees.specs.declared.tree.MonoTree.{MonoTree}
 use Rattle.nf_sums.proofs.Partings.{ordered_term}
 use Rattle.nf_sums.specs.RawSumForms.{with_term, plus, by_order}
 use Rattle.nf_sums.specs.Accumulators.{stand_before, begins_behind, begins_with, coefficient_of, with_first, with_more, IsMeasured}

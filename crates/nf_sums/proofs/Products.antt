@@ -14,8 +14,8 @@ use Rattle.nf_terms.specs.Measures.{size_of, size_of_monomial, weight_of}
 use Rattle.nf_terms.specs.TermLimits.{weight_limit}
 use Rattle.nf_terms.specs.Normal.{ordered, ordered_monomial}
 use Rattle.nf_terms.specs.RawSums.{raw_sum, raw_product, monomial_product}
-use Rattle.nf_terms.specs.declared.tree.MonoTree.{MonoTree}
-use Rattle.nf_terms.specs.declared.stop.NoMemory.{NoMemory}
+use Rattle.nf_trees.specs.declared.tree.MonoTree.{MonoTree}
+use Rattle.nf_trees.specs.declared.stop.NoMemory.{NoMemory}
 use Rattle.nf_sums.specs.OrderedSums.{worth_of, polynomial_fits, fits_monomial, IsOrderedJoin, IsOrderedSum, IsOrderedProduct}
 use Rattle.nf_sums.proofs.Sorted.{front_of, back_of}
 use Rattle.nf_sums.proofs.Worth.{worth-product_left, worth-product_right}

@@ -3,7 +3,7 @@ use Rattle.std.proofs.Common.{◌≡◌, ℕ, ◌+◌, ℤ, pos, ◌+ℤ◌, Boo
 use Rattle.std.specs.Ordering.{is_lt, int_eq}
 use Rattle.nf_terms.specs.NormalTerms.{Monomial, Polynomial, Zero, Plus, polynomial_of}
 use Rattle.nf_terms.specs.View.{term_in}
-use Rattle.nf_terms.specs.declared.tree.MonoTree.{MonoTree}
+use Rattle.nf_trees.specs.declared.tree.MonoTree.{MonoTree}
 use Rattle.nf_terms.specs.Order.{cmp_monomial}
 use Rattle.nf_terms.specs.Measures.{size_of, weight_of}
 use Rattle.nf_terms.specs.Normal.{ordered, ordered_monomial}

@@ -11,7 +11,7 @@ use Rattle.nf_terms.specs.Order.{cmp_monomial}
 use Rattle.nf_terms.specs.Measures.{weight_of}
 use Rattle.nf_terms.specs.Normal.{ordered}
 use Rattle.nf_terms.specs.Comparison.{monomials_total}
-use Rattle.nf_terms.specs.declared.tree.MonoTree.{MonoTree}
+use Rattle.nf_trees.specs.declared.tree.MonoTree.{MonoTree}
 use Rattle.nf_sums.specs.declared.merge.Sign.{Sign}
 use Rattle.nf_sums.specs.declared.merge.Sign.TheVariants.{Plus, Minus}
 use Rattle.nf_sums.specs.OrderedSums.{IsOrderedSum, term_unless_zero}

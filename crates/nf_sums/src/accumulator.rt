@@ -20,7 +20,7 @@ use nf_terms::measures::size_of_mono;
 use nf_terms::order::compare_monos;
 use nf_terms::poly::Poly;
 use nf_terms::stop::{NfStop, NoMemory};
-use nf_terms::tree::{MonoTree, PolyTree};
+use nf_trees::tree::{MonoTree, PolyTree};
 use std::alloc::Global;
 use std::marker::Model;
 

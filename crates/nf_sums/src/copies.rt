@@ -5,7 +5,7 @@ ghost use Rattle.nf_terms.specs.View.{atom_in, monomial_in, term_in};
 
 use nf_terms::copies::{push_atom, push_term};
 use nf_terms::stop::NoMemory;
-use nf_terms::tree::{Atom, MonoTree};
+use nf_trees::tree::{Atom, MonoTree};
 use std::alloc::Global;
 
 /// Adds a copy of an atom. The one refusal is out of memory.

@@ -9,7 +9,7 @@ ghost use Rattle.nf_sums.specs.OrderedSums.{IsOrderedJoin};
 use crate::copies::push_atom_copy;
 use nf_terms::order::compare_atoms;
 use nf_terms::stop::NoMemory;
-use nf_terms::tree::{Atom, MonoTree};
+use nf_trees::tree::{Atom, MonoTree};
 use std::alloc::Global;
 
 /// The atoms of two ordered lists in one.

@@ -14,7 +14,7 @@ ghost use Rattle.nf_terms.specs.Normal.{IsNormal, IsNormalArray, part_with_atoms
 ghost use Rattle.nf_terms.specs.TermParts.{HasNormalParts, MonomialsHaveNormalParts, WritesAreNormal};
 ghost use Rattle.nf_terms.specs.RawSums.{raw_sum, raw_difference, raw_product, raw_negation};
 ghost use Rattle.nf_terms.specs.Reduced.{Reduces};
-ghost use Rattle.nf_terms.specs.declared.tree.Base.{Base as ArrayBase};
+ghost use Rattle.nf_trees.specs.declared.tree.Base.{Base as ArrayBase};
 ghost use Rattle.nf_sums.specs.RawSumForms.{normal_form};
 ghost use Rattle.nf_sums.specs.Sameness.{settled, settled_atom, IsFormOf, SameSum, SameArray, SameAtom, SameList};
 ghost use Rattle.nf_sums.specs.Operations.{normal_sum, normal_difference, normal_product, normal_negation, number};

@@ -13,7 +13,7 @@ use crate::copies::push_term_copy;
 use crate::negation::push_negated;
 use nf_terms::order::compare_monos;
 use nf_terms::stop::NoMemory;
-use nf_terms::tree::MonoTree;
+use nf_trees::tree::MonoTree;
 use std::alloc::Global;
 use std::cmp::Ordering;
 

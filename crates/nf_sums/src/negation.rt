@@ -9,7 +9,7 @@ ghost use Rattle.nf_terms.specs.RawSums.{raw_negation};
 
 use crate::copies::push_term_copy;
 use nf_terms::stop::NoMemory;
-use nf_terms::tree::MonoTree;
+use nf_trees::tree::MonoTree;
 use std::alloc::Global;
 
 //// Adds a copy of a monomial with the negation of a coefficient.

@@ -11,7 +11,7 @@ ghost use Rattle.nf_sums.specs.OrderedSums.{IsOrderedSum, term_unless_zero, firs
 use nf_terms::copies::push_term;
 use nf_terms::order::compare_monos;
 use nf_terms::stop::NoMemory;
-use nf_terms::tree::MonoTree;
+use nf_trees::tree::MonoTree;
 use std::alloc::Global;
 use std::cmp::Ordering;
 use std::collections::VecDeque;

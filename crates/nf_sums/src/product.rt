@@ -12,7 +12,7 @@ use crate::join::multiply_monomials;
 use crate::owned::merged_owned;
 use nf_terms::copies::push_term;
 use nf_terms::stop::NoMemory;
-use nf_terms::tree::MonoTree;
+use nf_trees::tree::MonoTree;
 use std::alloc::Global;
 
 /// Adds a monomial with the product of two coefficients.

@@ -19,7 +19,7 @@ use crate::product::multiplied;
 use nf_terms::constants::{constant_part, is_constant};
 use nf_terms::poly::Poly;
 use nf_terms::stop::{NfStop, NoMemory};
-use nf_terms::tree::{MonoTree, PolyTree};
+use nf_trees::tree::{MonoTree, PolyTree};
 use std::alloc::Global;
 
 /// The number that a polynomial is.

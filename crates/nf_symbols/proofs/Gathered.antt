@@ -7,9 +7,9 @@ use Rattle.nf_terms.specs.Symbols.{symbols_of_base, symbols_of_atom, symbols_of_
 use Rattle.nf_symbols.specs.GatheredSymbols.{with_atom, with_monomial, with_polynomial, with_writes, with_array}
 use Rattle.fs_model.specs.declared.sides.Pos.{Pos}
 use Rattle.nf_terms.specs.declared.symbols.Sort.{Sort}
-use Rattle.nf_terms.specs.declared.tree.Atom.{Atom as AtomTree}
-use Rattle.nf_terms.specs.declared.tree.Atom.TheVariants as tree
-use Rattle.nf_terms.specs.declared.tree.PolyTree.{PolyTree}
+use Rattle.nf_trees.specs.declared.tree.Atom.{Atom as AtomTree}
+use Rattle.nf_trees.specs.declared.tree.Atom.TheVariants as tree
+use Rattle.nf_trees.specs.declared.tree.PolyTree.{PolyTree}
 use Rattle.nf_terms.specs.View.{atom_in, polynomial_in}
 use Rattle.nf_terms.proofs.TreeParts.{atom_of_quotient, atom_of_remainder}
 

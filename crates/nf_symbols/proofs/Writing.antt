@@ -14,8 +14,8 @@ use Rattle.nf_terms.specs.Symbols.{symbols_of_items, symbols_of_list}
 use Rattle.nf_terms.specs.Computed.{Computed, Done}
 use Rattle.nf_terms.specs.declared.symbols.Sort.{Sort}
 use Rattle.fs_model.specs.declared.sides.Pos.{Pos}
-use Rattle.nf_terms.specs.declared.tree.Base.{Base}
-use Rattle.nf_terms.specs.declared.tree.Base.TheVariants as base
+use Rattle.nf_trees.specs.declared.tree.Base.{Base}
+use Rattle.nf_trees.specs.declared.tree.Base.TheVariants as base
 use Rattle.nf_sums.proofs.Values.{small_is}
 use Rattle.nf_substitution.specs.NewAtoms.{polynomial_of_atom, new_atom, quotient_of, remainder_of}
 use Rattle.nf_substitution.specs.Writes.{written_last, with_last_write, write_array, are_apart, stop_at, prefix_for, last_value, read_here, read_at}

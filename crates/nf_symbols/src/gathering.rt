@@ -12,7 +12,8 @@ use nf_terms::poly::Poly;
 use nf_terms::seq::Seq;
 use nf_terms::stop::NoMemory;
 use nf_terms::symbols::Sort;
-use nf_terms::tree::{ArrTree, Atom, Base, MonoTree, PolyTree, Pos, SeqBase};
+use nf_terms::tree::SeqBase;
+use nf_trees::tree::{ArrTree, Atom, Base, MonoTree, PolyTree, Pos};
 use std::alloc::Global;
 
 // Adds a symbol. The one refusal is out of memory.

@@ -2,13 +2,13 @@
 use Rattle.std.proofs.Common.{◌≡◌, ℕ, ℤ, ◌+◌, ◌<◌, true, false, cond, List, [], ◌∷◌, map, drop, length, get_or, refl, ap, sym, ◌∙◌, arith}
 use Rattle.std.proofs.Common.{Ordering, Less, Equal, Greater, int_cmp, is_eq}
 use Rattle.std.specs.Ordering.{ordering_then}
-use Rattle.fs_model.proofs.Lists.{map_drop_next}
-use Rattle.nf_terms.specs.NormalTerms.{Monomial, Polynomial, Zero, Plus, polynomial_of}
+use Rattle.nf_trees.proofs.Lists.{map_drop_next}
+use Rattle.nf_trees.specs.NormalTerms.{Monomial, Polynomial, Zero, Plus, polynomial_of}
 use Rattle.nf_terms.specs.Normal.{has_atoms, begins_with_atoms, part_with_atoms}
-use Rattle.nf_terms.specs.Order.{cmp_monomial, cmp_polynomial, same_polynomial}
-use Rattle.nf_terms.specs.View.{monomial_in, term_in}
-use Rattle.nf_terms.specs.declared.tree.MonoTree.{MonoTree}
-use Rattle.nf_terms.proofs.Compared.{then_then}
+use Rattle.nf_trees.specs.Order.{cmp_monomial, cmp_polynomial, same_polynomial}
+use Rattle.nf_trees.specs.View.{monomial_in, term_in}
+use Rattle.nf_trees.specs.declared.tree.MonoTree.{MonoTree}
+use Rattle.nf_trees.proofs.Compared.{then_then}
 use Rattle.nf_terms.proofs.Steps.{part_step}
 
 pub differ_where : (o r : Ordering) → is_eq o ≡ false → is_eq (ordering_then o r) ≡ false

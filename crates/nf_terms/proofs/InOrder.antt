@@ -6,14 +6,14 @@ use Rattle.std.proofs.lemmas.Int.{to_z-of_z}
 use Rattle.std.specs.Ordering.{int_eq}
 use Rattle.std.proofs.lemmas.Bool.Decides.{Decides-int_eq}
 use Rattle.std.proofs.lemmas.List.{take_all, length-drop}
-use Rattle.fs_model.proofs.Lists.{drop_next}
-use Rattle.nf_terms.specs.NormalTerms.{Polynomial, monomial_of, polynomial_of, writes_of}
+use Rattle.nf_trees.proofs.Lists.{drop_next}
+use Rattle.nf_trees.specs.NormalTerms.{Polynomial, monomial_of, polynomial_of, writes_of}
 use Rattle.nf_terms.specs.Normal.{atom_rises, monomial_rises, write_rises, is_written, ordered_atom, ordered_monomial, ordered}
 use Rattle.nf_terms.specs.Normal.{differ_by_constant, constant_part}
-use Rattle.nf_terms.specs.View.{atom_in, monomial_in, polynomial_in, term_in, write_in}
-use Rattle.nf_terms.specs.declared.tree.Atom.{Atom}
-use Rattle.nf_terms.specs.declared.tree.MonoTree.{MonoTree}
-use Rattle.nf_terms.specs.declared.tree.PolyTree.{PolyTree}
+use Rattle.nf_trees.specs.View.{atom_in, monomial_in, polynomial_in, term_in, write_in}
+use Rattle.nf_trees.specs.declared.tree.Atom.{Atom}
+use Rattle.nf_trees.specs.declared.tree.MonoTree.{MonoTree}
+use Rattle.nf_trees.specs.declared.tree.PolyTree.{PolyTree}
 
 -- what is behind a place, as a part of the list up to its end
 pub part_to_end : {X : Type 0} (xs : List X) (k : ℕ) → take (length xs - k) (drop k xs) ≡ drop k xs

@@ -1,7 +1,7 @@
 -- What holds of the first items holds of one more.
 use Rattle.std.proofs.Common.{◌≡◌, ℕ, suc, ◌+◌, ◌<◌, List, [], ◌∷◌, ◌++◌, length, take, get_or, sym, subst, arith}
 use Rattle.std.proofs.Math.Seq.{take-suc}
-use Rattle.nf_terms.specs.NormalTerms.{Polynomial}
+use Rattle.nf_trees.specs.NormalTerms.{Polynomial}
 use Rattle.nf_terms.specs.Normal.{IsNormal}
 use Rattle.nf_terms.specs.Lists.{AreNormalItems}
 

@@ -1,18 +1,15 @@
 -- The last write of an array.
 use Rattle.std.proofs.Common.{◌≡◌, ◌-◌, Bool, true, false, not, List, [], ◌∷◌, length, map, Some, None, refl, ap, subst, ◌∙◌, arith}
 use Rattle.std.specs.List.{slice_get}
-use Rattle.nf_terms.specs.NormalTerms.{Atom, ArrayTerm, Monomial, Polynomial, Over, NoWrites, writes_of}
-use Rattle.nf_terms.specs.View.{polynomial_in, array_in, write_in, atom_step, arr_step, mono_step, poly_step}
+use Rattle.nf_trees.specs.NormalTerms.{Polynomial, Over, NoWrites, writes_of}
+use Rattle.nf_trees.specs.View.{polynomial_in, array_in, write_in}
+pub use Rattle.nf_trees.proofs.Compared.{array_in-is}
 use Rattle.nf_terms.specs.Normal.{last_index, stays_read, differ_by_constant}
-use Rattle.nf_terms.specs.declared.tree.PolyTree.{PolyTree}
-use Rattle.nf_terms.specs.declared.tree.ArrTree.{ArrTree, out-ArrTree}
-use Rattle.fs_model.specs.declared.sides.Pos.{Pos}
-use Rattle.nf_terms.specs.declared.tree.Base.{Base}
-use Rattle.nf_terms.specs.declared.tree.Base.TheVariants as base
-use Rattle.nf_terms.specs.declared.tree.Atom.TheFolds.{fold_out-ArrTree}
-
-pub array_in-is : (a : ArrTree) → array_in a ≡ Over (out-ArrTree a).base (writes_of (map write_in (out-ArrTree a).writes.items))
-array_in-is = fold_out-ArrTree Atom ArrayTerm Monomial Polynomial atom_step arr_step mono_step poly_step
+use Rattle.nf_trees.specs.declared.tree.PolyTree.{PolyTree}
+use Rattle.nf_trees.specs.declared.tree.ArrTree.{ArrTree, out-ArrTree}
+use Rattle.nf_trees.specs.Positions.{Pos}
+use Rattle.nf_trees.specs.declared.tree.Base.{Base}
+use Rattle.nf_trees.specs.declared.tree.Base.TheVariants as base
 
 last_is : (w x : PolyTree × PolyTree) (ws : List (PolyTree × PolyTree)) → slice_get (w ∷ ws) (length ws) ≡ Some x
     → last_index (polynomial_in w.0) (writes_of (map write_in ws)) ≡ polynomial_in x.0

@@ -3,12 +3,12 @@ use Rattle.std.proofs.Common.{◌≡◌, ◌+◌, ◌≤◌, ℤ, pos, unsigned_
 use Rattle.std.proofs.lemmas.Bool.{le-leb}
 use Rattle.std.specs.Ordering.{int_eq}
 use Rattle.std.proofs.lemmas.Bool.Decides.{nat_tests}
-use Rattle.nf_terms.specs.NormalTerms.{Polynomial, One, Zero, Plus, polynomial_of_symbol, polynomial_of_number, bare_array}
-use Rattle.nf_terms.specs.Measures.{weight_of}
+use Rattle.nf_trees.specs.NormalTerms.{Polynomial, One, Zero, Plus, polynomial_of_symbol, polynomial_of_number, bare_array}
+use Rattle.nf_trees.specs.Measures.{weight_of}
 use Rattle.nf_terms.specs.Normal.{IsNormal, IsNormalArray, is_light, narrow_inside}
 use Rattle.nf_terms.specs.TermLimits.{weight_limit}
-use Rattle.fs_model.specs.declared.sides.Pos.{Pos}
-use Rattle.nf_terms.specs.declared.tree.Base.{Base}
+use Rattle.nf_trees.specs.Positions.{Pos}
+use Rattle.nf_trees.specs.declared.tree.Base.{Base}
 
 -- a normal polynomial is within the limit of weight
 pub light : (p : Polynomial) → IsNormal p → weight_of p ≤ weight_limit

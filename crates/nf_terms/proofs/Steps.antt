@@ -2,12 +2,12 @@
 use Rattle.std.proofs.Common.{◌≡◌, ℤ, true, ◌&&◌, ◌==◌, not, cond, refl, List, [], ◌∷◌, length, map, arith, ap, ◌∙◌}
 use Rattle.std.proofs.lemmas.List.{length-map}
 use Rattle.std.proofs.lemmas.Bool.Decides.{nat_tests}
-use Rattle.nf_terms.specs.NormalTerms.{Atom, Monomial, Polynomial, One, Times, Zero, Plus, monomial_of, polynomial_of}
+use Rattle.nf_trees.specs.NormalTerms.{Atom, Monomial, Polynomial, One, Times, Zero, Plus, monomial_of, polynomial_of}
 use Rattle.nf_terms.specs.Normal.{has_atoms, begins_with_atoms, part_with_atoms, constant_part, is_constant}
-use Rattle.nf_terms.specs.Order.{same_polynomial}
-use Rattle.nf_terms.specs.View.{atom_in, monomial_in, term_in}
-use Rattle.nf_terms.specs.declared.tree.MonoTree.{MonoTree}
-use Rattle.nf_terms.proofs.Degrees.{monomial_in-is}
+use Rattle.nf_trees.specs.Order.{same_polynomial}
+use Rattle.nf_trees.specs.View.{atom_in, monomial_in, term_in}
+use Rattle.nf_trees.specs.declared.tree.MonoTree.{MonoTree}
+use Rattle.nf_trees.proofs.Degrees.{monomial_in-is}
 
 pub part_step : (m : Monomial) (c : ℤ) (p : Polynomial) → part_with_atoms (Plus m c p) ≡ cond (has_atoms m) (Plus m c (part_with_atoms p)) (part_with_atoms p)
 part_step One c p = refl

@@ -2,7 +2,7 @@
 use Rattle.std.specs.Prelude.{◌≡◌, ◌⊎◌, refl}
 use Rattle.std.proofs.Common.{inl, inr}
 use Rattle.std.specs.Coded.{Coded, code_by, coded⊎}
-use Rattle.nf_terms.specs.NormalTerms.{Polynomial, ArrayTerm}
+use Rattle.nf_trees.specs.NormalTerms.{Polynomial, ArrayTerm}
 use Rattle.nf_terms.specs.Lists.{ListTerm}
 use Rattle.nf_terms.specs.Codes.{coded_polynomial, coded_array, coded_list_term}
 use Rattle.nf_terms.specs.declared.form.Nf.{Nf}

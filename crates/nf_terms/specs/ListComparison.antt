@@ -4,11 +4,11 @@ use Rattle.std.specs.declared.cmp.Ordering.TheVariants.{Equal}
 use Rattle.std.specs.Ordering.{eq_by_cmp}
 use Rattle.std.specs.Cmp.{IsTotalOrder, IsPartialOrder, IsEquivalence, IsPartialEquivalence, partial_order_from_agreeing_total}
 use Rattle.std.specs.Cmp.{partial_equiv_from_equiv, eq_by_cmp_equiv}
-use Rattle.nf_terms.specs.NormalTerms.{Polynomial}
+use Rattle.nf_trees.specs.NormalTerms.{Polynomial}
 use Rattle.nf_terms.specs.Lists.{ListTerm, cmp_list_base, cmp_items, cmp_list}
-use Rattle.nf_terms.specs.Keys.{Key, Leaf, Node, cmp_key, key_ties}
-use Rattle.nf_terms.specs.TermKeys.{key_pos, key_polynomial, inj_pos, inj_polynomial, both, pos_by_key, polynomial_by_key}
-use Rattle.nf_terms.specs.Comparison.{total_by_keys}
+use Rattle.nf_trees.specs.Keys.{Key, Leaf, Node, cmp_key, key_ties}
+use Rattle.nf_trees.specs.TermKeys.{key_pos, key_polynomial, inj_pos, inj_polynomial, both, pos_by_key, polynomial_by_key}
+use Rattle.nf_trees.specs.Comparison.{total_by_keys}
 use Rattle.nf_terms.specs.declared.tree.SeqBase.{SeqBase}
 use Rattle.nf_terms.specs.declared.tree.SeqBase.TheVariants as base
 

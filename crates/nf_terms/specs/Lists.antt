@@ -3,13 +3,13 @@ use Rattle.std.specs.Prelude.{ℕ, ◌+◌, ◌≤◌, max, Bool, false, ◌||�
 use Rattle.std.specs.declared.cmp.Ordering.{Ordering}
 use Rattle.std.specs.declared.cmp.Ordering.TheVariants.{Less, Equal, Greater}
 use Rattle.std.specs.Ordering.{ordering_then}
-use Rattle.nf_terms.specs.NormalTerms.{Polynomial}
+use Rattle.nf_trees.specs.NormalTerms.{Polynomial}
 use Rattle.nf_terms.specs.TermLimits.{size_limit, depth_limit}
-use Rattle.nf_terms.specs.Order.{cmp_pos, cmp_polynomial}
-use Rattle.nf_terms.specs.Measures.{size_of, depth_of}
-use Rattle.nf_terms.specs.Mentions.{same_pos, mentions}
+use Rattle.nf_trees.specs.Order.{cmp_pos, cmp_polynomial}
+use Rattle.nf_trees.specs.Measures.{size_of, depth_of}
+use Rattle.nf_trees.specs.Mentions.{same_pos, mentions}
 use Rattle.nf_terms.specs.Normal.{IsNormal}
-use Rattle.fs_model.specs.declared.sides.Pos.{Pos}
+use Rattle.nf_trees.specs.Positions.{Pos}
 use Rattle.nf_terms.specs.declared.tree.SeqBase.{SeqBase}
 use Rattle.nf_terms.specs.declared.tree.SeqBase.TheVariants as base
 

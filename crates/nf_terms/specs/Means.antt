@@ -1,6 +1,6 @@
 -- Normal terms that mean something.
 use Rattle.std.specs.Prelude.{◌≡◌, ℤ, List}
-use Rattle.nf_terms.specs.NormalTerms.{Polynomial, ArrayTerm}
+use Rattle.nf_trees.specs.NormalTerms.{Polynomial, ArrayTerm}
 use Rattle.nf_terms.specs.Lists.{ListTerm, IsNormalList}
 use Rattle.nf_terms.specs.TermMeaning.{Valuation, value_of, contents, items_in}
 use Rattle.nf_terms.specs.Normal.{IsNormal, IsNormalArray}

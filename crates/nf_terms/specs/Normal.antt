@@ -1,12 +1,12 @@
 -- Which terms are normal.
 use Rattle.std.specs.Prelude.{◌≤◌, ℤ, pos, ◌+ℤ◌, nat_le, int_lt, Bool, true, false, ◌&&◌, ◌||◌, not, IsTrue}
 use Rattle.std.specs.Ordering.{is_lt, is_le, int_eq}
-use Rattle.nf_terms.specs.NormalTerms.{Atom, Monomial, Polynomial, ArrayTerm, Writes, Symbol, Read, Quotient, Remainder, One}
-use Rattle.nf_terms.specs.NormalTerms.{Times, Zero, Plus, Over, NoWrites, Write}
+use Rattle.nf_trees.specs.NormalTerms.{Atom, Monomial, Polynomial, ArrayTerm, Writes, Symbol, Read, Quotient, Remainder, One}
+use Rattle.nf_trees.specs.NormalTerms.{Times, Zero, Plus, Over, NoWrites, Write}
 use Rattle.nf_terms.specs.TermLimits.{weight_limit, size_limit, depth_limit}
-use Rattle.nf_terms.specs.Order.{cmp_atom, cmp_monomial, same_polynomial}
-use Rattle.nf_terms.specs.Measures.{size_of, size_of_array, depth_of, depth_of_array, weight_of}
-use Rattle.nf_terms.specs.declared.tree.Base.TheVariants as base
+use Rattle.nf_trees.specs.Order.{cmp_atom, cmp_monomial, same_polynomial}
+use Rattle.nf_trees.specs.Measures.{size_of, size_of_array, depth_of, depth_of_array, weight_of}
+use Rattle.nf_trees.specs.declared.tree.Base.TheVariants as base
 
 -- whether a monomial has an atom
 abbrev pub has_atoms : Monomial → Bool

@@ -1,6 +1,6 @@
 -- Sums with fewer monomials, or with other coefficients that are no larger.
 use Rattle.std.specs.Prelude.{◌≢◌, ◌≤◌, ℤ, pos, unsigned_abs}
-use Rattle.nf_terms.specs.NormalTerms.{Monomial, Polynomial, Zero, Plus}
+use Rattle.nf_trees.specs.NormalTerms.{Monomial, Polynomial, Zero, Plus}
 
 -- the second has some of the first one's monomials in their order, with coefficients that are not 0 and no larger in absolute
 -- value

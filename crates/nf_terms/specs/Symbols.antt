@@ -1,11 +1,11 @@
 -- The symbols of a term, each with the sort in which it is used, in the order in which they stand.
 use Rattle.std.specs.Prelude.{List, [], ◌∷◌, ◌++◌}
-use Rattle.nf_terms.specs.NormalTerms.{Atom, Monomial, Polynomial, ArrayTerm, Writes, Symbol, Read, Quotient, Remainder, One}
-use Rattle.nf_terms.specs.NormalTerms.{Times, Zero, Plus, Over, NoWrites, Write}
+use Rattle.nf_trees.specs.NormalTerms.{Atom, Monomial, Polynomial, ArrayTerm, Writes, Symbol, Read, Quotient, Remainder, One}
+use Rattle.nf_trees.specs.NormalTerms.{Times, Zero, Plus, Over, NoWrites, Write}
 use Rattle.nf_terms.specs.Lists.{ListTerm}
-use Rattle.fs_model.specs.declared.sides.Pos.{Pos}
-use Rattle.nf_terms.specs.declared.tree.Base.{Base}
-use Rattle.nf_terms.specs.declared.tree.Base.TheVariants as base
+use Rattle.nf_trees.specs.Positions.{Pos}
+use Rattle.nf_trees.specs.declared.tree.Base.{Base}
+use Rattle.nf_trees.specs.declared.tree.Base.TheVariants as base
 use Rattle.nf_terms.specs.declared.tree.SeqBase.{SeqBase}
 use Rattle.nf_terms.specs.declared.tree.SeqBase.TheVariants as list
 use Rattle.nf_terms.specs.declared.symbols.Sort.{Sort}

@@ -1,6 +1,6 @@
 -- The parts of a term.
-use Rattle.nf_terms.specs.NormalTerms.{Atom, Monomial, Polynomial, Writes, Symbol, Read, Quotient, Remainder, One, Times, Zero}
-use Rattle.nf_terms.specs.NormalTerms.{Plus, NoWrites, Write}
+use Rattle.nf_trees.specs.NormalTerms.{Atom, Monomial, Polynomial, Writes, Symbol, Read, Quotient, Remainder, One, Times, Zero}
+use Rattle.nf_trees.specs.NormalTerms.{Plus, NoWrites, Write}
 use Rattle.nf_terms.specs.Normal.{IsNormal, IsNormalArray}
 
 -- what an atom reads, divides or is divided by is normal

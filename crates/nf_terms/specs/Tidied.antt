@@ -1,6 +1,6 @@
 -- The tidied form of an array.
 use Rattle.std.specs.Prelude.{Bool, ◌&&◌, cond, int_lt}
-use Rattle.nf_terms.specs.NormalTerms.{Polynomial, ArrayTerm, Writes, Over, NoWrites, Write}
+use Rattle.nf_trees.specs.NormalTerms.{Polynomial, ArrayTerm, Writes, Over, NoWrites, Write}
 use Rattle.nf_terms.specs.Normal.{differ_by_constant, constant_sum, is_written}
 
 -- the writes whose index no later write has

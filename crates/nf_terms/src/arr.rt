@@ -1,18 +1,18 @@
 //! Normal arrays.
 
 ghost use Rattle.std.specs.Prelude.{◌≡◌, map, IfOk, MatchOption};
-ghost use Rattle.nf_terms.specs.NormalTerms.{writes_of, writes_over, base_of, bare_array};
-ghost use Rattle.nf_terms.specs.View.{array_in, write_in};
-ghost use Rattle.nf_terms.specs.Measures.{size_of_array, depth_of_array};
-ghost use Rattle.nf_terms.specs.Mentions.{mentions_array};
+ghost use Rattle.nf_trees.specs.NormalTerms.{writes_of, writes_over, base_of, bare_array};
+ghost use Rattle.nf_trees.specs.View.{array_in, write_in};
+ghost use Rattle.nf_trees.specs.Measures.{size_of_array, depth_of_array};
+ghost use Rattle.nf_trees.specs.Mentions.{mentions_array};
 ghost use Rattle.nf_terms.specs.Normal.{IsNormalArray};
 
-use crate::measures::{depth_of_arr, size_of_arr};
-use crate::mentions::arr_mentions;
 use crate::normal::is_normal_arr;
-use crate::order::compare_arrs;
 use crate::stop::NoMemory;
 use crate::tree::{ArrTree, Base, PolyTree, Pos};
+use nf_trees::measures::{depth_of_arr, size_of_arr};
+use nf_trees::mentions::arr_mentions;
+use nf_trees::order::compare_arrs;
 use std::alloc::Global;
 use std::cmp::Ordering;
 use std::marker::Model;
@@ -24,9 +24,9 @@ pub struct Arr {
 }
 
 impl Model for Arr {
-    ghost use Rattle.nf_terms.specs.NormalTerms.{ArrayTerm};
+    ghost use Rattle.nf_trees.specs.NormalTerms.{ArrayTerm};
     ghost use Rattle.nf_terms.specs.Codes.{coded_array};
-    ghost use Rattle.nf_terms.specs.View.{array_in};
+    ghost use Rattle.nf_trees.specs.View.{array_in};
     ghost use Rattle.nf_terms.specs.Normal.{IsNormalArray};
 
     ghost Value = { ArrayTerm };
@@ -138,8 +138,8 @@ impl Arr {
 
 impl PartialEq for Arr {
     ghost use Rattle.std.specs.Ordering.{eq_by_cmp};
-    ghost use Rattle.nf_terms.specs.Order.{cmp_array};
-    ghost use Rattle.nf_terms.specs.Comparison.{arrays_equal_partly};
+    ghost use Rattle.nf_trees.specs.Order.{cmp_array};
+    ghost use Rattle.nf_trees.specs.Comparison.{arrays_equal_partly};
 
     ghost eq = { eq_by_cmp cmp_array };
 
@@ -151,15 +151,15 @@ impl PartialEq for Arr {
 }
 
 impl Eq for Arr {
-    ghost use Rattle.nf_terms.specs.Comparison.{arrays_equal};
+    ghost use Rattle.nf_trees.specs.Comparison.{arrays_equal};
 
     ghost laws = { arrays_equal };
 }
 
 impl PartialOrd for Arr {
     ghost use Rattle.std.specs.Prelude.{Some};
-    ghost use Rattle.nf_terms.specs.Order.{cmp_array};
-    ghost use Rattle.nf_terms.specs.Comparison.{arrays_partly};
+    ghost use Rattle.nf_trees.specs.Order.{cmp_array};
+    ghost use Rattle.nf_trees.specs.Comparison.{arrays_partly};
 
     ghost partial_cmp = { λ x y. Some (cmp_array x y) };
 
@@ -172,8 +172,8 @@ impl PartialOrd for Arr {
 
 impl Ord for Arr {
     ghost use Rattle.std.specs.Prelude.{refl};
-    ghost use Rattle.nf_terms.specs.Order.{cmp_array};
-    ghost use Rattle.nf_terms.specs.Comparison.{arrays_total};
+    ghost use Rattle.nf_trees.specs.Order.{cmp_array};
+    ghost use Rattle.nf_trees.specs.Comparison.{arrays_total};
 
     ghost cmp = { cmp_array };
 

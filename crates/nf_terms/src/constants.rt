@@ -1,13 +1,13 @@
 //! The constant part of a polynomial, and what stands beside it.
 
 ghost use Rattle.std.specs.Prelude.{◌≡◌, map, true};
-ghost use Rattle.nf_terms.specs.NormalTerms.{polynomial_of};
-ghost use Rattle.nf_terms.specs.View.{monomial_in, polynomial_in, term_in};
+ghost use Rattle.nf_trees.specs.NormalTerms.{polynomial_of};
+ghost use Rattle.nf_trees.specs.View.{monomial_in, polynomial_in, term_in};
 ghost use Rattle.nf_terms.specs.Normal.{has_atoms as with_atoms, begins_with_atoms, part_with_atoms};
 ghost use Rattle.nf_terms.specs.Normal.{constant_part as constant_of, is_constant as constant, differ_by_constant};
 
-use crate::order::compare_monos;
 use crate::tree::{MonoTree, PolyTree};
+use nf_trees::order::compare_monos;
 
 /// Whether a monomial has an atom.
 #[tactic(auto, using(crate::proofs::Steps::has_atoms_in))]

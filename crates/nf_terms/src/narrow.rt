@@ -1,12 +1,12 @@
 //! Whether the polynomials in a tree are within the limit of weight.
 
 ghost use Rattle.std.specs.Prelude.{◌≡◌};
-ghost use Rattle.nf_terms.specs.View.{atom_in, monomial_in, polynomial_in, array_in};
+ghost use Rattle.nf_trees.specs.View.{atom_in, monomial_in, polynomial_in, array_in};
 ghost use Rattle.nf_terms.specs.Normal.{is_light as light, narrow_atom, narrow_monomial, narrow_inside, narrow_array};
 
 use crate::limits::WEIGHT_LIMIT;
-use crate::measures::weight_of_poly;
 use crate::tree::{ArrTree, Atom, MonoTree, PolyTree};
+use nf_trees::measures::weight_of_poly;
 
 /// Whether a polynomial itself is within the limit of weight.
 pub fn is_light(poly: &PolyTree) -> bool

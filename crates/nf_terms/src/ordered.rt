@@ -1,15 +1,15 @@
 //! Whether a tree is in order: whether it is normal, but for its limits.
 
 ghost use Rattle.std.specs.Prelude.{◌≡◌, map};
-ghost use Rattle.nf_terms.specs.NormalTerms.{monomial_of, polynomial_of, writes_of};
-ghost use Rattle.nf_terms.specs.View.{atom_in, monomial_in, polynomial_in, array_in, term_in, write_in};
+ghost use Rattle.nf_trees.specs.NormalTerms.{monomial_of, polynomial_of, writes_of};
+ghost use Rattle.nf_trees.specs.View.{atom_in, monomial_in, polynomial_in, array_in, term_in, write_in};
 ghost use Rattle.nf_terms.specs.Normal.{is_written as written, write_rises as rises, stays_read as stays, ordered_atom};
 ghost use Rattle.nf_terms.specs.Normal.{ordered_monomial, ordered, ordered_array};
 ghost use Rattle.nf_terms.specs.Normal.{atom_rises as rising_atom, monomial_rises as rising_monomial};
 
 use crate::constants::{constant_part, differs_by_constant, is_constant};
-use crate::order::{compare_atoms, compare_monos, compare_polys};
 use crate::tree::{ArrTree, Atom, Base, MonoTree, PolyTree};
+use nf_trees::order::{compare_atoms, compare_monos, compare_polys};
 use std::cmp::Ordering;
 
 /// Whether one of the writes is at this index.

@@ -1,18 +1,18 @@
 //! Normal polynomials.
 
 ghost use Rattle.std.specs.Prelude.{◌≡◌, ◌≢◌, ◌^◌, pos, neg_ℤ, map, IfOk, MatchOption};
-ghost use Rattle.nf_terms.specs.NormalTerms.{polynomial_of, polynomial_of_symbol, polynomial_of_number};
-ghost use Rattle.nf_terms.specs.View.{polynomial_in, term_in};
-ghost use Rattle.nf_terms.specs.Measures.{size_of, depth_of, weight_of};
-ghost use Rattle.nf_terms.specs.Mentions.{mentions as mentions_of};
+ghost use Rattle.nf_trees.specs.NormalTerms.{polynomial_of, polynomial_of_symbol, polynomial_of_number};
+ghost use Rattle.nf_trees.specs.View.{polynomial_in, term_in};
+ghost use Rattle.nf_trees.specs.Measures.{size_of, depth_of, weight_of};
+ghost use Rattle.nf_trees.specs.Mentions.{mentions as mentions_of};
 ghost use Rattle.nf_terms.specs.Normal.{IsNormal};
 
-use crate::measures::{depth_of_poly, size_of_poly, weight_of_poly};
-use crate::mentions::poly_mentions;
 use crate::normal::is_normal_poly;
-use crate::order::compare_polys;
 use crate::stop::NoMemory;
 use crate::tree::{Atom, MonoTree, PolyTree, Pos};
+use nf_trees::measures::{depth_of_poly, size_of_poly, weight_of_poly};
+use nf_trees::mentions::poly_mentions;
+use nf_trees::order::compare_polys;
 use std::alloc::Global;
 use std::cmp::Ordering;
 use std::marker::Model;
@@ -24,9 +24,9 @@ pub struct Poly {
 }
 
 impl Model for Poly {
-    ghost use Rattle.nf_terms.specs.NormalTerms.{Polynomial};
+    ghost use Rattle.nf_trees.specs.NormalTerms.{Polynomial};
     ghost use Rattle.nf_terms.specs.Codes.{coded_polynomial};
-    ghost use Rattle.nf_terms.specs.View.{polynomial_in};
+    ghost use Rattle.nf_trees.specs.View.{polynomial_in};
     ghost use Rattle.nf_terms.specs.Normal.{IsNormal};
 
     ghost Value = { Polynomial };
@@ -170,8 +170,8 @@ fn number_tree(alloc: Global, c: i128) -> Result<PolyTree, NoMemory>
 
 impl PartialEq for Poly {
     ghost use Rattle.std.specs.Ordering.{eq_by_cmp};
-    ghost use Rattle.nf_terms.specs.Order.{cmp_polynomial};
-    ghost use Rattle.nf_terms.specs.Comparison.{polynomials_equal_partly};
+    ghost use Rattle.nf_trees.specs.Order.{cmp_polynomial};
+    ghost use Rattle.nf_trees.specs.Comparison.{polynomials_equal_partly};
 
     ghost eq = { eq_by_cmp cmp_polynomial };
 
@@ -183,15 +183,15 @@ impl PartialEq for Poly {
 }
 
 impl Eq for Poly {
-    ghost use Rattle.nf_terms.specs.Comparison.{polynomials_equal};
+    ghost use Rattle.nf_trees.specs.Comparison.{polynomials_equal};
 
     ghost laws = { polynomials_equal };
 }
 
 impl PartialOrd for Poly {
     ghost use Rattle.std.specs.Prelude.{Some};
-    ghost use Rattle.nf_terms.specs.Order.{cmp_polynomial};
-    ghost use Rattle.nf_terms.specs.Comparison.{polynomials_partly};
+    ghost use Rattle.nf_trees.specs.Order.{cmp_polynomial};
+    ghost use Rattle.nf_trees.specs.Comparison.{polynomials_partly};
 
     ghost partial_cmp = { λ x y. Some (cmp_polynomial x y) };
 
@@ -204,8 +204,8 @@ impl PartialOrd for Poly {
 
 impl Ord for Poly {
     ghost use Rattle.std.specs.Prelude.{refl};
-    ghost use Rattle.nf_terms.specs.Order.{cmp_polynomial};
-    ghost use Rattle.nf_terms.specs.Comparison.{polynomials_total};
+    ghost use Rattle.nf_trees.specs.Order.{cmp_polynomial};
+    ghost use Rattle.nf_trees.specs.Comparison.{polynomials_total};
 
     ghost cmp = { cmp_polynomial };
 

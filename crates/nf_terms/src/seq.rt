@@ -5,10 +5,10 @@ ghost use Rattle.nf_terms.specs.Lists.{bare_list, size_of_items, size_of_list, d
 ghost use Rattle.nf_terms.specs.Lists.{mentions_list_base, mentions_list, cmp_list_base, cmp_items, AreNormalItems, IsNormalList};
 
 use crate::limits::{DEPTH_LIMIT, SIZE_LIMIT};
-use crate::order::compare_pos;
 use crate::poly::Poly;
 use crate::stop::NoMemory;
 use crate::tree::{Pos, SeqBase};
+use nf_trees::order::compare_pos;
 use std::alloc::Global;
 use std::cmp::Ordering;
 use std::marker::Model;

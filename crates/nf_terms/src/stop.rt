@@ -3,11 +3,8 @@
 ghost use Rattle.std.specs.Prelude.{◌≡◌};
 ghost use Rattle.nf_terms.specs.declared.stop.NfStop.TheVariants.{NoMemory as OutOfMemory};
 
+pub use nf_trees::stop::NoMemory;
 use std::alloc::{AllocError, AllocFailed};
-
-/// Memory was refused.
-#[derive(Clone, Copy)]
-pub struct NoMemory;
 
 /// Why an operation on normal forms gives none.
 #[derive(Clone, Copy, PartialEq, Eq)]
@@ -19,18 +16,6 @@ pub enum NfStop {
     Large { units: u64, depth: u32 },
     /// Memory was refused.
     NoMemory,
-}
-
-impl From<AllocError> for NoMemory {
-    fn from(_refused: AllocError) -> NoMemory {
-        NoMemory
-    }
-}
-
-impl<T: Drop> From<AllocFailed<T>> for NoMemory {
-    fn from(_refused: AllocFailed<T>) -> NoMemory {
-        NoMemory
-    }
 }
 
 impl From<AllocError> for NfStop {

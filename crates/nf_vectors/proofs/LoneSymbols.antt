@@ -6,8 +6,8 @@ use Rattle.nf_terms.specs.NormalTerms.{Atom, Monomial, Polynomial, Symbol, Read,
 use Rattle.nf_terms.specs.NormalTerms.{monomial_of, polynomial_of, polynomial_of_symbol}
 use Rattle.nf_terms.specs.View.{atom_in, term_in}
 use Rattle.fs_model.specs.declared.sides.Pos.{Pos}
-use Rattle.nf_terms.specs.declared.tree.Atom.{Atom as AtomTree}
-use Rattle.nf_terms.specs.declared.tree.MonoTree.{MonoTree}
+use Rattle.nf_trees.specs.declared.tree.Atom.{Atom as AtomTree}
+use Rattle.nf_trees.specs.declared.tree.MonoTree.{MonoTree}
 use Rattle.nf_vectors.specs.BareNumbers.{lone_atom, lone_symbol, bare_number}
 
 pub two_atoms : (xs : List AtomTree) → 2 ≤ length xs → None ≡ lone_symbol (monomial_of (map atom_in xs))

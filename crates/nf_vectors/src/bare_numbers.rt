@@ -6,7 +6,7 @@ ghost use Rattle.nf_terms.specs.NormalTerms.{polynomial_of};
 ghost use Rattle.nf_vectors.specs.BareNumbers.{lone_atom, lone_symbol, bare_number};
 
 use nf_terms::poly::Poly;
-use nf_terms::tree::{Atom, MonoTree, Pos};
+use nf_trees::tree::{Atom, MonoTree, Pos};
 
 // The symbol that an atom is.
 fn lone_atom(atom: &Atom) -> Option<Pos>

@@ -2,7 +2,7 @@
 use Rattle.std.proofs.Common.{◌≡◌, ◌≤◌, refl, arith, List, [], ◌∷◌, length, map, None}
 use Rattle.nf_terms.specs.NormalTerms.{ArrayTerm, Over, NoWrites, Write, writes_of, writes_over}
 use Rattle.nf_terms.specs.View.{write_in}
-use Rattle.nf_terms.specs.declared.tree.PolyTree.{PolyTree}
+use Rattle.nf_trees.specs.declared.tree.PolyTree.{PolyTree}
 use Rattle.propagate_equations.specs.Equations.{symbol_of_array}
 
 pub one_write : (a : ArrayTerm) (ws : List (PolyTree × PolyTree)) → 1 ≤ length ws → writes_of (map write_in ws) ≡ writes_over a → None ≡ symbol_of_array a

@@ -4,7 +4,7 @@ use Rattle.std.proofs.Math.ListN.{drop_of_length-le}
 use Rattle.nf_terms.specs.NormalTerms.{Monomial, polynomial_of}
 use Rattle.nf_terms.specs.View.{term_in}
 use Rattle.fs_model.specs.declared.sides.Pos.{Pos}
-use Rattle.nf_terms.specs.declared.tree.MonoTree.{MonoTree}
+use Rattle.nf_trees.specs.declared.tree.MonoTree.{MonoTree}
 use Rattle.nf_terms.specs.declared.form.Nf.{Nf}
 use Rattle.propagate_equations.specs.EquationSteps.{signed_term, split_behind, split_from}
 use Rattle.propagate_equations.specs.declared.splits.Signed.{Signed}

@@ -7,7 +7,7 @@ use Rattle.nf_terms.specs.NormalTerms.{polynomial_of}
 use Rattle.nf_terms.specs.Normal.{IsNormal, ordered}
 use Rattle.nf_terms.specs.Reduced.{Reduces, Ended, Dropped, Kept}
 use Rattle.nf_terms.specs.View.{monomial_in, term_in}
-use Rattle.nf_terms.specs.declared.tree.MonoTree.{MonoTree}
+use Rattle.nf_trees.specs.declared.tree.MonoTree.{MonoTree}
 use Rattle.nf_sums.proofs.Partings.{ordered_term}
 use Rattle.nf_sums.proofs.Reducing.{reduced_normal}
 

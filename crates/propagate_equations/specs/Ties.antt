@@ -6,7 +6,7 @@ use Rattle.nf_terms.specs.Order.{same_polynomial}
 use Rattle.nf_terms.specs.Forms.{same_form}
 use Rattle.nf_terms.specs.Computed.{Computed, Done, after}
 use Rattle.fs_model.specs.declared.sides.Pos.{Pos}
-use Rattle.nf_terms.specs.declared.tree.Base.TheVariants as base
+use Rattle.nf_trees.specs.declared.tree.Base.TheVariants as base
 use Rattle.nf_terms.specs.declared.tree.SeqBase.TheVariants as list
 use Rattle.nf_terms.specs.declared.form.Nf.{Nf}
 use Rattle.nf_terms.specs.declared.form.Nf.TheVariants.{Num, Arr, Seq}

@@ -10,7 +10,8 @@ use nf_terms::arr::Arr;
 use nf_terms::form::Nf;
 use nf_terms::seq::Seq;
 use nf_terms::symbols::Sort as TermSort;
-use nf_terms::tree::{Base, Pos, SeqBase};
+use nf_terms::tree::SeqBase;
+use nf_trees::tree::{Base, Pos};
 
 // The symbol that an array is: it has no writes.
 fn bare_array(array: &Arr) -> Option<Pos>

@@ -15,7 +15,7 @@ use nf_sums::copies::push_term_copy;
 use nf_terms::poly::Poly;
 use nf_terms::stop::NoMemory;
 use nf_terms::symbols::Sort;
-use nf_terms::tree::{MonoTree, PolyTree, Pos};
+use nf_trees::tree::{MonoTree, PolyTree, Pos};
 use std::alloc::Global;
 
 /// A symbol, as it is or negated.

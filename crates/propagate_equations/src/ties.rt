@@ -23,7 +23,8 @@ use nf_terms::form::Nf;
 use nf_terms::poly::Poly;
 use nf_terms::seq::Seq;
 use nf_terms::stop::{NfStop, NoMemory};
-use nf_terms::tree::{Base, Pos, SeqBase};
+use nf_terms::tree::SeqBase;
+use nf_trees::tree::{Base, Pos};
 use std::alloc::Global;
 use sym_facts::entailment::form_like;
 

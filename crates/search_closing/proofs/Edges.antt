@@ -11,7 +11,7 @@ use Rattle.fs_model.specs.Limits.{most_branches}
 use Rattle.fs_cut.specs.Paths.{Point}
 use Rattle.cert_bisimulation.specs.declared.mode.Mode.{Mode}
 use Rattle.cert_bisimulation.specs.declared.mode.Mode.TheVariants.{Both, Left, Right, End}
-use Rattle.nf_terms.specs.declared.stop.NoMemory.{NoMemory}
+use Rattle.nf_trees.specs.declared.stop.NoMemory.{NoMemory}
 use Rattle.nf_terms.specs.Computed.{Computed, Done, Wide, Large}
 use Rattle.nf_rel.specs.Literals.{is_refuted}
 use Rattle.sym_paths.specs.Execution.{Post, end_of}

@@ -4,7 +4,7 @@ use Rattle.std.specs.Prelude.{Result, Ok, Err, IfOk}
 use Rattle.std.specs.List.{AllByRecursion}
 use Rattle.cert_bisimulation.specs.declared.mode.Mode.{Mode}
 use Rattle.cert_bisimulation.specs.Tables.{Node as CertificateNode}
-use Rattle.nf_terms.specs.declared.stop.NoMemory.{NoMemory}
+use Rattle.nf_trees.specs.declared.stop.NoMemory.{NoMemory}
 use Rattle.sym_facts.specs.Facts.{Fact}
 use Rattle.search_tables.specs.Modes.{Traced, Found}
 use Rattle.cert_model.specs.View.{node_of}

@@ -9,7 +9,8 @@ use nf_terms::form::Nf;
 use nf_terms::poly::Poly;
 use nf_terms::seq::Seq;
 use nf_terms::stop::NoMemory;
-use nf_terms::tree::{Atom, Base, MonoTree, Pos, SeqBase};
+use nf_terms::tree::SeqBase;
+use nf_trees::tree::{Atom, Base, MonoTree, Pos};
 use search_strengthening_terms::stop::unless_stopped;
 use std::alloc::Global;
 

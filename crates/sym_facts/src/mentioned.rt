@@ -11,7 +11,8 @@ use crate::position_set::PositionSet;
 use nf_terms::form::Nf;
 use nf_terms::poly::Poly;
 use nf_terms::seq::Seq;
-use nf_terms::tree::{ArrTree, Atom, Base, MonoTree, PolyTree, SeqBase};
+use nf_terms::tree::SeqBase;
+use nf_trees::tree::{ArrTree, Atom, Base, MonoTree, PolyTree};
 
 // Adds the position of a base, if it has one.
 fn add_base(mentioned: &mut PositionSet, base: &Base)

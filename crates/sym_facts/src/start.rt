@@ -15,7 +15,8 @@ use nf_terms::form::Nf;
 use nf_terms::poly::Poly;
 use nf_terms::seq::Seq;
 use nf_terms::stop::NoMemory;
-use nf_terms::tree::{Base, SeqBase, Side};
+use nf_terms::tree::SeqBase;
+use nf_trees::tree::{Base, Side};
 use std::alloc::Global;
 
 // 0, 0 everywhere, or the empty list.

@@ -21,7 +21,7 @@ use Rattle.fs_model.specs.declared.sides.Side.{Side}
 use Rattle.fs_model.specs.declared.sides.Side.TheVariants.{Left, Right}
 use Rattle.fs_model.specs.declared.sides.Pos.{Pos}
 use Rattle.fs_model.proofs.Stores.{store_ext}
-use Rattle.nf_terms.specs.declared.tree.Base.TheVariants as base
+use Rattle.nf_trees.specs.declared.tree.Base.TheVariants as base
 use Rattle.nf_terms.specs.declared.tree.SeqBase.TheVariants as list
 use Rattle.nf_terms.specs.declared.form.Nf.{Nf}
 use Rattle.nf_terms.specs.declared.form.Nf.TheVariants.{Num, Arr, Seq}

@@ -1,10 +1,10 @@
 -- Tests of the parts of lists, and the values of lists of parts.
 use Rattle.std.specs.Prelude.{◌≡◌, Bool, true, false, ◌&&◌, ◌||◌, not, ℤ, pos, neg_ℤ, cond, List, [], ◌∷◌, ◌++◌, ℕ}
 use Rattle.std.specs.Prelude.{Result, Ok, Err}
-use Rattle.nf_terms.specs.declared.tree.Base.{Base}
-use Rattle.nf_terms.specs.declared.tree.Base.TheVariants as bases
+use Rattle.nf_trees.specs.declared.tree.Base.{Base}
+use Rattle.nf_trees.specs.declared.tree.Base.TheVariants as bases
 use Rattle.nf_terms.specs.NormalTerms as terms
-use Rattle.nf_terms.specs.declared.stop.NoMemory.{NoMemory}
+use Rattle.nf_trees.specs.declared.stop.NoMemory.{NoMemory}
 use Rattle.term_text.specs.TermTexts.{Atom, Monomial, Polynomial, ArrayTerm, ZeroArray, Bare, Written}
 use Rattle.term_values.specs.TermValues.{Interpretation, coefficient, atoms_of, polynomial_value}
 use Rattle.term_values.specs.Checks.{Test, factor_passes, atom_passes, monomial_passes, polynomial_passes}

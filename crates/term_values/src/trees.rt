@@ -12,7 +12,8 @@ ghost use Rattle.term_values.specs.ListParts.{under_sign, base_value, IsPushed};
 use crate::names::{Names, position};
 use nf_terms::atoms::{make_quotient, make_read, make_remainder};
 use nf_terms::stop::NoMemory;
-use nf_terms::tree::{ArrTree, Atom, Base, MonoTree, PolyTree, SeqBase};
+use nf_terms::tree::SeqBase;
+use nf_trees::tree::{ArrTree, Atom, Base, MonoTree, PolyTree};
 use std::alloc::Global;
 use term_condition_text::numbers::clip_number;
 use term_text::tree::{

@@ -11,7 +11,7 @@ use Rattle.fs_model.proofs.Quantifiers.{list_all_push}
 use Rattle.fs_model.specs.Digits.{with_digit, value_of_digits}
 use Rattle.fs_model.specs.Words.{is_digit}
 use Rattle.fs_model.specs.declared.sides.Pos.{Pos}
-use Rattle.nf_terms.specs.declared.tree.Base.TheVariants as bases
+use Rattle.nf_trees.specs.declared.tree.Base.TheVariants as bases
 use Rattle.nf_terms.specs.NormalTerms as terms
 use Rattle.term_text.specs.TermTexts.{Atom, Monomial, Sum, ArrayTerm, Number, One, Times, ZeroArray, Bare, Written}
 use Rattle.term_text.specs.SpellableTerms.{is_number_text}

@@ -6,10 +6,10 @@ use Rattle.term_condition_text.specs.ConditionTexts.{integer_text}
 use Rattle.term_writer.specs.WrittenTerms.{integer_written}
 use Rattle.term_writer.specs.Direct.{sign, factor, head_direct, has_no_terms, terms_direct, polynomial_direct}
 use Rattle.fs_model.specs.declared.sides.Pos.{Pos}
-use Rattle.nf_terms.specs.declared.tree.MonoTree.{MonoTree}
-use Rattle.nf_terms.specs.declared.tree.Atom.{Atom}
-use Rattle.nf_terms.specs.declared.tree.PolyTree.{PolyTree, out-PolyTree}
-use Rattle.nf_terms.specs.declared.tree.Atom.TheFolds.{fold_out-PolyTree}
+use Rattle.nf_trees.specs.declared.tree.MonoTree.{MonoTree}
+use Rattle.nf_trees.specs.declared.tree.Atom.{Atom}
+use Rattle.nf_trees.specs.declared.tree.PolyTree.{PolyTree, out-PolyTree}
+use Rattle.nf_trees.specs.declared.tree.Atom.TheFolds.{fold_out-PolyTree}
 use Rattle.nf_terms.specs.NormalTerms.{Atom as AtomTerm, ArrayTerm, Monomial, Polynomial, Zero, Plus, monomial_of, polynomial_of}
 use Rattle.nf_terms.specs.View.{atom_in, term_in, polynomial_in, atom_step, arr_step, mono_step, poly_step}
 

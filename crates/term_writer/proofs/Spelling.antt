@@ -5,7 +5,7 @@ use Rattle.std.specs.Ordering.{int_eq}
 use Rattle.std.proofs.lemmas.Bool.{and_parts, and_from}
 use Rattle.nf_sums.proofs.Products.{abs_pos}
 use Rattle.fs_model.specs.declared.sides.Pos.{Pos}
-use Rattle.nf_terms.specs.declared.tree.Base.TheVariants as bases
+use Rattle.nf_trees.specs.declared.tree.Base.TheVariants as bases
 use Rattle.nf_terms.specs.NormalTerms as terms
 use Rattle.nf_terms.specs.Measures.{weight_of}
 use Rattle.nf_terms.specs.Normal.{narrow_atom, narrow_monomial, narrow_inside, narrow_writes, narrow_array, is_light, ordered_atom, ordered_monomial, ordered}

@@ -1,8 +1,8 @@
 -- What holds of each symbol of a term, in the sort that it is used in.
 use Rattle.std.specs.Prelude.{◌≡◌, ℕ, ◌≤◌, true, List, [], ◌∷◌, length, Some}
 use Rattle.fs_model.specs.declared.sides.Pos.{Pos}
-use Rattle.nf_terms.specs.declared.tree.Base.{Base}
-use Rattle.nf_terms.specs.declared.tree.Base.TheVariants as bases
+use Rattle.nf_trees.specs.declared.tree.Base.{Base}
+use Rattle.nf_trees.specs.declared.tree.Base.TheVariants as bases
 use Rattle.nf_terms.specs.declared.tree.SeqBase.{SeqBase}
 use Rattle.nf_terms.specs.declared.tree.SeqBase.TheVariants as list_bases
 use Rattle.nf_terms.specs.declared.symbols.Sort.{Sort}

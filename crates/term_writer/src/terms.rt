@@ -9,7 +9,7 @@ ghost use Rattle.term_writer.specs.Direct.{polynomial_direct, array_direct};
 use crate::names::PositionNames;
 use crate::numbers::{put, put_factor, put_number, put_separator, put_sign, put_symbol};
 use nf_terms::stop::NoMemory;
-use nf_terms::tree::{ArrTree, Atom, Base, MonoTree, PolyTree, Pos};
+use nf_trees::tree::{ArrTree, Atom, Base, MonoTree, PolyTree, Pos};
 
 fn put_position<N: PositionNames>(out: &mut Vec<u8>, names: &N, p: Pos) -> Result<(), NoMemory>
     ensures { OnOk result (out.new.items ≡ out.old.items ++ atom_direct (N.name names.now) (Symbol p)) }

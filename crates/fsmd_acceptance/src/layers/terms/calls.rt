@@ -11,7 +11,8 @@ use nf_terms::order::is_same_atom;
 use nf_terms::poly::Poly;
 use nf_terms::stop::NfStop;
 use nf_terms::symbols::Sort;
-use nf_terms::tree::{Atom, Base, Pos, SeqBase, Side};
+use nf_terms::tree::SeqBase;
+use nf_trees::tree::{Atom, Base, Pos, Side};
 use std::alloc::Global;
 
 const A: Pos = Pos {

@@ -8,7 +8,7 @@
 use crate::layers::terms::operators::{Operator, operator_of};
 use nf_terms::atoms::{make_quotient, make_read, make_remainder};
 use nf_terms::stop::NfStop;
-use nf_terms::tree::{ArrTree, Atom, Base, MonoTree, PolyTree, Pos, Side};
+use nf_trees::tree::{ArrTree, Atom, Base, MonoTree, PolyTree, Pos, Side};
 use std::alloc::Global;
 
 /// A sum, or an array.

@@ -1,9 +1,9 @@
 use Rattle.std.proofs.Common.{map, drop, ◌+◌, ◌≤◌, length, is_eq, arith, ap, sym, ◌∙◌}
 use Rattle.std.specs.Ordering.{ordering_then}
 use Rattle.std.proofs.lemmas.List.{drop_all}
-use Rattle.nf_terms.specs.NormalTerms.{polynomial_of}
-use Rattle.nf_terms.specs.View.{term_in}
-use Rattle.nf_terms.specs.Order.{same_polynomial}
+use Rattle.nf_trees.specs.NormalTerms.{polynomial_of}
+use Rattle.nf_trees.specs.View.{term_in}
+use Rattle.nf_trees.specs.Order.{same_polynomial}
 use Rattle.nf_terms.specs.Normal.{part_with_atoms}
 use Rattle.nf_terms.proofs.Steps.{nothing_left}
 use Rattle.nf_terms.proofs.Differing.{part_of, passed, other_ends, both_go_on, differ_where, same_where}

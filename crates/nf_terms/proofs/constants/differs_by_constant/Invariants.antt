@@ -1,7 +1,7 @@
 use Rattle.std.proofs.Common.{◌≡◌, map, drop, true}
-use Rattle.nf_terms.specs.NormalTerms.{polynomial_of}
-use Rattle.nf_terms.specs.View.{polynomial_in, term_in}
-use Rattle.nf_terms.specs.Order.{same_polynomial}
+use Rattle.nf_trees.specs.NormalTerms.{polynomial_of}
+use Rattle.nf_trees.specs.View.{polynomial_in, term_in}
+use Rattle.nf_trees.specs.Order.{same_polynomial}
 use Rattle.nf_terms.specs.Normal.{part_with_atoms, begins_with_atoms, differ_by_constant}
 use Rattle.nf_terms.proofs.constants.differs_by_constant.Given as goal
 

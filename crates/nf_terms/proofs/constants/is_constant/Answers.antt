@@ -1,7 +1,7 @@
 use Rattle.std.proofs.Common.{◌+◌, ◌&&◌, not, map, drop, ap, sym, ◌∙◌}
-use Rattle.fs_model.proofs.Lists.{map_drop_next}
-use Rattle.nf_terms.specs.NormalTerms.{polynomial_of}
-use Rattle.nf_terms.specs.View.{monomial_in, term_in}
+use Rattle.nf_trees.proofs.Lists.{map_drop_next}
+use Rattle.nf_trees.specs.NormalTerms.{polynomial_of}
+use Rattle.nf_trees.specs.View.{monomial_in, term_in}
 use Rattle.nf_terms.specs.Normal.{is_constant}
 use Rattle.nf_terms.proofs.Steps.{constant_step}
 use Rattle.nf_terms.proofs.constants.is_constant.Goals as goal

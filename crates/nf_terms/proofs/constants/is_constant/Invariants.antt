@@ -1,6 +1,6 @@
 use Rattle.std.proofs.Common.{◌≡◌, map, drop}
-use Rattle.nf_terms.specs.NormalTerms.{polynomial_of}
-use Rattle.nf_terms.specs.View.{polynomial_in, term_in}
+use Rattle.nf_trees.specs.NormalTerms.{polynomial_of}
+use Rattle.nf_trees.specs.View.{polynomial_in, term_in}
 use Rattle.nf_terms.specs.Normal.{is_constant}
 use Rattle.nf_terms.proofs.constants.is_constant.Given as goal
 

@@ -1,9 +1,9 @@
 use Rattle.std.proofs.Common.{map, ap, sym, ◌∙◌}
 use Rattle.std.proofs.lemmas.List.{at_drop_all}
-use Rattle.fs_model.proofs.Lists.{map_drop_next}
-use Rattle.nf_terms.specs.NormalTerms.{polynomial_of}
+use Rattle.nf_trees.proofs.Lists.{map_drop_next}
+use Rattle.nf_trees.specs.NormalTerms.{polynomial_of}
 use Rattle.nf_terms.specs.Normal.{begins_with_atoms}
-use Rattle.nf_terms.specs.View.{term_in}
+use Rattle.nf_trees.specs.View.{term_in}
 use Rattle.nf_terms.proofs.Differing.{part_of, passed}
 use Rattle.nf_terms.proofs.InOrder.{part_to_end}
 use Rattle.nf_terms.proofs.constants.skip_constants.Goals as goal

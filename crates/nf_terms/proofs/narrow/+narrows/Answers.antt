@@ -1,15 +1,15 @@
 use Rattle.std.proofs.Common.{◌≡◌, ◌+◌, Bool, ◌&&◌, List, refl, ap, sym, ◌∙◌, map, drop}
 use Rattle.std.proofs.lemmas.List.{at_drop_all}
-use Rattle.fs_model.proofs.Lists.{map_drop_next}
-use Rattle.nf_terms.specs.NormalTerms.{monomial_of, polynomial_of, writes_of}
+use Rattle.nf_trees.proofs.Lists.{map_drop_next}
+use Rattle.nf_trees.specs.NormalTerms.{monomial_of, polynomial_of, writes_of}
 use Rattle.nf_terms.specs.Normal.{is_light, narrow_monomial, narrow_inside, narrow_writes, narrow_array, narrow_atom}
-use Rattle.nf_terms.specs.View.{atom_in, polynomial_in, array_in, term_in, write_in}
-use Rattle.nf_terms.specs.declared.tree.PolyTree.{PolyTree}
-use Rattle.nf_terms.proofs.Compared.{polynomial_in-is}
-use Rattle.nf_terms.proofs.Degrees.{monomial_in-is}
-use Rattle.nf_terms.proofs.LastWrite.{array_in-is}
+use Rattle.nf_trees.specs.View.{atom_in, polynomial_in, array_in, term_in, write_in}
+use Rattle.nf_trees.specs.declared.tree.PolyTree.{PolyTree}
+use Rattle.nf_trees.proofs.Compared.{polynomial_in-is}
+use Rattle.nf_trees.proofs.Degrees.{monomial_in-is}
+use Rattle.nf_trees.proofs.Compared.{array_in-is}
 use Rattle.nf_terms.proofs.InOrder.{fails, holds, second_fails, both_hold, one_more_test, no_more_test}
-use Rattle.nf_terms.proofs.TreeParts.{atom_of_read, of_division}
+use Rattle.nf_trees.proofs.TreeParts.{atom_of_read, of_division}
 use Rattle.nf_terms.proofs.narrow.+narrows.Goals.{is_narrow_atom-then-is_narrow_arr, is_narrow_atom-else-is_narrow_arr}
 use Rattle.nf_terms.proofs.narrow.+narrows.Goals.{is_narrow_atom-then-is_light-2, is_narrow_atom-else-is_light-2}
 use Rattle.nf_terms.proofs.narrow.+narrows.Goals.{is_narrow_atom-then-is_narrow_inside, is_narrow_atom-else-is_narrow_inside}

@@ -1,16 +1,16 @@
 use Rattle.std.proofs.Common.{rules, ◌≡◌, FitsSigned, ◌+◌, pos, not, ◌&&◌, map, drop, refl, ap, sym, ◌∙◌}
 use Rattle.std.specs.Int.{w128}
 use Rattle.std.specs.Ordering.{int_eq}
-use Rattle.nf_terms.specs.NormalTerms.{monomial_of, polynomial_of, writes_of}
+use Rattle.nf_trees.specs.NormalTerms.{monomial_of, polynomial_of, writes_of}
 use Rattle.nf_terms.specs.Normal.{is_constant, stays_read, ordered_atom}
 use Rattle.nf_terms.specs.Normal.{atom_rises, monomial_rises, write_rises, is_written, ordered_monomial, ordered, ordered_writes, ordered_array}
-use Rattle.nf_terms.specs.View.{atom_in, monomial_in, polynomial_in, array_in, term_in, write_in}
-use Rattle.nf_terms.proofs.Compared.{polynomial_in-is}
-use Rattle.nf_terms.proofs.Degrees.{monomial_in-is}
-use Rattle.nf_terms.proofs.LastWrite.{array_in-is}
+use Rattle.nf_trees.specs.View.{atom_in, monomial_in, polynomial_in, array_in, term_in, write_in}
+use Rattle.nf_trees.proofs.Compared.{polynomial_in-is}
+use Rattle.nf_trees.proofs.Degrees.{monomial_in-is}
+use Rattle.nf_trees.proofs.Compared.{array_in-is}
 use Rattle.nf_terms.proofs.InOrder.{atom_test, term_test, write_test, part_to_end, fails, holds, second_fails, both_hold, is_not_zero, is_zero}
 use Rattle.nf_terms.proofs.InOrder.{one_more_test, no_more_test}
-use Rattle.nf_terms.proofs.TreeParts.{atom_of_read, of_division}
+use Rattle.nf_trees.proofs.TreeParts.{atom_of_read, of_division}
 use Rattle.nf_terms.proofs.ordered.+ordered.Goals.{is_ordered_atom-then-is_ordered_arr, is_ordered_atom-else-is_ordered_arr}
 use Rattle.nf_terms.proofs.ordered.+ordered.Goals.{is_ordered_atom-then-is_ordered_poly-2, is_ordered_atom-else-is_ordered_poly-2}
 use Rattle.nf_terms.proofs.ordered.+ordered.Goals.{is_ordered_atom-then-is_constant, is_ordered_atom-else-is_constant}

@@ -1,6 +1,6 @@
 use Rattle.std.proofs.Common.{◌≡◌, map, drop}
-use Rattle.nf_terms.specs.NormalTerms.{monomial_of, polynomial_of, writes_of}
-use Rattle.nf_terms.specs.View.{atom_in, polynomial_in, monomial_in, array_in, term_in, write_in}
+use Rattle.nf_trees.specs.NormalTerms.{monomial_of, polynomial_of, writes_of}
+use Rattle.nf_trees.specs.View.{atom_in, polynomial_in, monomial_in, array_in, term_in, write_in}
 use Rattle.nf_terms.specs.Normal.{ordered_monomial, ordered, ordered_writes, ordered_array}
 use Rattle.nf_terms.proofs.ordered.+ordered.Given as goal
 

@@ -1,6 +1,6 @@
 use Rattle.std.proofs.Common.{◌≡◌, map, drop}
-use Rattle.nf_terms.specs.NormalTerms.{writes_of}
-use Rattle.nf_terms.specs.View.{polynomial_in, write_in}
+use Rattle.nf_trees.specs.NormalTerms.{writes_of}
+use Rattle.nf_trees.specs.View.{polynomial_in, write_in}
 use Rattle.nf_terms.specs.Normal.{is_written}
 use Rattle.nf_terms.proofs.ordered.is_written.Given as goal
 

@@ -1,6 +1,6 @@
 use Rattle.std.proofs.Common.{◌≡◌, ◌-◌, not, length, slice_get, Some, None, subst, ap, sym, ◌∙◌}
 use Rattle.std.specs.Option.{option_copied}
-use Rattle.nf_terms.specs.View.{polynomial_in}
+use Rattle.nf_trees.specs.View.{polynomial_in}
 use Rattle.nf_terms.proofs.LastWrite.{stays_with_last, stays_zero, stays_symbol}
 use Rattle.nf_terms.proofs.ordered.stays_read.Goals as goal
 

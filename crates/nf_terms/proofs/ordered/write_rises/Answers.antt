@@ -3,7 +3,7 @@ use Rattle.std.specs.Int.{w128}
 use Rattle.std.specs.Option.{option_copied}
 use Rattle.std.proofs.lemmas.Int.{to_z-of_z}
 use Rattle.nf_terms.specs.Normal.{constant_part}
-use Rattle.nf_terms.specs.View.{polynomial_in}
+use Rattle.nf_trees.specs.View.{polynomial_in}
 use Rattle.nf_terms.proofs.InOrder.{rises_over_none, rises_over_first}
 use Rattle.nf_terms.proofs.ordered.write_rises.Goals as goal
 

@@ -1,7 +1,7 @@
 use Rattle.std.proofs.Common.{refl, sym, ◌∙◌}
-use Rattle.nf_terms.specs.Order.{cmp_polynomial}
+use Rattle.nf_trees.specs.Order.{cmp_polynomial}
 use Rattle.nf_terms.specs.Lists.{cmp_items}
-use Rattle.nf_terms.proofs.Compared.{IsListOrder, right_ends, decided, tied}
+use Rattle.nf_trees.proofs.Compared.{IsListOrder, right_ends, decided, tied}
 use Rattle.nf_terms.proofs.seq.compare_items.Goals as goal
 
 item_lists : IsListOrder cmp_polynomial cmp_items

@@ -1,7 +1,7 @@
 use Rattle.std.proofs.Common.{rules, ◌≡◌, ◌++◌}
 use Rattle.nf_terms.specs.Symbols.{symbols_of_atom, symbols_of, symbols_of_array}
 use Rattle.nf_terms.specs.View.{atom_in, polynomial_in, array_in}
-use Rattle.nf_terms.specs.declared.tree.Atom.{the_lemmas}
+use Rattle.nf_trees.specs.declared.tree.Atom.{the_lemmas}
 use Rattle.sym_facts.specs.View.{set_in}
 use Rattle.sym_facts.proofs.MentionedPositions.{added}
 use Rattle.sym_facts.proofs.mentioned.+mentioned.Goals as goal

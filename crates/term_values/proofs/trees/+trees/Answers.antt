@@ -9,7 +9,7 @@ use Rattle.term_text.specs.declared.tree.WrittenArray.{out-WrittenArray}
 use Rattle.term_text.specs.View as text
 use Rattle.term_values.specs.TermValues.{within_limit, atom_value, atoms_of, polynomial_value, array_value}
 use Rattle.term_values.specs.ListParts.{term_value, write_value, base_value}
-use Rattle.nf_terms.specs.declared.tree.Atom.TheFolds.{fold-roll-MonoTree, fold-roll-PolyTree, fold-roll-ArrTree}
+use Rattle.nf_trees.specs.declared.tree.Atom.TheFolds.{fold-roll-MonoTree, fold-roll-PolyTree, fold-roll-ArrTree}
 use Rattle.term_values.proofs.Lists.{one_made, both_made, whole_list, atom_first, monomial_is, polynomial_is, array_is}
 use Rattle.term_values.proofs.WrittenParts.{written_read, written_quotient, written_remainder, head_atom}
 use Rattle.term_values.proofs.trees.+trees.Goals as goal

@@ -1,0 +1,12 @@
+pub mod Comparison
+pub mod Keys
+pub mod Measures
+pub mod Mentions
+pub mod NormalTerms
+pub mod Order
+pub mod Positions
+pub mod TermKeys
+pub mod View
+pub use Rattle.fs_model.specs.Codes
+pub use Rattle.fs_model.specs.Division
+pub use Rattle.fs_model.specs.Sides
