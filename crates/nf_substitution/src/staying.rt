@@ -56,7 +56,7 @@ fn atoms_stay(v: &Vector, mono: &MonoTree) -> bool
 }
 
 // Whether the atoms of a monomial are such symbols, and not too many.
-#[tactic(auto, using(nf_terms::proofs::Degrees::degrees))]
+#[tactic(auto, using(nf_trees::proofs::Degrees::degrees))]
 fn monomial_stays(v: &Vector, mono: &MonoTree) -> bool
     ensures { result ≡ monomial_stays v.now (monomial_in mono.now) }
 {
