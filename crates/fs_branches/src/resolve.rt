@@ -20,8 +20,11 @@ use std::rc::Rc;
 /// A transition over the numbers of variables and states. Its branches share its assignments.
 #[derive(Drop)]
 pub struct Transition {
+    /// When it is taken; none where always.
     pub guard: Option<Guard<VarId>>,
+    /// Where it leads.
     pub target: StateId,
+    /// What it assigns, in order of the text.
     pub assigns: Rc<Vec<Assign<VarId>>>,
 }
 
@@ -119,7 +122,7 @@ fn numbered_state(alloc: Global, scope: &Scope, state: &RawState) -> Result<Stat
     })
 }
 
-/// States over numbers.
+/// States over numbers: each as the text spells it, with the line at which it stands. The one refusal is out of memory.
 pub fn resolve(alloc: Global, scope: &Scope, states: &[RawState]) -> Result<Vec<State>, NoMemory>
     requires variables { length scope.now.vars.items ≤ most_variables }
     requires states { length scope.now.states.now ≤ most_states }

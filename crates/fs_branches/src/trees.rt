@@ -25,7 +25,7 @@ enum DecisionTree<'a> {
     Test(SharedLiteral, Rc<DecisionTree<'a>>, Rc<DecisionTree<'a>>),
 }
 
-/// How many leaves the tree of transitions has, or 65 where there are more.
+/// How many leaves the tree of transitions has, or 65 where there are more. Takes no memory.
 pub fn count_leaves(lines: &[Transition]) -> u32
     ensures { result ≡ capped_leaves (count_leaves (tree_of_transitions (map resolved_transition lines.now))) }
 {
@@ -59,7 +59,7 @@ fn count_guard(guard: &Guard<VarId>, on_yes: u32, on_no: u32) -> u32
     }
 }
 
-/// The branches of the tree of transitions, yes before no.
+/// The branches of the tree of transitions, yes before no. The one refusal is out of memory.
 pub fn branches(alloc: Global, lines: &[Transition]) -> Result<Vec<Branch>, NoMemory>
     ensures { IfOk result (λ out. map branch_of out.items ≡ branches_of (map resolved_transition lines.now)) }
 {
