@@ -1,8 +1,8 @@
 -- A term's value depends on the symbols that it mentions, and on no others.
 use Rattle.std.proofs.Common.{◌≡◌, ◌+ℤ◌, ◌*ℤ◌, Bool, true, ◌||◌, ◌==◌, List, [], ◌∷◌, ◌++◌, map, refl}
 use Rattle.std.proofs.lemmas.Bool.{or_left, and_from, or_right}
-use Rattle.nf_trees.proofs.Numbers.{eqb_self}
-use Rattle.nf_trees.specs.Division.{quotient, remainder}
+use Rattle.fs_model.proofs.Numbers.{eqb_self}
+use Rattle.fs_model.specs.Division.{quotient, remainder}
 use Rattle.nf_trees.specs.NormalTerms.{Atom, Monomial, Polynomial, ArrayTerm, Writes, Symbol, Read, Quotient, Remainder, One, Times, Zero, Plus, Over, NoWrites}
 use Rattle.nf_trees.specs.NormalTerms.{Write}
 use Rattle.nf_terms.specs.TermMeaning.{Valuation, contents_after_write, contents_of_base, value_of_atom, value_of_monomial, value_of, contents_after, contents}
@@ -10,8 +10,10 @@ use Rattle.nf_terms.specs.TermMeaning.{items_of_base, items_in}
 use Rattle.nf_terms.specs.Lists.{ListTerm, mentions_items, mentions_list_base, mentions_list}
 use Rattle.nf_trees.specs.Mentions.{same_pos, mentions_base, mentions_atom, mentions_monomial, mentions, mentions_writes, mentions_array}
 use Rattle.nf_terms.specs.ValuationAgreement.{AgreeOn}
-use Rattle.nf_trees.specs.Positions.{Side, Left, Right, Pos}
-use Rattle.nf_trees.specs.Sides.{same_side}
+use Rattle.fs_model.specs.declared.sides.Side.{Side}
+use Rattle.fs_model.specs.declared.sides.Side.TheVariants.{Left, Right}
+use Rattle.fs_model.specs.declared.sides.Pos.{Pos}
+use Rattle.fs_model.specs.Sides.{same_side}
 use Rattle.nf_trees.specs.declared.tree.Base.{Base}
 use Rattle.nf_trees.specs.declared.tree.Base.TheVariants as starts
 use Rattle.nf_terms.specs.declared.tree.SeqBase.{SeqBase}

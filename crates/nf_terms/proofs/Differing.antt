@@ -2,7 +2,7 @@
 use Rattle.std.proofs.Common.{◌≡◌, ℕ, ℤ, ◌+◌, ◌<◌, true, false, cond, List, [], ◌∷◌, map, drop, length, get_or, refl, ap, sym, ◌∙◌, arith}
 use Rattle.std.proofs.Common.{Ordering, Less, Equal, Greater, int_cmp, is_eq}
 use Rattle.std.specs.Ordering.{ordering_then}
-use Rattle.nf_trees.proofs.Lists.{map_drop_next}
+use Rattle.fs_model.proofs.Lists.{map_drop_next}
 use Rattle.nf_trees.specs.NormalTerms.{Monomial, Polynomial, Zero, Plus, polynomial_of}
 use Rattle.nf_terms.specs.Normal.{has_atoms, begins_with_atoms, part_with_atoms}
 use Rattle.nf_trees.specs.Order.{cmp_monomial, cmp_polynomial, same_polynomial}

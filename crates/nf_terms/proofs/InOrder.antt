@@ -6,7 +6,7 @@ use Rattle.std.proofs.lemmas.Int.{to_z-of_z}
 use Rattle.std.specs.Ordering.{int_eq}
 use Rattle.std.proofs.lemmas.Bool.Decides.{Decides-int_eq}
 use Rattle.std.proofs.lemmas.List.{take_all, length-drop}
-use Rattle.nf_trees.proofs.Lists.{drop_next}
+use Rattle.fs_model.proofs.Lists.{drop_next}
 use Rattle.nf_trees.specs.NormalTerms.{Polynomial, monomial_of, polynomial_of, writes_of}
 use Rattle.nf_terms.specs.Normal.{atom_rises, monomial_rises, write_rises, is_written, ordered_atom, ordered_monomial, ordered}
 use Rattle.nf_terms.specs.Normal.{differ_by_constant, constant_part}

@@ -7,7 +7,7 @@ pub use Rattle.nf_trees.proofs.Compared.{array_in-is}
 use Rattle.nf_terms.specs.Normal.{last_index, stays_read, differ_by_constant}
 use Rattle.nf_trees.specs.declared.tree.PolyTree.{PolyTree}
 use Rattle.nf_trees.specs.declared.tree.ArrTree.{ArrTree, out-ArrTree}
-use Rattle.nf_trees.specs.Positions.{Pos}
+use Rattle.fs_model.specs.declared.sides.Pos.{Pos}
 use Rattle.nf_trees.specs.declared.tree.Base.{Base}
 use Rattle.nf_trees.specs.declared.tree.Base.TheVariants as base
 

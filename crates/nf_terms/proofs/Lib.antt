@@ -11,8 +11,8 @@ pub use Rattle.nf_trees.proofs.Compared
 pub use Rattle.nf_trees.proofs.Degrees
 pub use Rattle.nf_trees.proofs.Loops
 pub use Rattle.nf_trees.proofs.TreeParts
-pub use Rattle.nf_trees.proofs.Booleans
-pub use Rattle.nf_trees.proofs.Integers
-pub use Rattle.nf_trees.proofs.Numbers
-pub use Rattle.nf_trees.proofs.Orderings
-pub use Rattle.nf_trees.proofs.Ring
+pub use Rattle.fs_model.proofs.Booleans
+pub use Rattle.fs_model.proofs.Integers
+pub use Rattle.fs_model.proofs.Numbers
+pub use Rattle.fs_model.proofs.Orderings
+pub use Rattle.fs_model.proofs.Ring

@@ -7,7 +7,7 @@ use Rattle.nf_trees.specs.NormalTerms.{Polynomial, One, Zero, Plus, polynomial_o
 use Rattle.nf_trees.specs.Measures.{weight_of}
 use Rattle.nf_terms.specs.Normal.{IsNormal, IsNormalArray, is_light, narrow_inside}
 use Rattle.nf_terms.specs.TermLimits.{weight_limit}
-use Rattle.nf_trees.specs.Positions.{Pos}
+use Rattle.fs_model.specs.declared.sides.Pos.{Pos}
 use Rattle.nf_trees.specs.declared.tree.Base.{Base}
 
 -- a normal polynomial is within the limit of weight

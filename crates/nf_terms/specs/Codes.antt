@@ -3,12 +3,14 @@ use Rattle.std.specs.Prelude.{◌≡◌, ℕ, ℤ, Bool, true, false, Option, So
 use Rattle.std.proofs.Common.{sym, ap, ◌∙◌}
 use Rattle.std.specs.Coded.{Coded, code_by, coded×, coded_ℕ, coded_bool, coded_list, coded_option}
 use base.Stored.{Gv, gnil, gnum, gcons}
-use Rattle.nf_trees.specs.Codes.{code_int, int_at, int_back}
+use Rattle.fs_model.specs.Codes.{code_int, int_at, int_back}
 use Rattle.nf_trees.specs.NormalTerms.{Atom, Polynomial, ArrayTerm}
 use Rattle.nf_terms.specs.Lists.{ListTerm}
 use Rattle.nf_trees.specs.Keys.{Key, Leaf, Node}
 use Rattle.nf_trees.specs.TermKeys.{key_atom, key_polynomial, key_array, inj_atom, inj_polynomial, inj_array}
-use Rattle.nf_trees.specs.Positions.{Side, Left, Right, Pos}
+use Rattle.fs_model.specs.declared.sides.Side.{Side}
+use Rattle.fs_model.specs.declared.sides.Side.TheVariants.{Left, Right}
+use Rattle.fs_model.specs.declared.sides.Pos.{Pos}
 use Rattle.nf_terms.specs.declared.tree.SeqBase.{SeqBase}
 use Rattle.nf_terms.specs.declared.tree.SeqBase.TheVariants as list
 

@@ -6,7 +6,7 @@ use Rattle.nf_trees.specs.Measures.{size_of, size_of_array, depth_of, depth_of_a
 use Rattle.nf_trees.specs.Mentions.{mentions, mentions_array}
 use Rattle.nf_terms.specs.Normal.{IsNormal, IsNormalArray}
 use Rattle.nf_terms.specs.Lists.{size_of_list, depth_of_list, mentions_list, cmp_list, IsNormalList}
-use Rattle.nf_trees.specs.Positions.{Pos}
+use Rattle.fs_model.specs.declared.sides.Pos.{Pos}
 use Rattle.nf_terms.specs.declared.symbols.Sort.{Sort}
 use Rattle.nf_terms.specs.declared.symbols.Sort.TheVariants as sort
 use Rattle.nf_terms.specs.declared.form.Nf.{Nf}

@@ -13,9 +13,9 @@ use Rattle.nf_terms.specs.declared.tree.SeqBase.{SeqBase}
 use Rattle.nf_terms.specs.declared.tree.SeqBase.TheVariants as base
 
 -- nothing before a symbol
-abbrev key_base : SeqBase → Key
-key_base base.Empty = Leaf (pos 0)
-key_base (base.Sym p) = Node (Leaf (pos 0)) (key_pos p)
+abbrev key_list_base : SeqBase → Key
+key_list_base base.Empty = Leaf (pos 0)
+key_list_base (base.Sym p) = Node (Leaf (pos 0)) (key_pos p)
 
 -- item by item
 abbrev key_items : List Polynomial → Key
@@ -24,9 +24,9 @@ key_items (p ∷ ps) = Node (key_polynomial p) (key_items ps)
 
 -- the base, then the items
 abbrev key_list : ListTerm → Key
-key_list l = Node (key_base l.base) (key_items l.items)
+key_list l = Node (key_list_base l.base) (key_items l.items)
 
-inj_base : (x y : SeqBase) → key_base x ≡ key_base y → x ≡ y
+inj_base : (x y : SeqBase) → key_list_base x ≡ key_list_base y → x ≡ y
 inj_base base.Empty base.Empty e = refl
 inj_base base.Empty (base.Sym q) e = cc
 inj_base (base.Sym p) base.Empty e = cc
@@ -42,7 +42,7 @@ inj_list : (x y : ListTerm) → key_list x ≡ key_list y → x ≡ y
 inj_list x y e = let b : x.base ≡ y.base = inj_base x.base y.base (cc) in
     let i : x.items ≡ y.items = inj_items x.items y.items (cc) in (λ k. record { base = b k; items = i k })
 
-base_by_key : (x y : SeqBase) → cmp_list_base x y ≡ cmp_key (key_base x) (key_base y)
+base_by_key : (x y : SeqBase) → cmp_list_base x y ≡ cmp_key (key_list_base x) (key_list_base y)
 base_by_key base.Empty base.Empty = refl
 base_by_key base.Empty (base.Sym q) = refl
 base_by_key (base.Sym p) base.Empty = refl

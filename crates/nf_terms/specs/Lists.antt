@@ -9,7 +9,7 @@ use Rattle.nf_trees.specs.Order.{cmp_pos, cmp_polynomial}
 use Rattle.nf_trees.specs.Measures.{size_of, depth_of}
 use Rattle.nf_trees.specs.Mentions.{same_pos, mentions}
 use Rattle.nf_terms.specs.Normal.{IsNormal}
-use Rattle.nf_trees.specs.Positions.{Pos}
+use Rattle.fs_model.specs.declared.sides.Pos.{Pos}
 use Rattle.nf_terms.specs.declared.tree.SeqBase.{SeqBase}
 use Rattle.nf_terms.specs.declared.tree.SeqBase.TheVariants as base
 

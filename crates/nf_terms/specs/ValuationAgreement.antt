@@ -1,7 +1,7 @@
 -- Valuations that agree on some of the symbols.
 use Rattle.std.specs.Prelude.{◌≡◌, Bool, true}
 use Rattle.nf_terms.specs.TermMeaning.{Valuation}
-use Rattle.nf_trees.specs.Positions.{Pos}
+use Rattle.fs_model.specs.declared.sides.Pos.{Pos}
 
 -- two valuations agree on the symbols that pass a test
 pub record AgreeOn (test : Pos → Bool) (v w : Valuation) : Type 0 where

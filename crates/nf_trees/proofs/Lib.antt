@@ -3,9 +3,3 @@ pub mod Compared
 pub mod Degrees
 pub mod Loops
 pub mod TreeParts
-pub use Rattle.fs_model.proofs.Booleans
-pub use Rattle.fs_model.proofs.Integers
-pub use Rattle.fs_model.proofs.Lists
-pub use Rattle.fs_model.proofs.Numbers
-pub use Rattle.fs_model.proofs.Orderings
-pub use Rattle.fs_model.proofs.Ring

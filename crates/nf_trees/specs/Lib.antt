@@ -4,9 +4,5 @@ pub mod Measures
 pub mod Mentions
 pub mod NormalTerms
 pub mod Order
-pub mod Positions
 pub mod TermKeys
 pub mod View
-pub use Rattle.fs_model.specs.Codes
-pub use Rattle.fs_model.specs.Division
-pub use Rattle.fs_model.specs.Sides

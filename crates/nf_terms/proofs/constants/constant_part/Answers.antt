@@ -2,7 +2,7 @@ use Rattle.std.proofs.Common.{rules, ◌+◌, cond, map, drop, FitsSigned, ap, s
 use Rattle.std.specs.Int.{w128}
 use Rattle.std.proofs.lemmas.Int.{to_z-of_z}
 use Rattle.std.proofs.lemmas.List.{at_drop_all}
-use Rattle.nf_trees.proofs.Lists.{map_drop_next}
+use Rattle.fs_model.proofs.Lists.{map_drop_next}
 use Rattle.nf_trees.specs.NormalTerms.{polynomial_of}
 use Rattle.nf_trees.specs.View.{monomial_in, term_in}
 use Rattle.nf_terms.specs.Normal.{constant_part}

@@ -1,5 +1,5 @@
 use Rattle.std.proofs.Common.{◌+◌, ◌&&◌, not, map, drop, ap, sym, ◌∙◌}
-use Rattle.nf_trees.proofs.Lists.{map_drop_next}
+use Rattle.fs_model.proofs.Lists.{map_drop_next}
 use Rattle.nf_trees.specs.NormalTerms.{polynomial_of}
 use Rattle.nf_trees.specs.View.{monomial_in, term_in}
 use Rattle.nf_terms.specs.Normal.{is_constant}

@@ -1,6 +1,6 @@
 use Rattle.std.proofs.Common.{map, ap, sym, ◌∙◌}
 use Rattle.std.proofs.lemmas.List.{at_drop_all}
-use Rattle.nf_trees.proofs.Lists.{map_drop_next}
+use Rattle.fs_model.proofs.Lists.{map_drop_next}
 use Rattle.nf_trees.specs.NormalTerms.{polynomial_of}
 use Rattle.nf_terms.specs.Normal.{begins_with_atoms}
 use Rattle.nf_trees.specs.View.{term_in}

@@ -1,6 +1,6 @@
 use Rattle.std.proofs.Common.{◌+◌, ◌||◌, is_eq, ap, sym, ◌∙◌, map, drop}
 use Rattle.std.proofs.lemmas.List.{at_drop_all}
-use Rattle.nf_trees.proofs.Lists.{map_drop_next}
+use Rattle.fs_model.proofs.Lists.{map_drop_next}
 use Rattle.nf_trees.specs.NormalTerms.{writes_of}
 use Rattle.nf_terms.specs.Normal.{is_written}
 use Rattle.nf_trees.specs.View.{polynomial_in, write_in}

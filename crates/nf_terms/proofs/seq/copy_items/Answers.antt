@@ -1,5 +1,5 @@
 use Rattle.std.proofs.Common.{◌+◌, [], ◌∷◌, ◌++◌, drop, append_assoc, ap, sym, ◌∙◌}
-use Rattle.nf_trees.proofs.Lists.{drop_next}
+use Rattle.fs_model.proofs.Lists.{drop_next}
 use Rattle.nf_terms.proofs.seq.copy_items.Goals as goal
 
 pub loop-item-preserved : goal.loop-item-preserved
