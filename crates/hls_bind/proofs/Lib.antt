@@ -19,3 +19,4 @@ pub mod Loops
 pub mod Yes
 pub mod Ordered
 pub mod Apart
+pub mod Filled

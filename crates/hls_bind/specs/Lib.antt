@@ -9,3 +9,4 @@ pub mod Live
 pub mod ConflictSearch
 pub mod Results
 pub mod Shared
+pub mod Pushed

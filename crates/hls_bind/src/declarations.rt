@@ -1,18 +1,18 @@
 //! Declarations in which registers stand for the locals that are bound to them.
 
-ghost use Rattle.std.specs.Prelude.{◌≡◌, ◌++◌, true, map, filter, IfOk};
+ghost use Rattle.std.specs.Prelude.{◌≡◌, ◌==◌, [], ◌∷◌, ◌++◌, true, cond, length, map, filter, IfOk};
 ghost use Rattle.std.specs.Result.{OnOk};
 ghost use Rattle.fs_ast.specs.MachineOfParts.{names_of};
 ghost use Rattle.fs_model.specs.View.{declaration_of};
 ghost use Rattle.hls_bind.specs.Bindings.{is_rising, AreRegisters, stays, declaration_without_bound};
-ghost use Rattle.hls_bind.specs.Bindings.{remaining_declarations, of_registers};
+ghost use Rattle.hls_bind.specs.Bindings.{remaining_declarations};
 ghost use Rattle.hls_bind.specs.BindingEntries.{binding_entry};
 
 use crate::binding::BoundLocal;
+use crate::made::push_made;
 use crate::renaming::{Registers, place, register_at};
-use fs_model::memory::push_value;
 use fs_model::name::{Name, NoMemory};
-use fs_model::parts::{Decl, Role, Sort};
+use fs_model::parts::Decl;
 use std::alloc::Global;
 
 // Whether a name stays declared.
@@ -31,7 +31,7 @@ fn names_left(alloc: Global, registers: &Registers, names: &[Name]) -> Result<Ve
     let mut out = Vec::new(alloc);
     for name in names {
         if stays(registers, name) {
-            push_value(&mut out, name.try_clone(alloc)?)?;
+            push_made(&mut out, name.try_clone(alloc))?;
         }
     }
     Ok(out)
@@ -52,6 +52,18 @@ fn without(alloc: Global, registers: &Registers, decl: &Decl) -> Result<Decl, No
     })
 }
 
+/// Adds a declaration, unless it has no names.
+pub fn declare(decls: &mut Vec<Decl>, decl: Decl) -> Result<(), NoMemory>
+    ensures { OnOk result
+        (map declaration_of decls.new.items ≡ map declaration_of decls.old.items
+        ++ cond (length decl.names.items == 0) [] (declaration_of decl ∷ [])) }
+{
+    if decl.names.len() != 0 {
+        decls.push(decl)?;
+    }
+    Ok(())
+}
+
 /// The declarations without bound locals, those that are then empty left out.
 pub fn remaining(
     alloc: Global,
@@ -64,10 +76,7 @@ pub fn remaining(
 {
     let mut out = Vec::new(alloc);
     for decl in decls {
-        let left = without(alloc, registers, decl)?;
-        if left.names.len() != 0 {
-            push_value(&mut out, left)?;
-        }
+        declare(&mut out, without(alloc, registers, decl)?)?;
     }
     Ok(out)
 }
@@ -78,7 +87,7 @@ fn all_registers(alloc: Global, entries: &[BoundLocal]) -> Result<Vec<Name>, NoM
 {
     let mut out = Vec::new(alloc);
     for entry in entries {
-        push_value(&mut out, entry.register.try_clone(alloc)?)?;
+        push_made(&mut out, entry.register.try_clone(alloc))?;
     }
     Ok(out)
 }
@@ -92,24 +101,4 @@ pub fn registers_of(alloc: Global, entries: &[BoundLocal]) -> Result<Vec<Name>, 
     out.sort_unstable();
     out.dedup();
     Ok(out)
-}
-
-/// Adds one declaration of the registers, if there are any.
-pub fn declare_registers(
-    decls: &mut Vec<Decl>,
-    line: u32,
-    registers: Vec<Name>,
-) -> Result<(), NoMemory>
-    ensures { OnOk result
-        (map declaration_of decls.new.items ≡ map declaration_of decls.old.items ++ of_registers line registers.items) }
-{
-    if registers.len() != 0 {
-        decls.push(Decl {
-            line,
-            role: Role::Local,
-            sort: Sort::Scalar,
-            names: registers,
-        })?;
-    }
-    Ok(())
 }

@@ -28,6 +28,7 @@ mod declarations;
 mod faults;
 mod flows;
 pub mod laws;
+mod made;
 mod outcome;
 mod reader;
 mod renaming;

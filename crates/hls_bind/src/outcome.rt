@@ -10,13 +10,13 @@ ghost use Rattle.hls_bind.specs.Results.{IsBuiltOf, IsBoundParts, HasNoConflict,
 
 use crate::binding::Binding;
 use crate::conflicts::{Conflict, first_conflict};
-use crate::declarations::{declare_registers, registers_of, remaining};
+use crate::declarations::{declare, registers_of, remaining};
 use crate::flows::live_at_states;
 use crate::renaming::{Registers, renamed_states};
 use fs_ast::machine::Machine;
 use fs_ast_laws::lawful_machines::build_lawful;
 use fs_model::name::{Name, NoMemory};
-use fs_model::parts::{Decl, Parts, StateId, VarId};
+use fs_model::parts::{Decl, Parts, Role, Sort, StateId, VarId};
 use std::alloc::Global;
 
 /// What comes of binding locals to registers.
@@ -46,8 +46,7 @@ fn conflict(alloc: Global, m: &Machine, b: &Binding) -> Result<Option<Conflict>,
 {
     let live = live_at_states(alloc, m)?;
     let _vars = m.vars(); // The call tells the proof that the machine is sound.
-    let found = first_conflict(alloc, m, b.entries(), live.as_slice())?;
-    Ok(found)
+    first_conflict(alloc, m, b.entries(), live.as_slice())
 }
 
 // The declarations without bound locals, and one of the registers.
@@ -62,7 +61,13 @@ fn declarations(
         (names_of registers.now.vars.now) (source_of parts.now).declarations ++ of_registers parts.now.reset_line names.items) }
 {
     let mut decls = remaining(alloc, registers, &parts.decls)?;
-    declare_registers(&mut decls, parts.reset_line, names)?;
+    let declaration = Decl {
+        line: parts.reset_line,
+        role: Role::Local,
+        sort: Sort::Scalar,
+        names,
+    };
+    declare(&mut decls, declaration)?;
     Ok(decls)
 }
 

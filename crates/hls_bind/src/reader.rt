@@ -95,10 +95,13 @@ fn first_fault<'a>(vars: &[VarInfo], members: &'a Map<String, Value>) -> Option<
     None
 }
 
-// The refusal for a fault at a name.
-fn refusal(name: String, fault: Fault) -> BindError
-    ensures { IsOfBindingFault (Some (string_bytes name, fault)) result }
+// The refusal for a fault at a name, or for want of memory.
+fn refusal(name: &String, fault: Fault) -> BindError
+    ensures { IsOfBindingFault (Some (string_bytes name.now, fault)) result }
 {
+    let Ok(name) = name.clone() else {
+        return BindError::NoMemory;
+    };
     match fault {
         Fault::Unknown => BindError::UnknownName { name },
         Fault::Shape => BindError::Shape { name },
@@ -182,7 +185,7 @@ fn read_object(alloc: Global, m: &Machine, value: &Value) -> Result<Binding, Bin
         });
     };
     if let Some((name, fault)) = first_fault(m.vars(), members) {
-        return Err(refusal(name.clone()?, fault));
+        return Err(refusal(name, fault));
     }
     Ok(binding_of(alloc, m, members)?)
 }

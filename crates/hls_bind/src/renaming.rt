@@ -2,16 +2,16 @@
 
 ghost use Rattle.std.specs.Prelude.{◌≡◌, map, option_map, IfOk};
 ghost use Rattle.fs_ast.specs.MachineOfParts.{place_or_end, names_of};
-ghost use Rattle.fs_model.specs.Renamed.{guard_over, assignment_over};
-ghost use Rattle.fs_model.specs.View.{named_guard, named_assignment, source_transition_of, source_state_of};
+ghost use Rattle.fs_model.specs.Renamed.{guard_over};
+ghost use Rattle.fs_model.specs.View.{named_guard, source_transition_of, source_state_of};
 ghost use Rattle.hls_bind.specs.Bindings.{register, transition_renamed, state_renamed};
 ghost use Rattle.hls_bind.specs.BindingEntries.{binding_entry, name_for};
 
 use crate::binding::BoundLocal;
+use crate::made::push_made;
 use fs_model::copies::{Rename, renamed_assignments};
-use fs_model::memory::push_value;
 use fs_model::name::{Name, NoMemory};
-use fs_model::parts::{Assign, Guard, RawLine, RawState, VarInfo};
+use fs_model::parts::{Guard, RawLine, RawState, VarInfo};
 use std::alloc::Global;
 
 /// The variables of a machine, and the registers of some of them.
@@ -76,24 +76,12 @@ fn renamed_condition(
     }
 }
 
-fn assignments_of(
-    alloc: Global,
-    registers: &Registers,
-    assigns: &[Assign<Name>],
-) -> Result<Vec<Assign<Name>>, NoMemory>
-    ensures { IfOk result
-        (λ out. map named_assignment out.items ≡ map (assignment_over (name_for registers.now))
-        (map named_assignment assigns.now)) }
-{
-    Ok(renamed_assignments(alloc, assigns, registers)?)
-}
-
 fn renamed_line(alloc: Global, registers: &Registers, line: &RawLine) -> Result<RawLine, NoMemory>
     ensures { IfOk result
         (λ l. source_transition_of l ≡ transition_renamed (name_for registers.now) (source_transition_of line.now)) }
 {
     let target = line.target.try_clone(alloc)?;
-    let assigns = assignments_of(alloc, registers, &line.assigns)?;
+    let assigns = renamed_assignments(alloc, &line.assigns, registers)?;
     Ok(RawLine {
         line: line.line,
         guard: renamed_condition(alloc, registers, &line.guard)?,
@@ -113,7 +101,7 @@ fn renamed_lines(
 {
     let mut out = Vec::new(alloc);
     for line in lines {
-        push_value(&mut out, renamed_line(alloc, registers, line)?)?;
+        push_made(&mut out, renamed_line(alloc, registers, line))?;
     }
     Ok(out)
 }
@@ -145,7 +133,7 @@ pub fn renamed_states(
 {
     let mut out = Vec::new(alloc);
     for state in states {
-        push_value(&mut out, renamed_state(alloc, registers, state)?)?;
+        push_made(&mut out, renamed_state(alloc, registers, state))?;
     }
     Ok(out)
 }

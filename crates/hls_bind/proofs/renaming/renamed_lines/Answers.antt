@@ -1,0 +1,18 @@
+use Rattle.std.proofs.Common.{[], map}
+use Rattle.fs_model.specs.View.{source_transition_of}
+use Rattle.hls_bind.specs.Bindings.{transition_renamed}
+use Rattle.hls_bind.specs.BindingEntries.{name_for}
+use Rattle.hls_bind.proofs.Filled.{pushed, more_of, all_of}
+use Rattle.hls_bind.proofs.renaming.renamed_lines.Goals as goal
+
+pub loop-line-preserved : goal.loop-line-preserved
+loop-line-preserved c =
+    let r = transition_renamed (name_for c.args.registers.now) in
+    more_of r source_transition_of [] c.args.lines.now c.loop-line.line-index c.line-item.result _ _ c.loop-line-test.true c.line-item.is
+    (pushed source_transition_of c.renamed_line.result _ _ (r (source_transition_of c.line-item.result)) c.in_ok-push_made.ensures c.renamed_line.ensures)
+    c.loop-line.invariant
+
+pub returns : goal.returns
+returns c =
+    let r = transition_renamed (name_for c.args.registers.now) in
+    all_of (λ xs. map r (map source_transition_of xs)) c.args.lines.now c.loop-line.line-index _ c.loop-line-test.false c.loop-line.invariant

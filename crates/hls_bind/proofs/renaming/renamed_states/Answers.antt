@@ -1,0 +1,18 @@
+use Rattle.std.proofs.Common.{[], map}
+use Rattle.fs_model.specs.View.{source_state_of}
+use Rattle.hls_bind.specs.Bindings.{state_renamed}
+use Rattle.hls_bind.specs.BindingEntries.{name_for}
+use Rattle.hls_bind.proofs.Filled.{pushed, more_of, all_of}
+use Rattle.hls_bind.proofs.renaming.renamed_states.Goals as goal
+
+pub loop-state-preserved : goal.loop-state-preserved
+loop-state-preserved c =
+    let r = state_renamed (name_for c.args.registers.now) in
+    more_of r source_state_of [] c.args.states.now c.loop-state.state-index c.state-item.result _ _ c.loop-state-test.true c.state-item.is
+    (pushed source_state_of c.renamed_state.result _ _ (r (source_state_of c.state-item.result)) c.in_ok-push_made.ensures c.renamed_state.ensures)
+    c.loop-state.invariant
+
+pub returns : goal.returns
+returns c =
+    let r = state_renamed (name_for c.args.registers.now) in
+    all_of (λ xs. map r (map source_state_of xs)) c.args.states.now c.loop-state.state-index _ c.loop-state-test.false c.loop-state.invariant
