@@ -4,3 +4,4 @@ pub mod Rows
 pub mod ByStates
 pub mod Gathered
 pub mod Outcome
+pub mod Copied
