@@ -1,5 +1,6 @@
 -- Operations that follow one another: what a step of a loop leaves for those behind it, and the event that is that of the whole.
-use Rattle.std.proofs.Common.{◌≡◌, ℕ, zero, suc, ◌+◌, ◌<◌, List, [], ◌∷◌, map, drop, length, get_or, Result, Err, arith, refl, ap, sym, subst, ◌∙◌}
+use Rattle.std.proofs.Common.{◌≡◌, ℕ, zero, suc, ◌+◌, ◌<◌, List, [], ◌∷◌, map, drop, length, get_or, Result, Ok, Err, arith, refl, ap, sym, subst, ◌∙◌}
+use Rattle.std.specs.Result.{IsErrAnd}
 use Rattle.fs_model.proofs.Lists.{map_drop_next}
 use Rattle.nf_terms.specs.NormalTerms.{Polynomial, ArrayTerm, monomial_of, polynomial_of, writes_of}
 use Rattle.nf_terms.specs.Computed.{Computed, Done, Wide, Large, Answers, after}
@@ -25,6 +26,12 @@ stops stop.NoMemory c next e = tt
 
 pub stopped : {T : Type 0} (r : Result T NfStop) (event : NfStop) (c : Computed T) → r ≡ Err event → Answers {T = T} (Err event) c → Answers {T = T} r c
 stopped {T = T} r event c e h = subst (λ s. Answers {T = T} s c) (sym e) h
+
+-- what a refusal passes on
+pub passed_on : {T : Type 0} (r : Result T NfStop) (event : NfStop) (c : Computed T) → IsErrAnd r (λ d. d ≡ event) → Answers {T = T} (Err event) c
+    → Answers {T = T} r c
+passed_on (Ok t) event c is a = absurd is
+passed_on {T = T} (Err d) event c is a = subst (λ (x : NfStop). Answers {T = T} (Err x) c) (sym is) a
 
 -- an operation on what another gave
 pub goes : {S T : Type 0} (a : Computed S) (next : S → Computed T) (s : S) (r : Result T NfStop) → a ≡ Done s → Answers {T = T} r (next s)

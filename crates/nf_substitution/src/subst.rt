@@ -66,13 +66,19 @@ impl<'v> Subst<'v> {
         terms_stay(self.vector, p.tree())
     }
 
-    // Forgets the atoms behind the first ones.
+    // Hands on what was computed. Where that was refused, it forgets the atoms behind the first ones.
     #[tactic(auto, using(crate::proofs::Known::known_taken))]
-    fn forget(&mut self, count: u64)
-        ensures { self.new ≡ record { vector = self.old.vector; atoms = take count self.old.atoms } }
+    fn forget_refused<T: Drop>(&mut self, count: u64, value: Result<T, NfStop>) -> Result<T, NfStop>
+        ensures same { result ≡ value }
+        ensures kept { OnOk result (self.new ≡ self.old) }
+        ensures refused { OnErr result
+            (self.new ≡ record { vector = self.old.vector; atoms = take count self.old.atoms }) }
     {
-        self.bank.truncate(count);
-        self.memo.truncate(count);
+        if value.is_err() {
+            self.bank.truncate(count);
+            self.memo.truncate(count);
+        }
+        value
     }
 
     /// A polynomial with the vector's forms in place of its symbols.
@@ -88,13 +94,8 @@ impl<'v> Subst<'v> {
         ensures refused { OnErr result (self.new ≡ self.old) }
     {
         let count = self.bank.len();
-        match keep_poly(alloc, self.vector, &mut self.bank, &mut self.memo, p) {
-            Ok(value) => Ok(value),
-            Err(stop) => {
-                self.forget(count);
-                Err(stop)
-            }
-        }
+        let value = keep_poly(alloc, self.vector, &mut self.bank, &mut self.memo, p);
+        self.forget_refused(count, value)
     }
 
     /// An array with the vector's forms in place of its symbols.
@@ -110,13 +111,8 @@ impl<'v> Subst<'v> {
         ensures refused { OnErr result (self.new ≡ self.old) }
     {
         let count = self.bank.len();
-        match keep_arr(alloc, self.vector, &mut self.bank, &mut self.memo, a.tree()) {
-            Ok(value) => Ok(value),
-            Err(stop) => {
-                self.forget(count);
-                Err(stop)
-            }
-        }
+        let value = keep_arr(alloc, self.vector, &mut self.bank, &mut self.memo, a.tree());
+        self.forget_refused(count, value)
     }
 
     /// A list with the vector's forms in place of its symbols.
@@ -131,13 +127,8 @@ impl<'v> Subst<'v> {
         ensures refused { OnErr result (self.new ≡ self.old) }
     {
         let count = self.bank.len();
-        match keep_list(alloc, self.vector, &mut self.bank, &mut self.memo, l) {
-            Ok(value) => Ok(value),
-            Err(stop) => {
-                self.forget(count);
-                Err(stop)
-            }
-        }
+        let value = keep_list(alloc, self.vector, &mut self.bank, &mut self.memo, l);
+        self.forget_refused(count, value)
     }
 }
 

@@ -1,4 +1,4 @@
-use Rattle.std.proofs.Common.{◌≡◌, ◌+◌, Err, drop, ap, sym, subst, ◌∙◌, rules}
+use Rattle.std.proofs.Common.{◌+◌, Err, drop, ap, sym, subst, ◌∙◌}
 use Rattle.std.proofs.lemmas.List.{at_drop_all}
 use Rattle.fs_model.proofs.Lists.{drop_next}
 use Rattle.nf_terms.specs.Computed.{Answers}
@@ -7,7 +7,7 @@ use Rattle.nf_arrays.specs.Pushes.{list_with_item}
 use Rattle.nf_bank.proofs.Fronts.{front_trans}
 use Rattle.nf_substitution.specs.Substitution.{polynomial_substituted, items_substituted}
 use Rattle.nf_substitution.specs.Keeping.{with_items}
-use Rattle.nf_substitution.proofs.Following.{item_done, item_stops, stopped}
+use Rattle.nf_substitution.proofs.Following.{item_done, item_stops, passed_on}
 use Rattle.nf_substitution.proofs.kept_terms.keep_items.Goals as goal
 
 pub loop-item-preserved : goal.loop-item-preserved
@@ -49,9 +49,8 @@ returns-in_err-so_far-clause-answers c =
     let x = c.item-item.result in
     let v = c.args.vector.now in
     let event = c.in_err-so_far.field-0.0 in
-    let refused : c.from_residual.result ≡ Err event = search rules in
     let next = ap (λ ys. items_substituted v ys c.loop-item.so_far) (sym (drop_next xs i x c.loop-item-test.true c.item-item.is)) in
-    stopped _ event _ refused
+    passed_on c.from_residual.result event _ c.from_residual.ensures.1
     (subst (Answers {T = ListTerm} (Err event)) (next ∙ c.loop-item.invariant.answers)
     (item_stops event (polynomial_substituted v x) (λ q. list_with_item c.loop-item.so_far q) (λ l. items_substituted v (drop (i + 1) xs) l)
     c.in_err-so_far.ensures.answers))
