@@ -267,14 +267,6 @@ TermMadeAs (Ok x) is = is x
 TermMadeAs (Err BadTerm) is = ⊥
 TermMadeAs (Err NoMemory) is = Unit {0}
 
-abbrev pub EndsNumber : List ℕ → Type 0
-EndsNumber [] = Unit {0}
-EndsNumber (b ∷ bs) = is_digit b ≡ false
-
-abbrev pub EndsWord : List ℕ → Type 0
-EndsWord [] = Unit {0}
-EndsWord (b ∷ bs) = is_word_byte b ≡ false
-
 -- whether the first byte passes a test
 abbrev pub begins : (ℕ → Bool) → List ℕ → Bool
 begins test [] = false

@@ -1,8 +1,8 @@
 //! What an atom begins with.
 
-ghost use Rattle.std.specs.Prelude.{◌<◌, length, IfOk};
+ghost use Rattle.std.specs.Prelude.{◌≡◌, ◌<◌, length, IfOk};
 ghost use Rattle.term_text.specs.Machine.{ForAtom, in_atom, term_reading, Goes, expect, at_atom, at_symbol};
-ghost use Rattle.term_text.specs.AtomStarts.{after_start};
+ghost use Rattle.term_text.specs.AtomStarts.{MadeFrom, after_start};
 
 use crate::fault::ReadError;
 use crate::scan::{expect, expect_three, word};
@@ -40,6 +40,20 @@ fn begin_symbol<'a>(side: Side, bytes: &'a [u8]) -> Result<(AtomStart<'a>, &'a [
     }
 }
 
+// What an atom begins with, where the rest of its word was there, and what follows that.
+#[inline(always)]
+fn begin_with<'a>(
+    start: AtomStart<'a>,
+    rest: Result<&'a [u8], ReadError>,
+) -> Result<(AtomStart<'a>, &'a [u8]), ReadError>
+    ensures { MadeFrom rest.entry result (λ r x. (x.0 ≡ start.entry) × (x.1.now ≡ r.now)) }
+{
+    match rest {
+        Ok(rest) => Ok((start, rest)),
+        Err(error) => Err(error),
+    }
+}
+
 /// What an atom begins with, and what follows that.
 #[inline(always)]
 pub(crate) fn begin_atom<'a>(bytes: &'a [u8]) -> Result<(AtomStart<'a>, &'a [u8]), ReadError>
@@ -52,18 +66,18 @@ pub(crate) fn begin_atom<'a>(bytes: &'a [u8]) -> Result<(AtomStart<'a>, &'a [u8]
         [first, rest @ ..] => match *first {
             b'L' => begin_symbol(Side::Left, rest),
             b'R' => begin_symbol(Side::Right, rest),
-            b'd' => {
-                let rest = expect_three(rest, b'i', b'v', b'(')?;
-                Ok((AtomStart::Division(DivisionKind::Quotient), rest))
-            }
-            b'r' => {
-                let rest = expect_three(rest, b'e', b'm', b'(')?;
-                Ok((AtomStart::Division(DivisionKind::Remainder), rest))
-            }
-            b'z' => {
-                let rest = expect_three(rest, b'e', b'r', b'o')?;
-                Ok((AtomStart::Array(WrittenBase::Zero), rest))
-            }
+            b'd' => begin_with(
+                AtomStart::Division(DivisionKind::Quotient),
+                expect_three(rest, b'i', b'v', b'('),
+            ),
+            b'r' => begin_with(
+                AtomStart::Division(DivisionKind::Remainder),
+                expect_three(rest, b'e', b'm', b'('),
+            ),
+            b'z' => begin_with(
+                AtomStart::Array(WrittenBase::Zero),
+                expect_three(rest, b'e', b'r', b'o'),
+            ),
             _ => Err(ReadError::BadTerm),
         },
     }
