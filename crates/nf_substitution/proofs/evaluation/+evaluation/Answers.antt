@@ -325,7 +325,8 @@ term_value-product_value-requires t c =
     (omega (arith, is, c.decreases), (omega (arith, is, c.requires.within), c.requires.known))
 
 pub number_value-atom_value-requires : goal.number_value-atom_value-requires
-number_value-atom_value-requires t c = (omega (arith, c.node.ensures.within, c.decreases), (omega (arith, c.node.ensures.within, c.requires.within), c.requires.known))
+number_value-atom_value-requires t c =
+    (omega (arith, c.node.ensures.within, c.decreases), (omega (arith, c.node.ensures.within, c.requires.within), c.requires.known))
 
 pub number_value-returns-in-Some-clause-answers : goal.number_value-returns-in-Some-clause-answers
 number_value-returns-in-Some-clause-answers t c =
