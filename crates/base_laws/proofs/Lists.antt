@@ -1,6 +1,7 @@
 -- Lists: lengths, the element at a place, maps, and texts that are the same.
 use Rattle.std.proofs.Common.{◌≡◌, ℕ, zero, suc, ◌+◌, ◌<◌, ◌≤◌, Bool, true, false, cond, refl, ap, sym, arith, List, [], ◌∷◌, ◌++◌, length, map, filter, drop}
-use Rattle.std.proofs.Common.{get_or, slice_get, Some, None, Contains, bytes_eq}
+use Rattle.std.proofs.Common.{get_or, slice_get, take, Some, None, Contains, bytes_eq, ◌∙◌}
+use Rattle.std.proofs.lemmas.List.{map_push, take_all}
 use Rattle.std.specs.List.{prefix_len}
 use Rattle.std.proofs.lemmas.Slice.Eq.{bytes_eq-Decides}
 
@@ -74,3 +75,17 @@ bytes_eq-false_turned a b e = by_answer (bytes_eq b a) refl
     by_answer : (t : Bool) → bytes_eq b a ≡ t → bytes_eq b a ≡ false
     by_answer false h = h
     by_answer true h = absurd (let s : bytes_eq a b ≡ true = (bytes_eq-Decides a b).1 (sym ((bytes_eq-Decides b a).0 h)) in cc (s, e))
+
+-- one value more, as f looks at it
+pub map_grown : {T A : Type 0} (f : T → A) (old new : List T) (x : T) (y : A) → new ≡ old ++ x ∷ [] → f x ≡ y → map f new ≡ map f old ++ y ∷ []
+map_grown f old new x y p e = ap (map f) p ∙ map_push f old x ∙ ap (λ z. map f old ++ z ∷ []) e
+
+-- an item of a list, whatever stands for a place behind its last
+pub same_there : {X : Type 0} (xs : List X) (i : ℕ) (a b : X) → i < length xs → get_or xs i a ≡ get_or xs i b
+same_there [] i a b h = absurd (omega arith)
+same_there (x ∷ xs) zero a b h = refl
+same_there (x ∷ xs) (suc i) a b h = same_there xs i a b (omega arith)
+
+-- behind the last place the whole list was looked at
+pub of_whole : {A C : Type 0} (f : List A → C) (xs : List A) (i : ℕ) (y : C) → length xs ≤ i → y ≡ f (take i xs) → y ≡ f xs
+of_whole f xs i y h e = e ∙ ap f (take_all i xs h)

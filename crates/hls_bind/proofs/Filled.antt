@@ -3,8 +3,9 @@ use Rattle.std.proofs.Common.{◌≡◌, ℕ, ◌+◌, ◌<◌, ◌≤◌, Bool,
 use Rattle.std.proofs.Common.{ap, ap₂, sym, ◌∙◌, refl, append_assoc, Result, Ok, Err}
 use Rattle.std.specs.Prelude.{◌==◌, Option, option_map}
 use Rattle.std.specs.Result.{IfOk}
-use Rattle.std.proofs.lemmas.List.{map_push, map_more, take_more, take_all, append-nil}
+use Rattle.std.proofs.lemmas.List.{map_push, map_more, take_more, append-nil}
 use Rattle.std.proofs.lemmas.List.Elements.{filter-append}
+use Rattle.fs_model.proofs.Lists.{map_grown}
 use Rattle.fs_model.specs.declared.name.NoMemory.{NoMemory}
 use Rattle.fs_model.specs.declared.parts.Decl.{Decl}
 use Rattle.fs_model.specs.Source.{Declaration, SourceTransition}
@@ -12,18 +13,14 @@ use Rattle.fs_model.specs.Terms.{Guard, Assignment}
 use Rattle.fs_model.specs.Renamed.{guard_over, assignment_over}
 use Rattle.fs_model.specs.View.{declaration_of}
 use Rattle.hls_bind.specs.Bindings.{declaration_without_bound, transition_renamed, remaining_declarations}
-use Rattle.hls_bind.specs.Pushed.{IsPushed}
+use Rattle.hls_bind.specs.Pushed.{AddsIfMade}
 
--- one value more, as f looks at it
-pub grown : {T A : Type 0} (f : T → A) (old new : List T) (x : T) (y : A) → new ≡ old ++ x ∷ [] → f x ≡ y → map f new ≡ map f old ++ y ∷ []
-grown f old new x y p e = ap (map f) p ∙ map_push f old x ∙ ap (λ z. map f old ++ z ∷ []) e
-
-pub pushed : {T A : Type 0} (f : T → A) (made : Result T NoMemory) (old new : List T) (y : A) → IsPushed made old new → IfOk made (λ t. f t ≡ y)
+pub pushed : {T A : Type 0} (f : T → A) (made : Result T NoMemory) (old new : List T) (y : A) → AddsIfMade made old new → IfOk made (λ t. f t ≡ y)
     → map f new ≡ map f old ++ y ∷ []
-pushed f (Ok x) old new y p e = grown f old new x y p e
+pushed f (Ok x) old new y p e = map_grown f old new x y p e
 pushed f (Err e) old new y p h = absurd p
 
-pub put : {T : Type 0} (made : Result T NoMemory) (old new : List T) (y : T) → IsPushed made old new → IfOk made (λ t. t ≡ y) → new ≡ old ++ y ∷ []
+pub put : {T : Type 0} (made : Result T NoMemory) (old new : List T) (y : T) → AddsIfMade made old new → IfOk made (λ t. t ≡ y) → new ≡ old ++ y ∷ []
 put (Ok x) old new y p e = p ∙ ap (λ z. old ++ z ∷ []) e
 put (Err e) old new y p h = absurd p
 
@@ -53,10 +50,6 @@ pub one_goes : {A : Type 0} (p : A → Bool) (xs : List A) (i : ℕ) (x : A) (ol
     → new ≡ old → old ≡ filter p (take i xs) → new ≡ filter p (take (i + 1) xs)
 one_goes p xs i x old new h e t n o = n ∙ o
     ∙ sym (filtered_more p xs i x h e ∙ ap (λ b. filter p (take i xs) ++ cond b (x ∷ []) []) t ∙ append-nil (filter p (take i xs)))
-
--- behind the last place the whole list was looked at
-pub all_of : {A C : Type 0} (f : List A → C) (xs : List A) (i : ℕ) (y : C) → length xs ≤ i → y ≡ f (take i xs) → y ≡ f xs
-all_of f xs i y h e = e ∙ ap f (take_all i xs h)
 
 -- ---- declarations
 one_left : (d : Declaration) (t : Bool) → cond t [] (d ∷ []) ≡ cond (not t) (d ∷ []) []

@@ -1,7 +1,7 @@
 -- Operations that follow one another: what a step of a loop leaves for those behind it, and the event that is that of the whole.
-use Rattle.std.proofs.Common.{◌≡◌, ℕ, zero, suc, ◌+◌, ◌<◌, List, [], ◌∷◌, map, drop, length, get_or, Result, Ok, Err, arith, refl, ap, sym, subst, ◌∙◌}
+use Rattle.std.proofs.Common.{◌≡◌, ℕ, ◌+◌, ◌<◌, List, [], ◌∷◌, map, drop, length, get_or, Result, Ok, Err, refl, ap, sym, subst, ◌∙◌}
 use Rattle.std.specs.Result.{IsErrAnd}
-use Rattle.fs_model.proofs.Lists.{map_drop_next}
+use Rattle.fs_model.proofs.Lists.{map_drop_next, same_there}
 use Rattle.nf_terms.specs.NormalTerms.{Polynomial, ArrayTerm, monomial_of, polynomial_of, writes_of}
 use Rattle.nf_terms.specs.Computed.{Computed, Done, Wide, Large, Answers, after}
 use Rattle.nf_terms.specs.NormalTerms.{Atom}
@@ -61,12 +61,6 @@ item_done a f next m e = ap (λ c. after c next) (sym e) ∙ after_after a f nex
 pub item_stops : {S T U : Type 0} (event : NfStop) (a : Computed S) (f : S → Computed T) (next : T → Computed U)
     → Answers {T = T} (Err event) (after a f) → Answers {T = U} (Err event) (after a (λ s. after (f s) next))
 item_stops {U = U} event a f next e = subst (Answers {T = U} (Err event)) (after_after a f next) (stops event (after a f) next e)
-
--- an element that is there is not the default
-pub same_there : {X : Type 0} (xs : List X) (i : ℕ) (a b : X) → i < length xs → get_or xs i a ≡ get_or xs i b
-same_there [] i a b h = absurd (omega arith)
-same_there (x ∷ xs) zero a b h = refl
-same_there (x ∷ xs) (suc i) a b h = same_there xs i a b (omega arith)
 
 module _ (v : List (Pos × Nf)) (bank : List Atom) where
   pub factor_step : (ids : List AtomId) (i : ℕ) (default : AtomId) (so_far product : Polynomial) → i < length ids

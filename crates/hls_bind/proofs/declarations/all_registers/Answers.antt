@@ -1,6 +1,7 @@
 use Rattle.std.proofs.Common.{map}
 use Rattle.hls_bind.specs.declared.binding.BoundLocal.{BoundLocal}
-use Rattle.hls_bind.proofs.Filled.{put, more_in, all_of}
+use Rattle.fs_model.proofs.Lists.{of_whole}
+use Rattle.hls_bind.proofs.Filled.{put, more_in}
 use Rattle.hls_bind.proofs.declarations.all_registers.Goals as goal
 
 pub loop-entry-preserved : goal.loop-entry-preserved
@@ -9,4 +10,4 @@ loop-entry-preserved c =
     (put c.try_clone.result _ _ c.entry-item.result.register c.in_ok-push_made.ensures c.try_clone.ensures) c.loop-entry.invariant
 
 pub returns : goal.returns
-returns c = all_of (map (λ (e : BoundLocal). e.register)) c.args.entries.now c.loop-entry.entry-index _ c.loop-entry-test.false c.loop-entry.invariant
+returns c = of_whole (map (λ (e : BoundLocal). e.register)) c.args.entries.now c.loop-entry.entry-index _ c.loop-entry-test.false c.loop-entry.invariant

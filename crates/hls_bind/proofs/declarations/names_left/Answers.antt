@@ -3,7 +3,8 @@ use Rattle.std.specs.Prelude.{filter}
 use Rattle.fs_ast.specs.MachineOfParts.{names_of}
 use Rattle.hls_bind.specs.Bindings.{stays}
 use Rattle.hls_bind.specs.BindingEntries.{binding_entry}
-use Rattle.hls_bind.proofs.Filled.{put, one_stays, one_goes, all_of}
+use Rattle.fs_model.proofs.Lists.{of_whole}
+use Rattle.hls_bind.proofs.Filled.{put, one_stays, one_goes}
 use Rattle.hls_bind.proofs.declarations.names_left.Goals as goal
 use Rattle.hls_bind.proofs.declarations.names_left.Goals.{then-stays+in_ok-push_made, else-stays}
 
@@ -27,4 +28,4 @@ loop-name-preserved c =
 pub returns : goal.returns
 returns c =
     let s = stays (map binding_entry c.args.registers.now.entries.now) (names_of c.args.registers.now.vars.now) in
-    all_of (filter s) c.args.names.now c.loop-name.name-index _ c.loop-name-test.false c.loop-name.invariant
+    of_whole (filter s) c.args.names.now c.loop-name.name-index _ c.loop-name-test.false c.loop-name.invariant

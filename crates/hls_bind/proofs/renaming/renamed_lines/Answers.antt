@@ -2,7 +2,8 @@ use Rattle.std.proofs.Common.{[], map}
 use Rattle.fs_model.specs.View.{source_transition_of}
 use Rattle.hls_bind.specs.Bindings.{transition_renamed}
 use Rattle.hls_bind.specs.BindingEntries.{name_for}
-use Rattle.hls_bind.proofs.Filled.{pushed, more_of, all_of}
+use Rattle.fs_model.proofs.Lists.{of_whole}
+use Rattle.hls_bind.proofs.Filled.{pushed, more_of}
 use Rattle.hls_bind.proofs.renaming.renamed_lines.Goals as goal
 
 pub loop-line-preserved : goal.loop-line-preserved
@@ -15,4 +16,4 @@ loop-line-preserved c =
 pub returns : goal.returns
 returns c =
     let r = transition_renamed (name_for c.args.registers.now) in
-    all_of (λ xs. map r (map source_transition_of xs)) c.args.lines.now c.loop-line.line-index _ c.loop-line-test.false c.loop-line.invariant
+    of_whole (λ xs. map r (map source_transition_of xs)) c.args.lines.now c.loop-line.line-index _ c.loop-line-test.false c.loop-line.invariant

@@ -2,7 +2,8 @@ use Rattle.std.proofs.Common.{[], map}
 use Rattle.fs_model.specs.View.{source_state_of}
 use Rattle.hls_bind.specs.Bindings.{state_renamed}
 use Rattle.hls_bind.specs.BindingEntries.{name_for}
-use Rattle.hls_bind.proofs.Filled.{pushed, more_of, all_of}
+use Rattle.fs_model.proofs.Lists.{of_whole}
+use Rattle.hls_bind.proofs.Filled.{pushed, more_of}
 use Rattle.hls_bind.proofs.renaming.renamed_states.Goals as goal
 
 pub loop-state-preserved : goal.loop-state-preserved
@@ -15,4 +16,4 @@ loop-state-preserved c =
 pub returns : goal.returns
 returns c =
     let r = state_renamed (name_for c.args.registers.now) in
-    all_of (λ xs. map r (map source_state_of xs)) c.args.states.now c.loop-state.state-index _ c.loop-state-test.false c.loop-state.invariant
+    of_whole (λ xs. map r (map source_state_of xs)) c.args.states.now c.loop-state.state-index _ c.loop-state-test.false c.loop-state.invariant

@@ -1,13 +1,14 @@
 use Rattle.std.proofs.Common.{[], map}
 use Rattle.fs_model.specs.View.{declaration_of}
-use Rattle.hls_sched.proofs.Copied.{grown, one_more, all_of}
+use Rattle.fs_model.proofs.Lists.{map_grown, of_whole}
+use Rattle.hls_sched.proofs.Copied.{one_more}
 use Rattle.hls_sched.proofs.copies.copied_declarations.Goals as goal
 
 pub loop-decl-preserved : goal.loop-decl-preserved
 loop-decl-preserved c =
     one_more declaration_of [] c.args.decls.now c.loop-decl.decl-index c.decl-item.result _ _ c.loop-decl-test.true c.decl-item.is
-    (grown declaration_of _ _ c.in_ok-try_clone.field-0 (declaration_of c.decl-item.result) c.in_ok-push_value.ensures c.in_ok-try_clone.ensures)
+    (map_grown declaration_of _ _ c.in_ok-try_clone.field-0 (declaration_of c.decl-item.result) c.in_ok-push_value.ensures c.in_ok-try_clone.ensures)
     c.loop-decl.invariant
 
 pub returns : goal.returns
-returns c = all_of (map declaration_of) c.args.decls.now c.loop-decl.decl-index _ c.loop-decl-test.false c.loop-decl.invariant
+returns c = of_whole (map declaration_of) c.args.decls.now c.loop-decl.decl-index _ c.loop-decl-test.false c.loop-decl.invariant

@@ -2,7 +2,8 @@ use Rattle.std.proofs.Common.{◌∙◌, [], ap, map}
 use Rattle.fs_model.specs.declared.parts.StateId.{StateId}
 use Rattle.hls_line_filling.specs.StraightLines.{item_of}
 use Rattle.hls_line_filling.specs.EffectSets.{sets_of, sets_from, none_changed}
-use Rattle.hls_sched.proofs.Copied.{grown, one_more, same_there, all_of}
+use Rattle.fs_model.proofs.Lists.{map_grown, same_there, of_whole}
+use Rattle.hls_sched.proofs.Copied.{one_more}
 use Rattle.hls_sched.proofs.plans.all_effects.Goals as goal
 
 pub loop-state-preserved : goal.loop-state-preserved
@@ -10,9 +11,9 @@ loop-state-preserved c =
     let states = c.args.states.now in
     one_more (λ (q : StateId). sets_from (item_of c.args.m.now q.0) none_changed) [] states c.loop-state.state-index _ _ _ c.loop-state-test.true
     (same_there states c.loop-state.state-index _ _ c.loop-state-test.true)
-    (grown sets_of _ _ c.of.result _ c.in_ok-push.ensures.items (c.of.ensures ∙ ap (λ xs. sets_from xs none_changed) c.item.ensures))
+    (map_grown sets_of _ _ c.of.result _ c.in_ok-push.ensures.items (c.of.ensures ∙ ap (λ xs. sets_from xs none_changed) c.item.ensures))
     c.loop-state.invariant
 
 pub returns : goal.returns
-returns c = all_of (map (λ (q : StateId). sets_from (item_of c.args.m.now q.0) none_changed)) c.args.states.now c.loop-state.state-index _
+returns c = of_whole (map (λ (q : StateId). sets_from (item_of c.args.m.now q.0) none_changed)) c.args.states.now c.loop-state.state-index _
     c.loop-state-test.false c.loop-state.invariant

@@ -3,7 +3,8 @@ use Rattle.fs_model.specs.declared.parts.StateId.{StateId}
 use Rattle.hls_line_filling.specs.StraightLines.{item_of}
 use Rattle.hls_line_filling.specs.ItemUnits.{used_by}
 use Rattle.hls_line_filling.specs.Profiles.{units_of_uses, capped_count}
-use Rattle.hls_sched.proofs.Copied.{grown, one_more, same_there, all_of}
+use Rattle.fs_model.proofs.Lists.{map_grown, same_there, of_whole}
+use Rattle.hls_sched.proofs.Copied.{one_more}
 use Rattle.hls_sched.proofs.plans.all_uses.Goals as goal
 
 pub loop-state-preserved : goal.loop-state-preserved
@@ -11,10 +12,10 @@ loop-state-preserved c = λ kind.
     let states = c.args.states.now in
     one_more (λ (q : StateId). capped_count (used_by (item_of c.args.m.now q.0) kind)) [] states c.loop-state.state-index _ _ _ c.loop-state-test.true
     (same_there states c.loop-state.state-index _ _ c.loop-state-test.true)
-    (grown (λ u. units_of_uses u kind) _ _ c.uses_of.result _ c.in_ok-push.ensures.items
+    (map_grown (λ u. units_of_uses u kind) _ _ c.uses_of.result _ c.in_ok-push.ensures.items
     (c.uses_of.ensures kind ∙ ap (λ xs. capped_count (used_by xs kind)) c.item.ensures))
     (c.loop-state.invariant kind)
 
 pub returns : goal.returns
-returns c = λ kind. all_of (map (λ (q : StateId). capped_count (used_by (item_of c.args.m.now q.0) kind))) c.args.states.now c.loop-state.state-index _
+returns c = λ kind. of_whole (map (λ (q : StateId). capped_count (used_by (item_of c.args.m.now q.0) kind))) c.args.states.now c.loop-state.state-index _
     c.loop-state-test.false (c.loop-state.invariant kind)

@@ -12,7 +12,8 @@ use Rattle.nf_substitution.specs.Substitution.{atom_substituted, atoms_substitut
 use Rattle.nf_substitution.specs.Substitution.{polynomial_substituted, array_substituted}
 use Rattle.nf_substitution.proofs.Known.{known_found}
 use Rattle.nf_substitution.proofs.FirstFactors.{from_first}
-use Rattle.nf_substitution.proofs.Following.{same_there, stops, passed_on, goes, factor_step, term_step, write_step}
+use Rattle.fs_model.proofs.Lists.{same_there}
+use Rattle.nf_substitution.proofs.Following.{stops, passed_on, goes, factor_step, term_step, write_step}
 use Rattle.nf_substitution.proofs.Following.{factor_stops, term_stops, write_stops}
 use Rattle.nf_substitution.proofs.evaluation.+evaluation.Goals as goal
 

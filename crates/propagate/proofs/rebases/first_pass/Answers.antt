@@ -1,7 +1,7 @@
 use Rattle.std.proofs.Common.{[], ◌∷◌, ◌++◌, ◌+◌, map, drop, ap, sym, ◌∙◌}
 use Rattle.std.proofs.lemmas.List.{append_assoc}
 use Rattle.fs_model.proofs.Lists.{drop_next}
-use Rattle.nf_substitution.proofs.Following.{same_there}
+use Rattle.fs_model.proofs.Lists.{same_there}
 use Rattle.propagate.specs.RebaseSteps.{first_pass_from, before_others}
 use Rattle.propagate.proofs.PassTurns.{pushed_map, first_goes, first_ends}
 use Rattle.propagate.proofs.rebases.first_pass.Goals as goal

@@ -6,7 +6,7 @@ use Rattle.nf_terms.specs.Computed.{Answers, Done, after}
 use Rattle.propagate.specs.Rebases.{RebaseState}
 use Rattle.propagate.specs.RebaseSteps.{second_from, before_others}
 use Rattle.propagate.specs.declared.rebases.Marked.{Marked}
-use Rattle.nf_substitution.proofs.Following.{same_there}
+use Rattle.fs_model.proofs.Lists.{same_there}
 use Rattle.propagate.proofs.PassTurns.{told_stop, pushed_map, second_goes, second_stops, second_ends}
 use Rattle.propagate.proofs.rebases.second_pass.Goals as goal
 

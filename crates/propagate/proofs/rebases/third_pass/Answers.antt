@@ -1,6 +1,6 @@
 use Rattle.std.proofs.Common.{◌+◌, List, map, drop, Err, ap, sym, subst, ◌∙◌}
 use Rattle.nf_terms.specs.Computed.{Answers}
-use Rattle.nf_substitution.proofs.Following.{same_there}
+use Rattle.fs_model.proofs.Lists.{same_there}
 use Rattle.sym_paths.proofs.Loops.{followed}
 use Rattle.sym_facts.specs.Facts.{FactPosition}
 use Rattle.sym_facts.specs.View.{position_in}

@@ -1,6 +1,7 @@
 use Rattle.std.proofs.Common.{rules, ◌≡◌, ◌∙◌, Err, ap}
 use Rattle.nf_terms.specs.Computed.{Done}
-use Rattle.nf_substitution.proofs.Following.{same_there, stopped}
+use Rattle.fs_model.proofs.Lists.{same_there}
+use Rattle.nf_substitution.proofs.Following.{stopped}
 use Rattle.propagate_equations.proofs.FirstTie.{first_tie, no_tie, tie_stops, rebase_turn}
 use Rattle.propagate_equations.proofs.equations.number_tied.Goals as goal
 
