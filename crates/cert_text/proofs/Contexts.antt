@@ -16,22 +16,22 @@ use Rattle.fs_model.specs.declared.sides.Side.TheVariants.{Left, Right}
 use Rattle.cert_bisimulation.specs.Tables.{Node}
 use Rattle.sym_facts.specs.Facts.{Fact}
 use Rattle.cert_json.specs.WrittenJson.{NodeText}
-use Rattle.cert_text.specs.declared.faults.CertError.{CertError}
+use Rattle.cert_facts.specs.declared.faults.CertError.{CertError}
 use Rattle.cert_terms.specs.declared.names.Places.{Places}
 use Rattle.cert_terms.specs.declared.table.NameTable.{NameTable}
-use Rattle.cert_text.specs.JsonParts.{file_nodes, file_format}
+use Rattle.cert_facts.specs.JsonParts.{file_nodes, file_format}
 use Rattle.cert_terms.specs.CertificateNames.{state_named, place_named, find_in}
 use Rattle.cert_terms.specs.NameTables.{name_number}
 use Rattle.cert_terms.specs.TextMeanings.{TextMeanings}
 use Rattle.cert_text.specs.CertificateReading.{Context, nodes_read}
 use Rattle.cert_terms.specs.TextFunctions.{meanings_by}
 use Rattle.cert_text.specs.Within.{AreNodesOf}
-use Rattle.cert_text.specs.PartAnswers.{Tells}
-use Rattle.cert_text.specs.declared.faults.Stop.{Stop}
-use Rattle.cert_text.specs.declared.faults.Stop.TheVariants as stop
+use Rattle.cert_facts.specs.PartAnswers.{Tells}
+use Rattle.cert_facts.specs.declared.faults.Stop.{Stop}
+use Rattle.cert_facts.specs.declared.faults.Stop.TheVariants as stop
 use Rattle.cert_text.specs.Refusals.{context_of, file_read, ComesTo, TellsNodes}
 use Rattle.cert_terms.specs.View.{place_in_tables}
-use Rattle.cert_text.specs.View.{terms_in}
+use Rattle.cert_facts.specs.View.{terms_in}
 use Rattle.cert_terms.proofs.Readings.{only_texts}
 use Rattle.cert_text.proofs.LawfulNodes.{lawful}
 

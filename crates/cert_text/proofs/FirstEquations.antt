@@ -18,10 +18,10 @@ use Rattle.fs_ast.specs.Places.{first_place}
 use Rattle.fs_pair.specs.declared.positions.Position.{Position}
 use Rattle.fs_pair.specs.Partners.{position_name}
 use Rattle.nf_terms.specs.declared.form.Nf.{Nf}
-use Rattle.cert_text.specs.declared.faults.CertError.{CertError}
+use Rattle.cert_facts.specs.declared.faults.CertError.{CertError}
 use Rattle.cert_text.specs.CertificateNames.{names_on, place_named, place_within, name_place, place_by_key}
-use Rattle.cert_text.specs.CertificateReading.{TermContext, known_place, equation_put, equations_read}
-use Rattle.cert_text.specs.NodePointNames.{then_part}
+use Rattle.cert_facts.specs.FactReading.{TermContext, known_place, equation_put, equations_read}
+use Rattle.cert_facts.specs.PartAnswers.{then_part}
 
 -- ---- the names of positions
 

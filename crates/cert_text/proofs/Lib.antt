@@ -1,10 +1,7 @@
-mod Facts
-mod Told
 mod LawfulNodes
 mod Shapes
 mod Contexts
 mod NodeLists
-mod NodeParts
 mod OneWay
 mod Refused
 mod FirstEquations

@@ -15,13 +15,15 @@ use Rattle.cert_model.specs.declared.cert.Node.{Node as CodeNode}
 use Rattle.cert_model.specs.View.{node_of}
 use Rattle.cert_values.specs.Shape.{is_node, are_nodes, has_many_conditions, some_has_many}
 use Rattle.cert_json.specs.WrittenJson.{NodeText}
-use Rattle.cert_text.specs.declared.faults.CertError.{CertError}
-use Rattle.cert_text.specs.declared.faults.Stop.{Stop}
-use Rattle.cert_text.specs.declared.faults.Stop.TheVariants as stop
-use Rattle.cert_text.specs.JsonParts.{node_text_in, node_texts}
-use Rattle.cert_text.specs.PartAnswers.{Tells}
-use Rattle.cert_text.specs.NodePointNames.{then_part, points_read}
-use Rattle.cert_text.specs.CertificateReading.{Context, mode_named, node_fact, node_read, node_added, nodes_read}
+use Rattle.cert_facts.specs.declared.faults.CertError.{CertError}
+use Rattle.cert_facts.specs.declared.faults.Stop.{Stop}
+use Rattle.cert_facts.specs.JsonParts.{node_text_in, node_texts}
+use Rattle.cert_facts.specs.PartAnswers.{Tells}
+use Rattle.cert_facts.specs.PartAnswers.{then_part}
+use Rattle.cert_text.specs.NodePointNames.{points_read}
+use Rattle.cert_facts.proofs.Told.{stopped_first}
+use Rattle.cert_facts.specs.FactReading.{node_fact}
+use Rattle.cert_text.specs.CertificateReading.{mode_named, Context, node_read, node_added, nodes_read}
 
 -- the first of the values that are left has the form of a node, and few conditions
 module _ (left rest : List Value) (x : Value) (is : left ≡ x ∷ rest) where
@@ -36,12 +38,6 @@ module _ (left rest : List Value) (x : Value) (is : left ≡ x ∷ rest) where
 
   pub others_few : some_has_many (items_view left) ≡ false → some_has_many (items_view rest) ≡ false
   others_few s = neither_second (has_many_conditions (view x)) (some_has_many (items_view rest)) (sym (ap (λ vs. some_has_many (items_view vs)) is) ∙ s)
-
--- where a part stops, the whole does
-pub stopped_first : {V W X Y : Type 0} (v : V → X) (w : W → Y) (e : Stop) (y : Result X CertError) (next : X → Result Y CertError) → Tells v (Err e) y
-    → Tells w (Err e) (then_part y next)
-stopped_first v w (stop.Refused e) y next h = ap (λ z. then_part z next) h
-stopped_first v w stop.NoMemory y next h = tt
 
 -- ---- one node
 

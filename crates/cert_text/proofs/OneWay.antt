@@ -8,10 +8,10 @@ use Rattle.sym_facts.specs.Facts.{Fact}
 use Rattle.term_values.specs.NameMeanings.{Find}
 use Rattle.base_json_files.proofs.Once.{one_value}
 use Rattle.cert_values.specs.Shape.{is_file, has_too_many}
-use Rattle.cert_text.specs.declared.faults.CertError.{CertError}
-use Rattle.cert_text.specs.declared.faults.CertError.TheVariants.{NotJson, Shape, UnknownState, NotCutpoint, UnknownName, SortOf, NotSolved, TwiceNode}
-use Rattle.cert_text.specs.declared.faults.CertError.TheVariants.{NumberTooBig, TooMany, NoMemory, BadTerm, NotNormal}
-use Rattle.cert_text.specs.JsonParts.{file_format}
+use Rattle.cert_facts.specs.declared.faults.CertError.{CertError}
+use Rattle.cert_facts.specs.declared.faults.CertError.TheVariants.{NotJson, Shape, UnknownState, NotCutpoint, UnknownName, SortOf, NotSolved, TwiceNode}
+use Rattle.cert_facts.specs.declared.faults.CertError.TheVariants.{NumberTooBig, TooMany, NoMemory, BadTerm, NotNormal}
+use Rattle.cert_facts.specs.JsonParts.{file_format}
 use Rattle.cert_terms.specs.CertificateNames.{place_named, find_in}
 use Rattle.cert_terms.specs.TextFunctions.{meanings_by}
 use Rattle.cert_text.specs.Refusals.{file_read, ComesTo, SpellsNodes, BreaksFirst, IsRefusedAsCertificate}

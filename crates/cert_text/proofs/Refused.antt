@@ -15,18 +15,19 @@ use Rattle.term_values.specs.declared.faults.TermError.{TermError}
 use Rattle.term_values.specs.declared.faults.TermError.TheVariants as term
 use Rattle.cert_json.specs.Refusals.{IsFileOf}
 use Rattle.cert_json.specs.WrittenJson.{NodeText}
-use Rattle.cert_text.specs.declared.faults.CertError.{CertError}
-use Rattle.cert_text.specs.declared.faults.CertError.TheVariants as errors
-use Rattle.cert_text.specs.declared.faults.Stop.{Stop}
-use Rattle.cert_text.specs.declared.faults.Stop.TheVariants as stop
-use Rattle.cert_text.specs.JsonParts.{file_nodes, file_format}
+use Rattle.cert_facts.specs.declared.faults.CertError.{CertError}
+use Rattle.cert_facts.specs.declared.faults.CertError.TheVariants as errors
+use Rattle.cert_facts.specs.declared.faults.Stop.{Stop}
+use Rattle.cert_facts.specs.declared.faults.Stop.TheVariants as stop
+use Rattle.cert_facts.specs.JsonParts.{file_nodes, file_format}
 use Rattle.cert_terms.specs.CertificateNames.{place_named, find_in, name_place, place_by_key, sort_at}
-use Rattle.cert_text.specs.PartAnswers.{error_of}
-use Rattle.cert_text.specs.NodePointNames.{then_part, point_named, known_point, cut_point, node_is_at, points_if_new, StateTables, points_read}
+use Rattle.cert_text.specs.FileErrors.{error_of}
+use Rattle.cert_facts.specs.PartAnswers.{then_part}
+use Rattle.cert_text.specs.NodePointNames.{point_named, known_point, cut_point, node_is_at, points_if_new, StateTables, points_read}
 use Rattle.cert_terms.specs.TextFunctions.{meanings_by}
-use Rattle.cert_text.specs.CertificateReading.{TermContext, Context, text_read, known_place, equation_read, equation_put, equations_read}
-use Rattle.cert_text.specs.CertificateReading.{unwritten_equation}
-use Rattle.cert_text.specs.CertificateReading.{conditions_read, solved_fact, node_fact, node_read, node_added, nodes_read}
+use Rattle.cert_facts.specs.FactReading.{TermContext, text_read, known_place, equation_read, equation_put, equations_read}
+use Rattle.cert_facts.specs.FactReading.{unwritten_equation, conditions_read, solved_fact, node_fact}
+use Rattle.cert_text.specs.CertificateReading.{Context, node_read, node_added, nodes_read}
 use Rattle.cert_text.specs.Refusals.{context_of, file_read, ComesTo, TellsNodes, BreaksFirst, IsRefusedAsCertificate}
 use Rattle.cert_terms.proofs.Readings.{texts_are_read}
 

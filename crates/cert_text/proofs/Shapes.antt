@@ -1,7 +1,7 @@
 -- What the form of a certificate says of its numbers.
 use Rattle.std.proofs.Common.{◌≡◌, ℕ, ◌≤◌, Bool, true, false, ◌&&◌, Option, Some, None, refl, ap, List, length, arith}
 use Rattle.std.specs.Prelude.{option_and_then, codes}
-use Rattle.std.proofs.lemmas.Bool.{leb-true, ltb-false, or_parts}
+use Rattle.std.proofs.lemmas.Bool.{leb-true, or_parts}
 use Rattle.fs_model.proofs.Booleans.{and_first, and_second}
 use Rattle.serde_json.specs.Data.{Data, Items}
 use Rattle.serde_json.specs.Events.{items_len}
@@ -10,8 +10,9 @@ use Rattle.cert_values.specs.declared.value.Value.{Value}
 use Rattle.cert_values.proofs.Views.{items_len-items_view}
 use Rattle.serde_json.specs.Find.{get, as_str, as_array, as_object}
 use Rattle.cert_values.specs.Shape.{has_members, is_list_of_texts, is_map_of_texts, is_text, is_mode, is_within, whole_number_in, is_node, is_format, are_nodes}
-use Rattle.cert_values.specs.Shape.{is_list_of_nodes, is_file, has_more, has_many_conditions, some_has_many, some_of_file_has_many, has_too_many}
-use Rattle.cert_text.specs.JsonParts.{number_or_zero, json_number, items_or_none}
+use Rattle.cert_values.specs.Shape.{is_list_of_nodes, is_file, has_more, some_has_many, some_of_file_has_many, has_too_many}
+use Rattle.cert_facts.proofs.FewConditions.{at_most}
+use Rattle.cert_facts.specs.JsonParts.{number_or_zero, json_number, items_or_none}
 
 low : (o : Option ℕ) → is_within 4096 o ≡ true → number_or_zero o ≤ 4096
 low None h = omega arith
@@ -27,10 +28,6 @@ rank_low d h =
     && is_map_of_texts (option_and_then as_object (get (codes "equations") d)) && is_text (get (codes "left") d)
     && is_mode (option_and_then as_str (get (codes "mode") d)) in
     low (whole_number_in (get (codes "rank") d)) (and_second front rank (and_first (front && rank) right h))
-
-at_most : (limit : ℕ) (o : Option Items) → has_more limit o ≡ false → items_len (items_or_none o) ≤ limit
-at_most limit None h = omega arith
-at_most limit (Some ds) h = ltb-false limit (items_len ds) h
 
 shaped : (o : Option Items) → is_list_of_nodes o ≡ true → are_nodes (items_or_none o) ≡ true
 shaped None h = absurd (cc h)
@@ -58,14 +55,6 @@ nodes_few d vs e h =
     let nodes : Option Items = option_and_then as_array (get (codes "nodes") d) in
     let few : items_len (items_or_none nodes) ≤ 4096 = at_most 4096 nodes (or_parts (has_more 4096 nodes) (some_of_file_has_many nodes) h).0 in
     let many : items_len (items_view vs) ≡ items_len (items_or_none nodes) = ap items_len e in
-    omega (arith, few, many, items_len-items_view vs)
-
-pub conds_few : (d : Data) (vs : List Value) → items_view vs ≡ items_or_none (option_and_then as_array (get (codes "conds") d)) → has_many_conditions d ≡ false
-    → length vs ≤ 64
-conds_few d vs e h =
-    let conds : Option Items = option_and_then as_array (get (codes "conds") d) in
-    let few : items_len (items_or_none conds) ≤ 64 = at_most 64 conds h in
-    let many : items_len (items_view vs) ≡ items_len (items_or_none conds) = ap items_len e in
     omega (arith, few, many, items_len-items_view vs)
 
 -- what is known of the nodes of a file

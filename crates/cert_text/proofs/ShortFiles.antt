@@ -34,16 +34,18 @@ use Rattle.cert_json.proofs.OrderedValues.{IsOrdered, AreOrdered, read_ordered, 
 use Rattle.cert_json.proofs.TrimLaws.{trim-get_member, text_under, number_under, kept_node, kept_file}
 use Rattle.cert_model.specs.declared.cert.Cert.{Cert}
 use Rattle.cert_model.specs.View.{node_of}
-use Rattle.cert_text.specs.declared.faults.CertError.{CertError}
-use Rattle.cert_text.specs.declared.faults.Stop.{Stop}
-use Rattle.cert_text.specs.declared.faults.Stop.TheVariants as stop
+use Rattle.cert_facts.specs.declared.faults.CertError.{CertError}
+use Rattle.cert_facts.specs.declared.faults.Stop.{Stop}
+use Rattle.cert_facts.specs.declared.faults.Stop.TheVariants as stop
 use Rattle.cert_text.specs.CertificateNames.{place_named, find_in}
-use Rattle.cert_text.specs.CertificateReading.{equations_read, conditions_read, fact_read, unwritten_equation, mode_named, node_fact}
-use Rattle.cert_text.specs.CertificateReading.{node_read, node_added, nodes_read}
-use Rattle.cert_text.specs.JsonParts.{texts_of, items_or_none, members_or_none, number_or_zero, equations_in, node_text_in, node_texts, file_nodes, file_format}
-use Rattle.cert_text.specs.NodePointNames.{then_part, points_read}
+use Rattle.cert_facts.specs.FactReading.{equations_read, conditions_read, fact_read, unwritten_equation, node_fact}
+use Rattle.cert_text.specs.CertificateReading.{mode_named, node_read, node_added, nodes_read}
+use Rattle.cert_facts.specs.JsonParts.{texts_of, items_or_none, members_or_none, number_or_zero, equations_in, node_text_in, node_texts}
+use Rattle.cert_facts.specs.JsonParts.{file_nodes, file_format}
+use Rattle.cert_facts.specs.PartAnswers.{then_part}
+use Rattle.cert_text.specs.NodePointNames.{points_read}
 use Rattle.cert_text.specs.Refusals.{context_of, file_read, ComesTo, TellsNodes, SpellsNodes, IsRefusedAsCertificate}
-use Rattle.cert_text.specs.PartAnswers.{error_of_file, error_of}
+use Rattle.cert_text.specs.FileErrors.{error_of_file, error_of}
 use Rattle.cert_text.specs.TextMeanings.{TextMeanings, AreRead}
 use Rattle.cert_text.proofs.FirstEquations.{few_known, first_read}
 use Rattle.cert_text.proofs.Refused.{nodes_refused}

@@ -7,13 +7,9 @@ use Rattle.fs_cut.specs.Paths.{Point, Start, At, Done, is_point}
 use Rattle.fs_cut.specs.Covers.{same_point}
 use Rattle.cert_bisimulation.specs.Tables.{Node}
 use Rattle.sym_facts.specs.Facts.{Fact}
-use Rattle.cert_text.specs.declared.faults.CertError.{CertError}
-use Rattle.cert_text.specs.declared.faults.CertError.TheVariants.{UnknownState, NotCutpoint, TwiceNode}
-
--- what comes of a part goes on with the next, or its refusal is that of the whole
-abbrev pub then_part : {X Y : Type 0} → Result X CertError → (X → Result Y CertError) → Result Y CertError
-then_part (Ok x) next = next x
-then_part (Err e) next = Err e
+use Rattle.cert_facts.specs.declared.faults.CertError.{CertError}
+use Rattle.cert_facts.specs.declared.faults.CertError.TheVariants.{UnknownState, NotCutpoint, TwiceNode}
+pub use Rattle.cert_facts.specs.PartAnswers.{then_part}
 
 -- the point of a text, if there is one, by the numbers of states: a state by its name, which may be no point of paths
 abbrev pub point_named : (List ℕ → Option ℕ) → List ℕ → Option Point

@@ -7,13 +7,13 @@ use Rattle.cert_bisimulation.specs.Tables.{Node}
 use Rattle.sym_facts.specs.Facts.{Fact}
 use Rattle.base_json_files.specs.Json.{IsNotJson}
 use Rattle.cert_json.specs.Refusals.{IsFileOf, HasOtherShape, HasTooMany}
-use Rattle.cert_text.specs.declared.faults.CertError.{CertError}
-use Rattle.cert_text.specs.declared.faults.CertError.TheVariants.{NotJson, Shape, TooMany, NoMemory}
-use Rattle.cert_text.specs.declared.faults.Stop.{Stop}
-use Rattle.cert_text.specs.declared.faults.Stop.TheVariants as stop
+use Rattle.cert_facts.specs.declared.faults.CertError.{CertError}
+use Rattle.cert_facts.specs.declared.faults.CertError.TheVariants.{NotJson, Shape, TooMany, NoMemory}
+use Rattle.cert_facts.specs.declared.faults.Stop.{Stop}
+use Rattle.cert_facts.specs.declared.faults.Stop.TheVariants as stop
 use Rattle.cert_model.specs.declared.cert.Cert.{Cert}
 use Rattle.cert_model.specs.View.{node_of}
-use Rattle.cert_text.specs.JsonParts.{file_nodes, file_format}
+use Rattle.cert_facts.specs.JsonParts.{file_nodes, file_format}
 use Rattle.cert_terms.specs.CertificateNames.{state_named, place_named, find_in}
 use Rattle.cert_terms.specs.TextMeanings.{TextMeanings, AreRead}
 use Rattle.cert_text.specs.CertificateReading.{Context, nodes_read}

@@ -8,8 +8,8 @@ ghost use Rattle.term_values.specs.NameMeanings.{Find};
 ghost use Rattle.cert_terms.specs.TextMeanings.{AreRead};
 ghost use Rattle.cert_terms.specs.TextFunctions.{meanings_by};
 ghost use Rattle.cert_text.specs.Refusals.{SpellsNodes, IsRefusedAsCertificate};
-ghost use Rattle.cert_text.specs.declared.faults.CertError.{CertError};
-ghost use Rattle.cert_text.specs.declared.faults.CertError.TheVariants as errors;
+ghost use Rattle.cert_facts.specs.declared.faults.CertError.{CertError};
+ghost use Rattle.cert_facts.specs.declared.faults.CertError.TheVariants as errors;
 
 /// There are functions that say of each text what its grammar says: what speaks of all such functions speaks of some.
 pub fn texts_are_read()

@@ -5,14 +5,14 @@ ghost use Rattle.std.specs.List.{list_any};
 ghost use Rattle.fs_cut.specs.Paths.{is_point};
 ghost use Rattle.fs_cut.specs.View.{point_of};
 ghost use Rattle.cert_model.specs.View.{node_of};
-ghost use Rattle.cert_text.specs.PartAnswers.{Tells};
+ghost use Rattle.cert_facts.specs.PartAnswers.{Tells};
 ghost use Rattle.cert_terms.specs.NameTables.{name_number};
 ghost use Rattle.cert_text.specs.NodePointNames.{point_named as named, known_point as known, cut_point as cut};
 ghost use Rattle.cert_text.specs.NodePointNames.{node_is_at as stands_at, points_if_new, points_read};
 ghost use Rattle.cert_text.specs.View.{states_in};
 
-use crate::context::Context;
-use crate::faults::{CertError, Stop};
+use cert_facts::context::Context;
+use cert_facts::faults::{CertError, Stop};
 use cert_model::cert::Node;
 use cert_terms::table::{NameTable, number_of};
 use fs_ast::machine::Machine;

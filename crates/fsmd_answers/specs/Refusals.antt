@@ -9,8 +9,8 @@ use Rattle.cert_bisimulation.specs.Tables.{Node}
 use Rattle.sym_facts.specs.Facts.{Fact}
 use Rattle.cert_model.specs.Lawful.{IsLawful}
 use Rattle.cert_writer.specs.CertificateLimits.{most_certificate_bytes}
-use Rattle.cert_text.specs.declared.faults.CertError.{CertError}
-use Rattle.cert_text.specs.declared.faults.CertError.TheVariants as cert_errors
+use Rattle.cert_facts.specs.declared.faults.CertError.{CertError}
+use Rattle.cert_facts.specs.declared.faults.CertError.TheVariants as cert_errors
 use Rattle.cert_text.specs.Refusals.{SpellsNodes, IsRefusedAsCertificate as IsRefusedFor}
 use Rattle.fsmd_replies.specs.declared.answer.Operand.{Operand}
 use Rattle.fsmd_replies.specs.declared.answer.Answer.{Answer}

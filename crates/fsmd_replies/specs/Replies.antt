@@ -9,8 +9,8 @@ use Rattle.fs_rules.specs.declared.check.CheckRule.TheVariants.{TwiceNamed, Unkn
 use Rattle.fs_rules.specs.declared.check.CheckRule.TheVariants.{NoElse, AfterElse, TooManyBranches, EndlessLine, UnknownState}
 use Rattle.fs_rules.specs.declared.check.CheckRule.TheVariants.{TooMany, TooManyEmits}
 use Rattle.hls_unit_counts.specs.Counts.{kind_key}
-use Rattle.cert_text.specs.declared.faults.CertError.{CertError}
-use Rattle.cert_text.specs.declared.faults.CertError.TheVariants as cert_errors
+use Rattle.cert_facts.specs.declared.faults.CertError.{CertError}
+use Rattle.cert_facts.specs.declared.faults.CertError.TheVariants as cert_errors
 use Rattle.fsmd_replies.specs.declared.answer.KeyFault.{KeyFault}
 use Rattle.fsmd_replies.specs.declared.answer.KeyFault.TheVariants as keys
 use Rattle.fsmd_replies.specs.declared.answer.Answer.{Answer}

@@ -3,7 +3,7 @@
 ghost use Rattle.std.specs.Prelude.{◌≡◌, option_map};
 ghost use Rattle.fsmd_replies.specs.Statuses.{code_of, status_of, certificate_in};
 
-use cert_text::faults::CertError;
+use cert_facts::faults::CertError;
 use fs_ast::check::CheckFault;
 use fs_grammar::fault::TextFault;
 use fs_model::name::Name;

@@ -5,7 +5,7 @@ ghost use Rattle.hls_unit_counts.specs.Counts.{kind_key};
 ghost use Rattle.fsmd_replies.specs.Replies.{kind_name, rule_name, key_fault_name, cert_error_name, node_in, node_count_text};
 
 use crate::answer::KeyFault;
-use cert_text::faults::CertError;
+use cert_facts::faults::CertError;
 use fs_ast::check::{CheckFault, CheckRule};
 use fs_grammar::fault::{TextFault, TextKind};
 use hls_unit_counts::Unit;

@@ -12,9 +12,9 @@ use Rattle.base_json_files.proofs.Once.{one_value}
 use Rattle.cert_json.specs.Refusals.{HasOtherShape, HasTooMany}
 use Rattle.cert_json.specs.Shape.{is_file, has_too_many}
 use Rattle.cert_writer.specs.CertificateLimits.{most_certificate_bytes}
-use Rattle.cert_text.specs.declared.faults.CertError.{CertError}
-use Rattle.cert_text.specs.declared.faults.CertError.TheVariants.{NotJson, Shape, UnknownState, NotCutpoint, UnknownName, SortOf, NotSolved, TwiceNode}
-use Rattle.cert_text.specs.declared.faults.CertError.TheVariants.{NumberTooBig, TooMany, NoMemory, BadTerm, NotNormal}
+use Rattle.cert_facts.specs.declared.faults.CertError.{CertError}
+use Rattle.cert_facts.specs.declared.faults.CertError.TheVariants.{NotJson, Shape, UnknownState, NotCutpoint, UnknownName, SortOf, NotSolved, TwiceNode}
+use Rattle.cert_facts.specs.declared.faults.CertError.TheVariants.{NumberTooBig, TooMany, NoMemory, BadTerm, NotNormal}
 use Rattle.cert_text.specs.JsonParts.{file_format}
 use Rattle.cert_text.specs.CertificateNames.{place_named, find_in}
 use Rattle.cert_text.specs.TextMeanings.{AreRead}

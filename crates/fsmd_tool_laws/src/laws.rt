@@ -18,7 +18,7 @@ ghost use Rattle.fs_trials.specs.Differences.{DiffersAt};
 ghost use Rattle.cert_bisimulation.specs.Tables.{Node};
 ghost use Rattle.sym_facts.specs.Facts.{Fact};
 ghost use Rattle.cert_model.specs.Obligations.{Yes, verdict_on};
-ghost use Rattle.cert_text.specs.declared.faults.CertError.{CertError};
+ghost use Rattle.cert_facts.specs.declared.faults.CertError.{CertError};
 ghost use Rattle.cert_writer.specs.WrittenCertificates.{certificate_text};
 ghost use Rattle.fsmd_tool.specs.SearchTables.{machines};
 ghost use Rattle.fsmd_tool.specs.SearchOutcomes.{IsClosedWith};

@@ -6,8 +6,8 @@ use Rattle.cert_bisimulation.specs.Tables.{Node}
 use Rattle.sym_facts.specs.Facts.{Fact}
 use Rattle.cert_model.specs.declared.cert.Cert.{Cert}
 use Rattle.cert_model.specs.View.{node_of}
-use Rattle.cert_text.specs.declared.faults.CertError.{CertError}
-use Rattle.cert_text.specs.declared.faults.CertError.TheVariants.{NoMemory}
+use Rattle.cert_facts.specs.declared.faults.CertError.{CertError}
+use Rattle.cert_facts.specs.declared.faults.CertError.TheVariants.{NoMemory}
 use Rattle.cert_text.specs.Refusals.{SpellsNodes, IsRefusedAsCertificate}
 
 module _ (a b : Fsmd) (bytes written : List ℕ) (ns : List (Node Fact)) (is : written ≡ bytes) (spelled : SpellsNodes a b bytes ns) where

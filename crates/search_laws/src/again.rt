@@ -4,7 +4,7 @@ ghost use Rattle.std.specs.Prelude.{◌≡◌, map, IfOk, IfErr};
 ghost use Rattle.fs_pair.specs.Positions.{positions};
 ghost use Rattle.cert_model.specs.Lawful.{IsLawful};
 ghost use Rattle.cert_model.specs.View.{node_of};
-ghost use Rattle.cert_text.specs.declared.faults.CertError.TheVariants.{NoMemory as OutOfMemory};
+ghost use Rattle.cert_facts.specs.declared.faults.CertError.TheVariants.{NoMemory as OutOfMemory};
 
 use crate::certificate_laws::written_certificates_are_read;
 use cert_model::cert::Cert;

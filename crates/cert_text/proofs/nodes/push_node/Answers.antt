@@ -1,6 +1,6 @@
 use Rattle.std.proofs.Common.{rules, ◌≡◌, Err}
 use Rattle.cert_values.specs.View.{view}
-use Rattle.cert_text.specs.JsonParts.{node_text_in}
+use Rattle.cert_facts.specs.JsonParts.{node_text_in}
 use Rattle.cert_text.specs.View.{context_in}
 use Rattle.cert_text.proofs.LawfulNodes.{pushed}
 use Rattle.cert_text.proofs.NodeLists.{added_stop, added}

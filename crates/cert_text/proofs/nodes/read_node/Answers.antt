@@ -2,7 +2,7 @@ use Rattle.std.proofs.Common.{rules, ◌≡◌, Err, ap, ◌∙◌, map}
 use Rattle.cert_values.specs.View.{view}
 use Rattle.fs_cut.specs.View.{point_of}
 use Rattle.cert_model.specs.View.{node_of}
-use Rattle.cert_text.specs.JsonParts.{node_text_in}
+use Rattle.cert_facts.specs.JsonParts.{node_text_in}
 use Rattle.cert_text.specs.CertificateReading.{mode_named}
 use Rattle.cert_text.specs.View.{context_in}
 use Rattle.cert_text.proofs.NodeLists.{points_stop, fact_stop, node_told}

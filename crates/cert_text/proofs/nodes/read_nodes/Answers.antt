@@ -1,7 +1,7 @@
 use Rattle.std.proofs.Common.{rules, suc, ◌≡◌, ◌+◌, Err, ap, ◌∙◌, map, length, arith}
 use Rattle.cert_values.specs.View.{items_view}
 use Rattle.cert_model.specs.View.{node_of}
-use Rattle.cert_text.specs.JsonParts.{node_texts}
+use Rattle.cert_facts.specs.JsonParts.{node_texts}
 use Rattle.cert_text.specs.CertificateReading.{nodes_read}
 use Rattle.cert_text.specs.View.{context_in}
 use Rattle.cert_text.proofs.NodeLists.{next_shaped, next_few, others_shaped, others_few, nodes_stop, nodes_more}

@@ -3,7 +3,7 @@ use Rattle.std.specs.Vec.Iter.{into_iter_len}
 use Rattle.cert_values.specs.View.{items_view}
 use Rattle.cert_model.specs.View.{node_of}
 use Rattle.cert_values.specs.Shape.{are_nodes, some_has_many}
-use Rattle.cert_text.specs.JsonParts.{node_texts}
+use Rattle.cert_facts.specs.JsonParts.{node_texts}
 use Rattle.cert_text.specs.CertificateReading.{nodes_read}
 use Rattle.cert_text.specs.View.{context_in}
 use Rattle.cert_terms.specs.Repeats.{AreLast}

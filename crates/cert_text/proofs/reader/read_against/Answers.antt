@@ -1,6 +1,6 @@
 use Rattle.std.proofs.Common.{rules, ◌≡◌, ◌≤◌, ◌∙◌, [], Err, ap, sym, length, arith}
 use Rattle.cert_values.specs.View.{view, items_view}
-use Rattle.cert_text.specs.JsonParts.{node_texts, file_nodes}
+use Rattle.cert_facts.specs.JsonParts.{node_texts, file_nodes}
 use Rattle.cert_text.specs.CertificateReading.{nodes_read}
 use Rattle.cert_text.specs.View.{context_in}
 use Rattle.cert_text.proofs.Contexts.{taken_stop}

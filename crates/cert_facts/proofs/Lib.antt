@@ -1,0 +1,4 @@
+mod Facts
+pub mod Told
+pub mod FewConditions
+mod NodeParts
