@@ -243,12 +243,12 @@ both_made view see left right (Err d) x y e h l r = tt
 
 -- the atom that a monomial begins with, as a list
 pub atom_first : {V : Type 0} (items : V → List AtomTree) (out : Result V NoMemory) (made : Result AtomTree NoMemory) (r : Interpretation) (h : Monomial)
-    (a : Atom) → IfOk out (λ v. IsPushed made [] (items v)) → IfOk made (λ t. atom_in t ≡ atom_value r a) → h ≡ One a
+    (a : Atom) (old : List AtomTree) → old ≡ [] → IfOk out (λ v. IsPushed made old (items v)) → IfOk made (λ t. atom_in t ≡ atom_value r a) → h ≡ One a
     → IfOk out (λ v. (rest : List terms.Atom) → terms.monomial_of (map atom_in (items v) ++ rest) ≡ atoms_of r h (terms.monomial_of rest))
-atom_first items (Ok v) (Ok t) r h a n m e = λ rest. ap (λ xs. terms.monomial_of (map atom_in xs ++ rest)) n
+atom_first items (Ok v) (Ok t) r h a old o n m e = λ rest. ap (λ xs. terms.monomial_of (map atom_in xs ++ rest)) (n ∙ ap (λ xs. xs ++ t ∷ []) o)
     ∙ ap (λ x. terms.Times x (terms.monomial_of rest)) m ∙ sym (ap (λ x. atoms_of r x (terms.monomial_of rest)) e)
-atom_first items (Ok v) (Err d) r h a n m e = absurd n
-atom_first items (Err d) made r h a n m e = tt
+atom_first items (Ok v) (Err d) r h a old o n m e = absurd n
+atom_first items (Err d) made r h a old o n m e = tt
 
 pub whole_list : {X Y A : Type 0} (f : X → Y) (g : Y → A) (done : List A) (xs : List X) (i : ℕ) → length xs ≤ i
     → done ++ map g (map f (drop i xs)) ≡ done

@@ -1,8 +1,8 @@
 //! From the text of a condition to its literal.
 
-ghost use Rattle.std.specs.Prelude.{◌≡◌, IfOk, IfErr};
+ghost use Rattle.std.specs.Prelude.{◌≡◌, true, IfOk, IfErr};
 ghost use Rattle.nf_rel.specs.Literals as literals;
-ghost use Rattle.nf_rel.specs.NormalLiterals.{is_normal_literal};
+ghost use Rattle.nf_rel.specs.NormalLiterals.{is_inner_number, is_normal_literal};
 ghost use Rattle.nf_rel.specs.View.{literal_in};
 ghost use Rattle.term_condition_text.specs.View.{integer_in, condition_in};
 ghost use Rattle.term_condition_text.specs.DigitNumbers.{clipped_number};
@@ -34,8 +34,20 @@ fn integer(written: &WrittenInteger<'_>) -> i128
     }
 }
 
-// The literal of a direction and a bound, where it is in normal form.
+// The literal of a direction and a bound that is in the range of each relation.
 #[tactic(auto, using(crate::proofs::LiteralForms::inner_in_range))]
+fn inner_literal(dir: Poly, kind: Kind, bound: &i128) -> NLit
+    requires { is_inner_number bound.now ≡ true }
+    ensures { literal_in result ≡ literals.Is dir kind bound.now }
+{
+    NLit::Is(Bound {
+        dir,
+        kind,
+        bound: *bound,
+    })
+}
+
+// The literal of a direction and a bound, where it is in normal form.
 fn bound_direction(dir: Poly, kind: Kind, bound: &i128) -> Result<NLit, TermError>
     ensures { IsJudgedAs literal_in result (is_normal_literal (literals.Is dir kind bound.now)) (literals.Is dir kind bound.now) }
 {
@@ -46,11 +58,7 @@ fn bound_direction(dir: Poly, kind: Kind, bound: &i128) -> Result<NLit, TermErro
     if !is_primitive(&dir) {
         return Err(TermError::NotNormal);
     }
-    Ok(NLit::Is(Bound {
-        dir,
-        kind,
-        bound: *bound,
-    }))
+    Ok(inner_literal(dir, kind, bound))
 }
 
 // The literal that a written condition stands for, where it is in normal form.

@@ -1,6 +1,6 @@
 //! From written terms to trees of terms.
 
-ghost use Rattle.std.specs.Prelude.{◌≡◌, ◌++◌, [], map, pos, List, IfOk, OnOk, Ok, unsigned_abs};
+ghost use Rattle.std.specs.Prelude.{◌≡◌, ◌++◌, map, pos, List, IfOk, Ok, unsigned_abs};
 ghost use Rattle.nf_terms.specs.NormalTerms as terms;
 ghost use Rattle.nf_terms.specs.View as view;
 ghost use Rattle.term_text.specs.View as text;
@@ -52,12 +52,12 @@ fn both<A: Drop, B: Drop>(
     Ok((left?, right?))
 }
 
-// Adds a value to a list, where it was made.
-fn push_made<T: Drop>(out: &mut Vec<T>, made: Result<T, NoMemory>) -> Result<(), NoMemory>
-    ensures { OnOk result (IsPushed made out.old.items out.new.items) }
+// The list with a value behind it, where that was made.
+fn push_made<T: Drop>(mut out: Vec<T>, made: Result<T, NoMemory>) -> Result<Vec<T>, NoMemory>
+    ensures { IfOk result (λ v. IsPushed made out.items v.items) }
 {
     out.push(made?)?;
-    Ok(())
+    Ok(out)
 }
 
 #[cycle(trees)]
@@ -84,15 +84,6 @@ fn atom_tree<N: Names>(alloc: Global, names: &N, atom: &WrittenAtom<'_>) -> Resu
     }
 }
 
-// A list of one value, where that was made.
-fn one<T: Drop>(alloc: Global, made: Result<T, NoMemory>) -> Result<Vec<T>, NoMemory>
-    ensures { IfOk result (λ v. IsPushed made [] v.items) }
-{
-    let mut out = Vec::new(alloc);
-    push_made(&mut out, made)?;
-    Ok(out)
-}
-
 // The atom that a monomial begins with, if it does.
 #[cycle(trees)]
 fn head_atoms<N: Names>(
@@ -106,7 +97,7 @@ fn head_atoms<N: Names>(
 {
     match head {
         WrittenHead::Number(_) => Ok(Vec::new(alloc)),
-        WrittenHead::One(atom) => one(alloc, atom_tree(alloc, names, atom)),
+        WrittenHead::One(atom) => push_made(Vec::new(alloc), atom_tree(alloc, names, atom)),
     }
 }
 
@@ -121,7 +112,7 @@ fn monomial_tree<N: Names>(
 {
     let mut atoms = head_atoms(alloc, names, &monomial.head)?;
     for atom in &monomial.atoms {
-        push_made(&mut atoms, atom_tree(alloc, names, atom))?;
+        atoms = push_made(atoms, atom_tree(alloc, names, atom))?;
     }
     Ok(MonoTree { atoms })
 }
@@ -140,10 +131,8 @@ pub fn polynomial_tree<N: Names>(
     let mut monos = Vec::new(alloc);
     for (minus, monomial) in &polynomial.monomials {
         let number = signed_number(*minus, monomial);
-        push_made(
-            &mut monos,
-            both(monomial_tree(alloc, names, monomial), Ok(number)),
-        )?;
+        let term = both(monomial_tree(alloc, names, monomial), Ok(number));
+        monos = push_made(monos, term)?;
     }
     Ok(PolyTree { monos })
 }
@@ -170,10 +159,8 @@ pub fn array_tree<N: Names>(
     let mut writes = Vec::new(alloc);
     for (index, value) in &array.writes {
         let index = polynomial_tree(alloc, names, index);
-        push_made(
-            &mut writes,
-            both(index, polynomial_tree(alloc, names, value)),
-        )?;
+        let write = both(index, polynomial_tree(alloc, names, value));
+        writes = push_made(writes, write)?;
     }
     Ok(ArrTree {
         base: base_tree(names, &array.base),

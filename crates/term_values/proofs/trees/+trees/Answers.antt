@@ -1,4 +1,4 @@
-use Rattle.std.proofs.Common.{◌≡◌, ◌++◌, IfOk, map, ap, subst, ◌∙◌, FitsSigned, rules, sym}
+use Rattle.std.proofs.Common.{◌≡◌, ◌++◌, IfOk, map, ap, subst, ◌∙◌, FitsSigned, rules, refl, sym}
 use Rattle.std.proofs.lemmas.Result.{IfOk-at_ok}
 use Rattle.std.specs.Int.{w128}
 use Rattle.std.proofs.lemmas.Int.{to_z-of_z}
@@ -9,9 +9,11 @@ use Rattle.term_text.specs.declared.tree.WrittenArray.{out-WrittenArray}
 use Rattle.term_text.specs.View as text
 use Rattle.term_values.specs.TermValues.{within_limit, atom_value, atoms_of, polynomial_value, array_value}
 use Rattle.term_values.specs.ListParts.{term_value, write_value, base_value}
+use Rattle.nf_trees.specs.declared.tree.Atom.TheVariants as tree
 use Rattle.nf_trees.specs.declared.tree.Atom.TheFolds.{fold-roll-MonoTree, fold-roll-PolyTree, fold-roll-ArrTree}
+use Rattle.nf_trees.proofs.TreeParts.{atom_of_symbol}
 use Rattle.term_values.proofs.Lists.{one_made, both_made, whole_list, atom_first, monomial_is, polynomial_is, array_is}
-use Rattle.term_values.proofs.WrittenParts.{written_read, written_quotient, written_remainder, head_atom}
+use Rattle.term_values.proofs.WrittenParts.{written_symbol, written_read, written_quotient, written_remainder, head_number, head_atom}
 use Rattle.term_values.proofs.trees.+trees.Goals as goal
 
 pub monomial_tree-loop-atom-preserved : goal.monomial_tree-loop-atom-preserved
@@ -19,7 +21,7 @@ monomial_tree-loop-atom-preserved g t c =
     let r = within_limit (g.N.Names.find c.args.names.now) in
     ap terms.monomial_of
     (one_made view.atom_in text.written_atom_in (atom_value r) c.atom_tree.result c.loop-atom.atoms.items _ c.deref-atom-items.result.now
-    c.loop-atom.atom-index c.atom-item.result c.loop-atom-test.true c.atom-item.is c.in_ok-push_made.ensures c.atom_tree.ensures)
+    c.loop-atom.atom-index c.atom-item.result c.loop-atom-test.true c.atom-item.is c.in_ok-atoms-2.ensures c.atom_tree.ensures)
     ∙ c.loop-atom.invariant
 
 pub polynomial_tree-loop-minus-preserved : goal.polynomial_tree-loop-minus-preserved
@@ -30,9 +32,9 @@ polynomial_tree-loop-minus-preserved g t c =
     let f : FitsSigned w128 number = search rules in
     let same = to_z-of_z w128 number f ∙ c.signed_number-number.ensures in
     ap terms.polynomial_of
-    (one_made view.term_in text.written_term_in (term_value r) c.both.result c.loop-minus.monos.items _ c.deref-minus-items.result.now
-    c.loop-minus.minus-index c.loop-minus-item.result c.loop-minus-test.true c.loop-minus-item.is c.in_ok-push_made.ensures
-    (both_made view.monomial_in (λ n. n) c.monomial_tree.result _ c.both.result v.0 v.1 c.both.ensures.left c.both.ensures.right c.monomial_tree.ensures same))
+    (one_made view.term_in text.written_term_in (term_value r) c.both-term.result c.loop-minus.monos.items _ c.deref-minus-items.result.now
+    c.loop-minus.minus-index c.loop-minus-item.result c.loop-minus-test.true c.loop-minus-item.is c.in_ok-monos.ensures
+    (both_made view.monomial_in (λ n. n) c.monomial_tree.result _ c.both-term.result v.0 v.1 c.both-term.ensures.left c.both-term.ensures.right c.monomial_tree.ensures same))
     ∙ c.loop-minus.invariant
 
 pub array_tree-loop-index-preserved : goal.array_tree-loop-index-preserved
@@ -40,10 +42,10 @@ array_tree-loop-index-preserved g t c =
     let r = within_limit (g.N.Names.find c.args.names.now) in
     let v = write_value r (text.written_write_in c.loop-index-item.result) in
     ap (λ ws. terms.Over (base_value r (text.base_in (out-WrittenArray c.args.array.now).base)) (terms.writes_of ws))
-    (one_made view.write_in text.written_write_in (write_value r) c.both.result c.loop-index.writes.items _ c.deref-index-items.result.now
-    c.loop-index.index-index c.loop-index-item.result c.loop-index-test.true c.loop-index-item.is c.in_ok-push_made.ensures
-    (both_made view.polynomial_in view.polynomial_in c.polynomial_tree-index.result c.polynomial_tree.result c.both.result v.0 v.1 c.both.ensures.left
-    c.both.ensures.right c.polynomial_tree-index.ensures c.polynomial_tree.ensures))
+    (one_made view.write_in text.written_write_in (write_value r) c.both-write.result c.loop-index.writes.items _ c.deref-index-items.result.now
+    c.loop-index.index-index c.loop-index-item.result c.loop-index-test.true c.loop-index-item.is c.in_ok-writes.ensures
+    (both_made view.polynomial_in view.polynomial_in c.polynomial_tree-index.result c.polynomial_tree.result c.both-write.result v.0 v.1 c.both-write.ensures.left
+    c.both-write.ensures.right c.polynomial_tree-index.ensures c.polynomial_tree.ensures))
     ∙ c.loop-index.invariant
 
 pub monomial_tree-returns : goal.monomial_tree-returns
@@ -100,10 +102,20 @@ array_tree-loop-index-init g t c =
 
 -- ---- what an atom and the head of a monomial are made of
 
+pub head_atoms-returns-in-Number : goal.head_atoms-returns-in-Number
+head_atoms-returns-in-Number g t c = λ rest. ap (λ xs. terms.monomial_of (map view.atom_in xs ++ rest)) c.new.ensures.items
+    ∙ sym (ap (λ h. atoms_of (within_limit (g.N.Names.find c.args.names.now)) h (terms.monomial_of rest)) (head_number c.args.head.now _ c.in-Number.is))
+
 pub head_atoms-returns-in-One : goal.head_atoms-returns-in-One
-head_atoms-returns-in-One g t c = atom_first (λ v. v.items) c.one.result c.atom_tree.result (within_limit (g.N.Names.find c.args.names.now))
-    (text.head_in c.args.head.now) (text.written_atom_in c.in-One.atom) c.one.ensures c.atom_tree.ensures
-    (head_atom c.args.head.now c.in-One.atom c.in-One.is)
+head_atoms-returns-in-One g t c = atom_first (λ v. v.items) c.push_made.result c.atom_tree.result (within_limit (g.N.Names.find c.args.names.now))
+    (text.head_in c.args.head.now) (text.written_atom_in c.in-One.atom) c.new-in-One.result.items c.new-in-One.ensures.items c.push_made.ensures
+    c.atom_tree.ensures (head_atom c.args.head.now c.in-One.atom c.in-One.is)
+
+pub atom_tree-returns-in-Symbol : goal.atom_tree-returns-in-Symbol
+atom_tree-returns-in-Symbol g t c =
+    atom_of_symbol (tree.Sym c.position.result) c.position.result refl ∙ ap terms.Symbol c.position.ensures
+    ∙ sym (ap (atom_value (within_limit (g.N.Names.find c.args.names.now)))
+    (written_symbol c.args.atom.now c.in-Symbol.side c.in-Symbol.name c.in-Symbol.is))
 
 pub atom_tree-returns-in_ok-array-in-Read : goal.atom_tree-returns-in_ok-array-in-Read
 atom_tree-returns-in_ok-array-in-Read g t c =
