@@ -1,6 +1,7 @@
 -- Literals in normal form, and conditions without fault.
-use Rattle.std.proofs.Common.{◌≡◌, ℕ, true, false, ◌&&◌, ℤ, pos, neg_ℤ, List, None, Result, Ok, Err, refl, sym, ap, ap₂, ◌∙◌, arith}
+use Rattle.std.proofs.Common.{◌≡◌, ℕ, true, false, ◌&&◌, ℤ, pos, neg_ℤ, List, Some, None, Result, Ok, Err, refl, sym, ap, ap₂, ◌∙◌, arith}
 use Rattle.std.specs.Prelude.{IfOk, IfErr}
+use Rattle.std.specs.Option.{option_or}
 use Rattle.std.specs.Cmp.{signed_Decides}
 use Rattle.std.proofs.lemmas.Int.{ints}
 use Rattle.std.proofs.lemmas.Bool.{and_parts, and_left, and_from, and_right}
@@ -22,9 +23,9 @@ use Rattle.term_condition_text.specs.DigitNumbers.{clipped_number}
 use Rattle.term_values.specs.TermValues.{within_limit, exact}
 use Rattle.term_values.specs.Checks.{numbers_fit, polynomial_passes}
 use Rattle.term_values.specs.Conditions.{integer_value, condition_value, integer_passes, written_condition_passes}
-use Rattle.term_values.specs.TermFaults.{fault_by, IsJudgedAs, IsLiteralOf, IsRefusedCondition}
+use Rattle.term_values.specs.TermFaults.{unless, fault_by, IsJudgedAs, IsLiteralOf, ConditionHasFault, IsRefusedCondition}
 use Rattle.term_values.proofs.Exact.{number_exact, polynomial_exact}
-use Rattle.term_values.proofs.Refusals.{fits, faultless_by, not_normal_by}
+use Rattle.term_values.proofs.Refusals.{fits, faultless_by, not_normal_by, not_bad}
 
 wider : (b : ℤ) → within (neg_ℤ below_most) below_most b ≡ true → (within (neg_ℤ below_most) most b ≡ true) × (within (neg_ℤ most) below_most b ≡ true)
 wider b e = (grind (arith, ints, signed_Decides), grind (arith, ints, signed_Decides))
@@ -77,6 +78,24 @@ condition_read view find bytes c (Ok l) s e j =
       value = j.0 ∙ x;
     }
 condition_read view find bytes c (Err d) s e j = tt
+
+has_fault : (find : Find) (bytes : List ℕ) (c : Condition) (e : TermError) → conditions.SpellsCondition bytes c
+    → fault_by (λ test. written_condition_passes test c) find ≡ Some e → ConditionHasFault find bytes e
+has_fault find bytes c e s f = record {
+  written = c;
+  spells = s;
+  first = ap (λ o. option_or o (unless (is_normal_literal (condition_value (exact find) c)) NotNormal)) f;
+}
+
+-- the refusal of a condition that has a fault in its numbers or names
+pub fault_refused : (find : Find) (bytes : List ℕ) (c : Condition) (e : TermError) → conditions.SpellsCondition bytes c
+    → fault_by (λ test. written_condition_passes test c) find ≡ Some e → IsRefusedCondition find bytes e
+fault_refused find bytes c BadTerm s f = absurd (not_bad (λ test. written_condition_passes test c) find f)
+fault_refused find bytes c NumberTooBig s f = has_fault find bytes c NumberTooBig s f
+fault_refused find bytes c UnknownName s f = has_fault find bytes c UnknownName s f
+fault_refused find bytes c SortOf s f = has_fault find bytes c SortOf s f
+fault_refused find bytes c NotNormal s f = has_fault find bytes c NotNormal s f
+fault_refused find bytes c NoMemory s f = tt
 
 pub condition_refused : {X : Type 0} (view : X → NormalLiteral) (find : Find) (bytes : List ℕ) (c : Condition) (r : Result X TermError)
     → conditions.SpellsCondition bytes c → fault_by (λ test. written_condition_passes test c) find ≡ None

@@ -10,10 +10,10 @@ use Rattle.term_values.specs.declared.faults.TermError.{TermError}
 use Rattle.term_values.specs.declared.faults.TermError.TheVariants.{BadTerm, NumberTooBig, UnknownName, SortOf, NotNormal, NoMemory}
 use Rattle.term_values.specs.NameMeanings.{Find}
 use Rattle.term_values.specs.TermValues.{within_limit, exact, polynomial_value, array_value, list_value}
-use Rattle.term_values.specs.Checks.{Test, numbers_fit}
+use Rattle.term_values.specs.Checks.{Test, numbers_fit, names_known, sorts_fit, ones_left_out}
 use Rattle.nf_rel.specs.NormalLiterals.{is_normal}
 use Rattle.term_values.specs.TermFaults.{is_normal_array, is_normal_list, sort_of_term, term_passes, stands_normal, unless, fault_by, term_fault}
-use Rattle.term_values.specs.TermFaults.{IsPolynomialOf, ReadsAsArray, ReadsAsList, IsRefusedAsTerm, IsJudgedText, IsJudgedAs}
+use Rattle.term_values.specs.TermFaults.{IsPolynomialOf, ReadsAsArray, ReadsAsList, HasFault, IsRefusedAsTerm, IsJudgedText, IsJudgedAs}
 use Rattle.term_values.proofs.Exact.{polynomial_exact, array_exact, list_exact}
 
 some_is_none : (e : TermError) → Some e ≡ None → ⊥
@@ -92,6 +92,37 @@ list_read find bytes w (Ok l) s e j = record {
   value = j.0 ∙ list_exact find w (fits (λ test. term_passes test (list w)) find e);
 }
 list_read find bytes w (Err d) s e j = tt
+
+only_faults : (a b c d : Bool)
+    → option_or (unless a NumberTooBig) (option_or (unless b UnknownName) (option_or (unless c SortOf) (unless d NotNormal))) ≡ Some BadTerm → ⊥
+only_faults true true true true e = cc
+only_faults true true true false e = cc
+only_faults true true false d e = cc
+only_faults true false c d e = cc
+only_faults false b c d e = cc
+
+has_fault : (find : Find) (bytes : List ℕ) (t : TermSyntax) (e : TermError) → SpellsTermText bytes t
+    → fault_by (λ test. term_passes test t) find ≡ Some e → HasFault find (sort_of_term t) bytes e
+has_fault find bytes t e s f = record {
+  term = t;
+  sort_is = refl;
+  spells = s;
+  first = ap (λ o. option_or o (unless (stands_normal (exact find) t) NotNormal)) f;
+}
+
+-- numbers and names of a term that spells something are no reason to say that it spells nothing
+pub not_bad : (passes : Test → Bool) (find : Find) → fault_by passes find ≡ Some BadTerm → ⊥
+not_bad passes find e = only_faults (passes numbers_fit) (passes (names_known find)) (passes (sorts_fit find)) (passes ones_left_out) e
+
+-- the refusal of what has a fault in its numbers or names
+pub fault_refused : (find : Find) (bytes : List ℕ) (t : TermSyntax) (e : TermError) → SpellsTermText bytes t
+    → fault_by (λ test. term_passes test t) find ≡ Some e → IsRefusedAsTerm find (sort_of_term t) bytes e
+fault_refused find bytes t BadTerm s f = absurd (not_bad (λ test. term_passes test t) find f)
+fault_refused find bytes t NumberTooBig s f = has_fault find bytes t NumberTooBig s f
+fault_refused find bytes t UnknownName s f = has_fault find bytes t UnknownName s f
+fault_refused find bytes t SortOf s f = has_fault find bytes t SortOf s f
+fault_refused find bytes t NotNormal s f = has_fault find bytes t NotNormal s f
+fault_refused find bytes t NoMemory s f = tt
 
 judged_so : {X Y Z : Type 0} (view : Z → Y) (e : TermError) (b c : Bool) (v : X) (w : Y) → IsJudgedText {X = X} (Err e) b v → (b ≡ false → c ≡ false)
     → IsJudgedAs {X = Z} view (Err e) c w

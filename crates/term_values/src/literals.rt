@@ -1,13 +1,13 @@
 //! From the text of a condition to its literal.
 
-ghost use Rattle.std.specs.Prelude.{◌≡◌, true, IfOk, IfErr};
+ghost use Rattle.std.specs.Prelude.{◌≡◌, ℕ, true, List, IfOk, IfErr};
 ghost use Rattle.nf_rel.specs.Literals as literals;
 ghost use Rattle.nf_rel.specs.NormalLiterals.{is_inner_number, is_normal_literal};
 ghost use Rattle.nf_rel.specs.View.{literal_in};
 ghost use Rattle.term_condition_text.specs.View.{integer_in, condition_in};
+ghost use Rattle.term_condition_text.specs.ConditionTexts.{SpellsCondition};
 ghost use Rattle.term_condition_text.specs.DigitNumbers.{clipped_number};
-ghost use Rattle.term_values.specs.TermValues.{within_limit};
-ghost use Rattle.term_values.specs.Conditions.{integer_value, condition_value};
+ghost use Rattle.term_values.specs.Conditions.{integer_value};
 ghost use Rattle.term_values.specs.TermFaults.{IsJudgedAs, IsLiteralOf, IsRefusedCondition};
 
 use crate::faults::{TermError, WrittenTerm, fault};
@@ -61,17 +61,20 @@ fn bound_direction(dir: Poly, kind: Kind, bound: &i128) -> Result<NLit, TermErro
     Ok(inner_literal(dir, kind, bound))
 }
 
-// The literal that a written condition stands for, where it is in normal form.
-#[tactic(auto, using(crate::proofs::LiteralForms::no_polynomial))]
+// The literal that a written condition stands for, where it has no fault.
 fn normal_literal<N: Names>(
     alloc: Global,
     names: &N,
     written: &WrittenCondition<'_>,
 ) -> Result<NLit, TermError>
-    ensures { IsJudgedAs literal_in result
-        (is_normal_literal (condition_value (within_limit (N.find names.now)) (condition_in written.now)))
-        (condition_value (within_limit (N.find names.now)) (condition_in written.now)) }
+    ensures read { (bytes : List ℕ) → SpellsCondition bytes (condition_in written.now)
+        → IfOk result (λ l. IsLiteralOf (N.find names.now) bytes (literal_in l)) }
+    ensures refused { (bytes : List ℕ) → SpellsCondition bytes (condition_in written.now)
+        → IfErr result (λ e. IsRefusedCondition (N.find names.now) bytes e) }
 {
+    if let Some(fault) = fault(names, WrittenTerm::Condition(written)) {
+        return Err(fault);
+    }
     match written {
         WrittenCondition::False => Ok(NLit::False),
         WrittenCondition::Compared(polynomial, kind, number) => {
@@ -91,8 +94,5 @@ pub fn read_literal<N: Names>(alloc: Global, names: &N, bytes: &[u8]) -> Result<
     ensures refused { IfErr result (λ e. IsRefusedCondition (N.find names.now) bytes.now e) }
 {
     let written = read_condition(alloc, bytes)?;
-    if let Some(fault) = fault(names, WrittenTerm::Condition(&written)) {
-        return Err(fault);
-    }
     normal_literal(alloc, names, &written)
 }

@@ -1,12 +1,13 @@
 //! From the text of a term to its normal form.
 
-ghost use Rattle.std.specs.Prelude.{map, IfOk, IfErr};
-ghost use Rattle.nf_terms.specs.NormalTerms as terms;
+ghost use Rattle.std.specs.Prelude.{ℕ, List, map, IfOk, IfErr};
 ghost use Rattle.nf_terms.specs.declared.symbols.Sort.TheVariants as sort;
 ghost use Rattle.nf_rel.specs.NormalLiterals.{is_normal};
+ghost use Rattle.term_text.specs.SpellableTerms.{SpellsTermText};
+ghost use Rattle.term_text.specs.TermTexts.{array, list};
 ghost use Rattle.term_text.specs.View as text;
-ghost use Rattle.term_values.specs.TermValues.{within_limit, polynomial_value, array_value, list_value};
-ghost use Rattle.term_values.specs.TermFaults.{is_normal_array, are_normal, is_normal_list, IsJudgedText, IsJudgedAs};
+ghost use Rattle.term_values.specs.TermValues.{within_limit, polynomial_value};
+ghost use Rattle.term_values.specs.TermFaults.{are_normal, IsJudgedText, IsJudgedAs};
 ghost use Rattle.term_values.specs.TermFaults.{IsPolynomialOf, ReadsAsArray, ReadsAsList, IsRefusedAsTerm};
 
 use crate::faults::{TermError, WrittenTerm, fault};
@@ -41,17 +42,20 @@ pub(crate) fn normal_polynomial<N: Names>(
     }
 }
 
-// The array that a written one stands for, where it is normal.
-#[tactic(auto, using(crate::proofs::Normal::array_judged, crate::proofs::Normal::no_array))]
+// The array that a written one stands for, where it has no fault.
 fn normal_array<N: Names>(
     alloc: Global,
     names: &N,
     written: &WrittenArray<'_>,
 ) -> Result<Arr, TermError>
-    ensures { IsJudgedText result
-        (is_normal_array (array_value (within_limit (N.find names.now)) (text.written_array_in written.now) terms.NoWrites))
-        (array_value (within_limit (N.find names.now)) (text.written_array_in written.now) terms.NoWrites) }
+    ensures read { (bytes : List ℕ) → SpellsTermText bytes (array (text.written_array_in written.now))
+        → IfOk result (λ a. ReadsAsArray (N.find names.now) bytes a) }
+    ensures refused { (bytes : List ℕ) → SpellsTermText bytes (array (text.written_array_in written.now))
+        → IfErr result (λ e. IsRefusedAsTerm (N.find names.now) sort.Array bytes e) }
 {
+    if let Some(fault) = fault(names, WrittenTerm::Array(written)) {
+        return Err(fault);
+    }
     let tree = array_tree(alloc, names, written)?;
     match Arr::of(tree) {
         Some(array) => {
@@ -79,17 +83,20 @@ fn normal_items<N: Names>(
     Ok(items)
 }
 
-// The list that a written one stands for, where it is normal.
-#[tactic(auto, using(crate::proofs::Normal::no_items, crate::proofs::Lists::list_is))]
+// The list that a written one stands for, where it has no fault.
 fn normal_list<N: Names>(
     alloc: Global,
     names: &N,
     written: &WrittenList<'_>,
 ) -> Result<Seq, TermError>
-    ensures { IsJudgedText result
-        (is_normal_list (list_value (within_limit (N.find names.now)) (text.written_list_in written.now)))
-        (list_value (within_limit (N.find names.now)) (text.written_list_in written.now)) }
+    ensures read { (bytes : List ℕ) → SpellsTermText bytes (list (text.written_list_in written.now))
+        → IfOk result (λ l. ReadsAsList (N.find names.now) bytes l) }
+    ensures refused { (bytes : List ℕ) → SpellsTermText bytes (list (text.written_list_in written.now))
+        → IfErr result (λ e. IsRefusedAsTerm (N.find names.now) sort.List bytes e) }
 {
+    if let Some(fault) = fault(names, WrittenTerm::List(written)) {
+        return Err(fault);
+    }
     let items = normal_items(alloc, names, &written.items)?;
     let base = list_base_tree(names, &written.base);
     match Seq::of(base, items) {
@@ -137,9 +144,6 @@ pub fn read_arr<N: Names>(alloc: Global, names: &N, bytes: &[u8]) -> Result<Arr,
     ensures refused { IfErr result (λ e. IsRefusedAsTerm (N.find names.now) sort.Array bytes.now e) }
 {
     let written = read_array(alloc, bytes)?;
-    if let Some(fault) = fault(names, WrittenTerm::Array(&written)) {
-        return Err(fault);
-    }
     normal_array(alloc, names, &written)
 }
 
@@ -151,8 +155,5 @@ pub fn read_seq<N: Names>(alloc: Global, names: &N, bytes: &[u8]) -> Result<Seq,
     ensures refused { IfErr result (λ e. IsRefusedAsTerm (N.find names.now) sort.List bytes.now e) }
 {
     let written = read_list(alloc, bytes)?;
-    if let Some(fault) = fault(names, WrittenTerm::List(&written)) {
-        return Err(fault);
-    }
     normal_list(alloc, names, &written)
 }
