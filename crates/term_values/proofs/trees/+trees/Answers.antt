@@ -34,7 +34,8 @@ polynomial_tree-loop-minus-preserved g t c =
     ap terms.polynomial_of
     (one_made view.term_in text.written_term_in (term_value r) c.both-term.result c.loop-minus.monos.items _ c.deref-minus-items.result.now
     c.loop-minus.minus-index c.loop-minus-item.result c.loop-minus-test.true c.loop-minus-item.is c.in_ok-monos.ensures
-    (both_made view.monomial_in (λ n. n) c.monomial_tree.result _ c.both-term.result v.0 v.1 c.both-term.ensures.left c.both-term.ensures.right c.monomial_tree.ensures same))
+    (both_made view.monomial_in (λ n. n) c.monomial_tree.result _ c.both-term.result v.0 v.1 c.both-term.ensures.left
+    c.both-term.ensures.right c.monomial_tree.ensures same))
     ∙ c.loop-minus.invariant
 
 pub array_tree-loop-index-preserved : goal.array_tree-loop-index-preserved
@@ -44,8 +45,8 @@ array_tree-loop-index-preserved g t c =
     ap (λ ws. terms.Over (base_value r (text.base_in (out-WrittenArray c.args.array.now).base)) (terms.writes_of ws))
     (one_made view.write_in text.written_write_in (write_value r) c.both-write.result c.loop-index.writes.items _ c.deref-index-items.result.now
     c.loop-index.index-index c.loop-index-item.result c.loop-index-test.true c.loop-index-item.is c.in_ok-writes.ensures
-    (both_made view.polynomial_in view.polynomial_in c.polynomial_tree-index.result c.polynomial_tree.result c.both-write.result v.0 v.1 c.both-write.ensures.left
-    c.both-write.ensures.right c.polynomial_tree-index.ensures c.polynomial_tree.ensures))
+    (both_made view.polynomial_in view.polynomial_in c.polynomial_tree-index.result c.polynomial_tree.result c.both-write.result v.0 v.1
+    c.both-write.ensures.left c.both-write.ensures.right c.polynomial_tree-index.ensures c.polynomial_tree.ensures))
     ∙ c.loop-index.invariant
 
 pub monomial_tree-returns : goal.monomial_tree-returns
