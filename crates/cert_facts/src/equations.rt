@@ -121,7 +121,8 @@ fn put_equation(
     Ok(())
 }
 
-/// Puts the equations of a node at their places, in the order of the keys.
+/// Puts the equations of a node at their places, in the order of the keys. Of the first key that names no position, or whose
+/// term is at fault, comes the refusal: `UnknownName`, or what `read_form` refuses.
 pub fn put_equations(
     alloc: Global,
     places: &Places<'_>,
@@ -151,7 +152,7 @@ pub fn put_equations(
     Ok(())
 }
 
-/// The conditions of a node, in order.
+/// The conditions of a node, in order, or what `read_condition` refuses of the first that is at fault.
 pub fn read_conditions(
     alloc: Global,
     places: &Places<'_>,

@@ -76,7 +76,9 @@ fn solved_fact(
     }
 }
 
-/// The fact of a node.
+/// The fact of a node. Refusals, the first of which is answered: for each equation in byte order of the keys, then for each
+/// condition in order, what `put_equations` and `read_conditions` refuse; and `NotSolved` with the place of the first position
+/// that has an equation and is mentioned. `NoMemory` may come at any time.
 #[tactic(auto, using(crate::proofs::FewConditions::conds_few), unfolding(crate::specs::FactReading::node_fact))]
 pub fn read_fact(
     alloc: Global,

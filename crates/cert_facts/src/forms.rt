@@ -36,7 +36,8 @@ fn stop_at(node: u32, fault: TermError) -> Stop
     }
 }
 
-/// The form of a text of a node at a place, or why the node is refused.
+/// The form of a text of a node at a place, or why the node is refused, which is the first of `BadTerm`, `NumberTooBig`,
+/// `UnknownName`, `SortOf` and `NotNormal` that holds of the text. `NoMemory` may come at any time.
 #[tactic(auto, using(crate::proofs::Told::stopped))]
 pub fn read_form(
     alloc: Global,
@@ -60,7 +61,7 @@ pub fn read_form(
     }
 }
 
-/// The literal that a text of a node stands for, or why the node is refused.
+/// The literal that a text of a node stands for, or why the node is refused, as `read_form` says.
 #[tactic(auto, using(crate::proofs::Told::stopped))]
 pub fn read_condition<N: Names>(
     alloc: Global,

@@ -179,7 +179,7 @@ pub fn read_cert(
     cert_of(alloc, file, a, b, p)
 }
 
-/// The same of bytes that are let go then.
+/// The same, with the same refusals, of bytes that are let go then.
 pub fn read_owned_cert(
     alloc: Global,
     bytes: Vec<u8>,

@@ -55,7 +55,8 @@ fn change_of(assign: &Assign<VarId>, values: &[Value]) -> Option<Change>
     }
 }
 
-/// What assignments change, all valued before any change is made.
+/// What assignments change, all valued before any change is made. `PastWide` where a number of any of them lies outside
+/// 128 bits; `NoMemory` may come at any time.
 pub fn changes_of(
     alloc: Global,
     assigns: &[Assign<VarId>],

@@ -44,7 +44,8 @@ fn format(tokens: &[Token]) -> Result<(Format, &[Token]), ReadError>
     Ok((format, rest))
 }
 
-/// The head of a text, `fsmd 1;` or `fsmd 2;`: its format, and the tokens after it.
+/// The head of a text, `fsmd 1;` or `fsmd 2;`: its format, and the tokens after it. The first token that is another is the
+/// fault.
 pub fn header(tokens: &[Token]) -> Result<(Format, &[Token]), ReadError>
     ensures { ParsesOn result (reading tokens.now at_start) (λ x. reading x.1.now (at_declaration x.0 [])) }
 {
@@ -54,7 +55,7 @@ pub fn header(tokens: &[Token]) -> Result<(Format, &[Token]), ReadError>
     Ok((format, rest))
 }
 
-/// The semicolon after the format, or after the name of the reset state.
+/// The semicolon after the format, or after the name of the reset state. Another token there is the fault.
 pub fn semicolon(tokens: &[Token]) -> Result<&[Token], ReadError>
     ensures head { (f : formats.Format) → ParsesOn result (reading tokens.now (at_semicolon f))
         (λ r. reading r.now (at_declaration f [])) }
@@ -67,7 +68,7 @@ pub fn semicolon(tokens: &[Token]) -> Result<&[Token], ReadError>
     }
 }
 
-/// The colon after the name of a state.
+/// The colon after the name of a state. Another token there is the fault.
 pub fn colon(tokens: &[Token]) -> Result<&[Token], ReadError>
     ensures goes { (d : OpenState) → ParsesOn result (reading tokens.now (after_state_name d))
         (λ r. reading r.now (at_transition d)) }

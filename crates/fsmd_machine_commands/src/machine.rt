@@ -45,7 +45,8 @@ fn text_of_paths(alloc: Global, machine: &Machine) -> Result<Answer, AllocError>
     Ok(Answer::Text { lines })
 }
 
-/// What `fmt` answers: the canonical text of a machine.
+/// What `fmt` answers: the canonical text of a machine. Where the file spells none, the answer that refuses it; or out of
+/// memory.
 pub fn format_text<F: Files>(alloc: Global, ask: &Ask, files: &mut F) -> Result<Answer, Refused>
     ensures answers { AnswersBy (IsCorrectInOrder (OpensParts (λ parts. Ends (λ answer. answer ≡ Text (canonical parts)))) 0
         (call (Some (asked_of_ask ask.now)) (F.told files.old) (F.told files.new))) result }
@@ -58,7 +59,7 @@ pub fn format_text<F: Files>(alloc: Global, ask: &Ask, files: &mut F) -> Result<
     }
 }
 
-/// What `cuts` answers: the paths of a machine.
+/// What `cuts` answers: the paths of a machine. Where the file spells none, the answer that refuses it; or out of memory.
 pub fn cut_paths<F: Files>(alloc: Global, ask: &Ask, files: &mut F) -> Result<Answer, Refused>
     ensures answers { AnswersBy (IsCorrectInOrder (OpensMachine (λ m. Ends (λ answer. answer ≡ Text (paths_text m)))) 0
         (call (Some (asked_of_ask ask.now)) (F.told files.old) (F.told files.new))) result }
@@ -91,7 +92,8 @@ fn run_from<F: Files>(
     }
 }
 
-/// What `run` answers: the end of a machine's run of at most so many steps, or why it has none.
+/// What `run` answers: the end of a machine's run of at most so many steps, or why it has none. Where a file is refused, the
+/// answer that refuses the first such; or out of memory.
 pub fn run_files<F: Files>(
     alloc: Global,
     ask: &Ask,

@@ -22,7 +22,8 @@ use fsmd_replies::answer::{Answer, Operand};
 use fsmd_words::asking::Ask;
 use std::alloc::Global;
 
-/// What `compile` answers: the canonical text of the machine of a program.
+/// What `compile` answers: the canonical text of the machine of a program. Where the file spells none, the answer that refuses
+/// it; or out of memory.
 pub fn compile_file<F: Files>(alloc: Global, ask: &Ask, files: &mut F) -> Result<Answer, Refused>
     ensures answers { AnswersBy (IsCorrectInOrder (OpensProgram (λ p. Ends (IsOfProgram p))) 0
         (call (Some (asked_of_ask ask.now)) (F.told files.old) (F.told files.new))) result }
@@ -52,7 +53,8 @@ fn schedule_from<F: Files>(
     }
 }
 
-/// What `schedule` answers: a machine with its lines in rows, under the units of a file.
+/// What `schedule` answers: a machine with its lines in rows, under the units of a file. Where a file is refused, the answer
+/// that refuses the first such; or out of memory.
 pub fn schedule_files<F: Files>(alloc: Global, ask: &Ask, files: &mut F) -> Result<Answer, Refused>
     ensures answers { AnswersBy (IsCorrectInOrder
         (OpensParts (λ parts. OpensUnits (λ counts. Ends (IsOfSchedule parts counts)))) 0
@@ -86,7 +88,8 @@ fn bind_from<F: Files>(
     }
 }
 
-/// What `bind` answers: a machine with registers for its locals, or the first branch that loses one.
+/// What `bind` answers: a machine with registers for its locals, or the first branch that loses one. Where a file is refused,
+/// the answer that refuses the first such; or out of memory.
 pub fn bind_files<F: Files>(alloc: Global, ask: &Ask, files: &mut F) -> Result<Answer, Refused>
     ensures answers { AnswersBy (IsCorrectInOrder
         (OpensParts (λ parts. OpensBinding (machine_of parts) (λ b. Ends (IsOfBinding parts b)))) 0

@@ -117,7 +117,7 @@ impl Fact {
         Fact::of_shared(alloc, p, shared, conds)
     }
 
-    /// The same of forms that may have other owners: no term is copied.
+    /// The same, with the same refusals, of forms that may have other owners: no term is copied.
     #[tactic(auto, using(crate::proofs::Kept::parts))]
     pub fn of_shared(
         alloc: Global,

@@ -11,7 +11,7 @@ ghost use Rattle.term_text.specs.TermTexts.{Number};
 use crate::fault::ReadError;
 use fs_model::name::{is_digit, is_letter, is_reserved, is_word_byte};
 
-/// Takes one byte, which must come.
+/// Takes one byte, which must come: else `BadTerm`.
 pub fn expect(bytes: &[u8], b: u8) -> Result<&[u8], ReadError>
     ensures goes { (s : Owed) → Goes result (term_reading bytes.now (expect b s)) (λ r. term_reading r.now s) }
     ensures shorter { IfOk result (λ r. length r.now < length bytes.now) }
@@ -26,7 +26,7 @@ pub fn expect(bytes: &[u8], b: u8) -> Result<&[u8], ReadError>
     }
 }
 
-/// Takes two bytes, which must come one after the other.
+/// Takes two bytes, which must come one after the other: else `BadTerm`.
 pub fn expect_two(bytes: &[u8], first: u8, second: u8) -> Result<&[u8], ReadError>
     ensures goes { (s : Owed) → Goes result (term_reading bytes.now (expect first (expect second s)))
         (λ r. term_reading r.now s) }
@@ -36,7 +36,7 @@ pub fn expect_two(bytes: &[u8], first: u8, second: u8) -> Result<&[u8], ReadErro
     expect(rest, second)
 }
 
-/// Takes three bytes, which must come one after another.
+/// Takes three bytes, which must come one after another: else `BadTerm`.
 pub fn expect_three(bytes: &[u8], first: u8, second: u8, third: u8) -> Result<&[u8], ReadError>
     ensures goes { (s : Owed) → Goes result (term_reading bytes.now (expect first (expect second (expect third s))))
         (λ r. term_reading r.now s) }
@@ -103,7 +103,7 @@ fn is_reserved_word(word: &[u8]) -> bool
     is_reserved(word)
 }
 
-/// A name and what follows it.
+/// A name and what follows it. `BadTerm` where no name stands there, or a reserved word.
 #[tactic(auto, using(crate::proofs::Steps::symbol_taken, crate::proofs::Steps::symbol_reserved, crate::proofs::Steps::no_symbol))]
 pub fn word(bytes: &[u8]) -> Result<(&[u8], &[u8]), ReadError>
     ensures symbol { (s : Side) (f : ForSymbol)

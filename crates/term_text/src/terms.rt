@@ -69,7 +69,7 @@ fn read<'a>(
     make_read(alloc, array, inside(alloc, expect(rest, b'['), b']'))
 }
 
-/// An array after its base, and what follows it.
+/// An array after its base, and what follows it. `BadTerm` where a write of it is not whole; `NoMemory` may come at any time.
 #[cycle(terms)]
 pub fn writes<'a>(
     alloc: Global,
@@ -97,7 +97,8 @@ pub fn writes<'a>(
     }
 }
 
-/// The value of a write or an item, up to the closing brace, and what follows that.
+/// The value of a write or an item, up to the closing brace, and what follows that. `BadTerm` where that is not what stands
+/// there; `NoMemory` may come at any time.
 pub fn braced<'a>(
     alloc: Global,
     bytes: &'a [u8],
@@ -169,7 +170,7 @@ fn atoms<'a>(alloc: Global, bytes: &'a [u8]) -> Result<(Vec<WrittenAtom<'a>>, &'
     }
 }
 
-/// A monomial, and what follows it.
+/// A monomial, and what follows it. `BadTerm` where none stands there; `NoMemory` may come at any time.
 #[cycle(terms)]
 #[inline(always)]
 pub fn monomial<'a>(
@@ -185,7 +186,8 @@ pub fn monomial<'a>(
     Ok((WrittenMonomial { head, atoms }, rest))
 }
 
-/// A monomial that is not the first of a sum, from its sign on.
+/// A monomial that is not the first of a sum, from its sign on. `BadTerm` where none stands there; `NoMemory` may come at any
+/// time.
 #[cycle(terms)]
 #[inline(always)]
 pub fn further<'a>(
@@ -224,7 +226,8 @@ fn sum<'a>(
     }
 }
 
-/// A polynomial at the beginning of bytes, and what follows it.
+/// A polynomial at the beginning of bytes, and what follows it. `BadTerm` where none stands there; `NoMemory` may come at any
+/// time.
 #[cycle(terms)]
 #[inline(never)]
 pub fn polynomial<'a>(
