@@ -4,6 +4,7 @@ pub mod TrimLaws
 mod ListLaws
 mod Others
 mod ObjectLaws
+mod Opened
 pub mod KeptParts
 pub mod OrderedValues
 mod Files

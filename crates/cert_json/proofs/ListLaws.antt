@@ -1,6 +1,6 @@
 -- Lists of values that grow at their end, and what is kept of them.
 use Rattle.std.proofs.Common.{◌≡◌, ℕ, zero, suc, ◌<◌, ◌≤◌, List, [], ◌∷◌, ◌++◌, length, Bool, true, false, ◌&&◌, ◌||◌, nat_lt, Option, Some, None}
-use Rattle.std.proofs.Common.{refl, sym, ap, ◌∙◌, subst, arith}
+use Rattle.std.proofs.Common.{refl, sym, ap, ap₂, ◌∙◌, subst, arith}
 use Rattle.std.specs.Prelude.{is_some, if◌then◌else◌}
 use Rattle.std.proofs.lemmas.Bool.{and_parts, ltb-true, ltb-false, lt-ltb, le-ltb, false≢true}
 use Rattle.base_laws.proofs.Booleans.{and_true}
@@ -15,7 +15,7 @@ use Rattle.cert_values.proofs.Views.{items_len-items_view}
 use Rattle.cert_values.specs.Shape.{are_texts, is_node, are_nodes}
 use Rattle.cert_json.specs.Trim.{first_items, short_items, short_list, trim, trim_items}
 use Rattle.cert_json.specs.declared.level.Level.{Level}
-use Rattle.cert_json.specs.Lists.{join_items, add_item, add_below, most_items, IsShort, settled}
+use Rattle.cert_json.specs.Lists.{join_items, add_item, add_below, most_items, kept_items, IsShort, settled, list_of}
 use Rattle.cert_json.specs.declared.short_list.ShortList.{ShortList}
 use Rattle.cert_json.proofs.TrimLaws.{node_no_text, text_no_node}
 
@@ -94,11 +94,11 @@ kept_nodes : (ds : Items) (d : Data) (b : Bool) → are_texts ds ≡ b → are_t
 kept_nodes ds d false e f g h = rw (e, f, g, h) (sym (first-add_item 4097 ds d))
 kept_nodes ds d true e f g h = let none = none_are ds e g in rw (f, h, none) (sym (first-add_item 4097 no_items d))
 
-kept_at : (ds : Items) (d : Data) (texts nodes : Bool) → are_texts (add_item ds d) ≡ texts → are_nodes (add_item ds d) ≡ nodes → (texts || nodes) ≡ true
-    → add_below (most_items texts) (short_items ds) d ≡ short_items (add_item ds d)
-kept_at ds d true nodes e f some = kept_texts ds d (and_parts (are_texts ds) (is_some (as_str d)) (sym (are_texts-add_item ds d) ∙ e)).0 e
-kept_at ds d false true e f some = kept_nodes ds d (are_texts ds) refl e (and_parts (are_nodes ds) (is_node d) (sym (are_nodes-add_item ds d) ∙ f)).0 f
-kept_at ds d false false e f some = absurd (cc some)
+kept_at : (ds : Items) (d : Data) (texts nodes : Bool) → are_texts (add_item ds d) ≡ texts → are_nodes (add_item ds d) ≡ nodes
+    → add_below (most_items texts nodes) (kept_items texts nodes (short_items ds)) d ≡ short_items (add_item ds d)
+kept_at ds d true nodes e f = kept_texts ds d (and_parts (are_texts ds) (is_some (as_str d)) (sym (are_texts-add_item ds d) ∙ e)).0 e
+kept_at ds d false true e f = kept_nodes ds d (are_texts ds) refl e (and_parts (are_nodes ds) (is_node d) (sym (are_nodes-add_item ds d) ∙ f)).0 f
+kept_at ds d false false e f = rw (e, f)
 
 pub texts_on : (ds : Items) (d : Data) (old new : Bool) → old ≡ are_texts ds → new ≡ (old && is_some (as_str d)) → new ≡ are_texts (add_item ds d)
 texts_on ds d old new e f = f ∙ ap (λ b. b && is_some (as_str d)) e ∙ sym (are_texts-add_item ds d)
@@ -106,18 +106,14 @@ texts_on ds d old new e f = f ∙ ap (λ b. b && is_some (as_str d)) e ∙ sym (
 pub nodes_on : (ds : Items) (d : Data) (old new : Bool) → old ≡ are_nodes ds → new ≡ (old && is_node d) → new ≡ are_nodes (add_item ds d)
 nodes_on ds d old new e f = f ∙ ap (λ b. b && is_node d) e ∙ sym (are_nodes-add_item ds d)
 
--- one item more is kept
-pub kept_below : (ds : Items) (d : Data) (texts nodes : Bool) (before after : Items) → texts ≡ are_texts (add_item ds d) → nodes ≡ are_nodes (add_item ds d)
-    → (texts || nodes) ≡ true → before ≡ short_items ds
-    → after ≡ add_below (most_items texts) before d → after ≡ short_items (add_item ds d)
-kept_below ds d texts nodes before after e f some is more = more ∙ ap (λ es. add_below (most_items texts) es d) is
-    ∙ kept_at ds d texts nodes (sym e) (sym f) some
-
--- nothing is kept
-pub none_kept : (ds : Items) (texts nodes : Bool) → texts ≡ are_texts ds → nodes ≡ are_nodes ds → (texts || nodes) ≡ false → no_items ≡ short_items ds
-none_kept ds true nodes e f none = absurd (cc none)
-none_kept ds false true e f none = absurd (cc none)
-none_kept ds false false e f none = rw (← e, ← f)
+-- what is kept where an item is added
+pub kept_below : (ds : Items) (d : Data) (texts nodes : Bool) (most : ℕ) (before room after : Items) → texts ≡ are_texts (add_item ds d)
+    → nodes ≡ are_nodes (add_item ds d)
+    → most ≡ most_items texts nodes → before ≡ short_items ds → room ≡ kept_items texts nodes before
+    → after ≡ add_below most room d → after ≡ short_items (add_item ds d)
+kept_below ds d texts nodes most before room after e f limit is left more =
+    more ∙ ap₂ (λ n es. add_below n es d) limit (left ∙ ap (kept_items texts nodes) is)
+    ∙ kept_at ds d texts nodes (sym e) (sym f)
 
 -- ---- a value behind others
 
@@ -126,6 +122,25 @@ more_below vs v most h = items_view-push vs v ∙ rw (lt-ltb (items_len (items_v
 
 pub none_below : (vs : List Value) (v : Value) (most : ℕ) → most ≤ length vs → items_view vs ≡ add_below most (items_view vs) (view v)
 none_below vs v most h = rw (le-ltb (items_len (items_view vs)) most (omega (arith, items_len-items_view vs, h)))
+
+-- ---- the list of what is kept
+
+pub list_kept : (ds : Items) (l : ShortList) → IsShort ds l → list_of l ≡ short_list ds
+list_kept ds l h = rw (h.texts, h.nodes, h.items) refl
+
+settled_at : (a b : Bool) (es : Items) → b ≡ false → (if a || b then array es else null) ≡ (if a then array es else null)
+settled_at true b es e = refl
+settled_at false true es e = absurd (false≢true (sym e))
+settled_at false false es e = refl
+
+pub settled_list : (old new : ShortList) (texts : Bool) → new.all_texts ≡ (old.all_texts && texts) → new.all_nodes ≡ false → new.items ≡ old.items
+    → list_of new ≡ settled old texts
+settled_list old new texts e none same =
+    let es : Items = items_view old.items.items in
+    let kept : items_view new.items.items ≡ es = ap (λ v. items_view v.items) same in
+    ap (λ (k : Items). if new.all_texts || new.all_nodes then array k else null) kept
+    ∙ settled_at new.all_texts new.all_nodes es none
+    ∙ ap (λ (b : Bool). if b then array es else null) e
 
 -- ---- a list of which nothing is kept, and whatever follows
 

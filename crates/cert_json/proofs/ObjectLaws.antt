@@ -1,20 +1,16 @@
 -- Objects whose names get more, and what is kept of them.
 use Rattle.std.proofs.Common.{◌≡◌, ℕ, suc, ◌≤◌, List, [], true, false, length, nat_lt, nat_cmp, Option, Some}
-use Rattle.std.proofs.Common.{Ordering, Less, Equal, Greater, Result, Ok, Err}
-use Rattle.std.proofs.Common.{refl, sym, ap, ◌∙◌, subst, arith, rules}
-use Rattle.std.specs.Prelude.{IfOk}
+use Rattle.std.proofs.Common.{Ordering, Less, Equal, Greater, refl, sym, ap, ◌∙◌, subst, arith}
 use Rattle.std.specs.Cmp.Lexicographic.{slice_cmp}
 use Rattle.std.specs.Ordering.{match_ordering}
 use Rattle.std.proofs.lemmas.Bool.{ltb-true, lt-ltb, false≢true}
-use Rattle.json.specs.Json.{parse_map}
 use Rattle.json.specs.Token.{Token}
-use Rattle.serde_json.specs.Data.{Data, null, array, object, Items, Members, no_members, member, put}
+use Rattle.serde_json.specs.Data.{Data, null, object, Members, no_members, member, put}
 use Rattle.serde_json.specs.Events.{members_len}
-use Rattle.cert_values.specs.View.{view, members_view}
-use Rattle.cert_values.specs.declared.value.Value.{Value, Null, Object, the_lemmas}
-use Rattle.cert_values.proofs.Views.{members_len-members_view, view-Object, Entry}
-use Rattle.cert_json.specs.Trim.{below, exceeds, keeps_first, first_names, short_list, short_object, trim, trim_items, trim_members}
-use Rattle.cert_json.specs.Objects.{TellsOthers, IsShortObject, is_noted}
+use Rattle.cert_values.specs.View.{members_view}
+use Rattle.cert_values.proofs.Views.{members_len-members_view, Entry}
+use Rattle.cert_json.specs.Trim.{below, exceeds, keeps_first, first_names, short_equations, short_object, trim, trim_members}
+use Rattle.cert_json.specs.Objects.{TellsOthers, IsShortObject, IsEmpty, is_noted}
 use Rattle.cert_json.specs.declared.short_object.ShortObject.{ShortObject}
 use Rattle.cert_json.specs.declared.level.Level.{Level}
 use Rattle.cert_json.specs.declared.level.Level.TheVariants.{File, FileMember, Node, NodeMember, Deeper}
@@ -70,17 +66,21 @@ any_added v k d ms before after none is h =
     }
 
 -- an object of no members
-pub none_added : (v : Level) (o : ShortObject) → o.members.entries ≡ [] → o.others.keys ≡ [] → IsShortObject v no_members o
-none_added v o none no_others =
+pub none_added : (o : ShortObject) → o.members.entries ≡ [] → o.others.keys ≡ [] → o.is_partial ≡ false → IsEmpty o
+none_added o none no_others whole =
     let same : members_view o.members.entries ≡ no_members = ap members_view none in
     record {
-      whole = λ _. same;
-      first = ap first_names same;
-      others = λ _. record {
-        agree = λ q some. absurd (false≢true (sym (ap (is_noted q) no_others) ∙ some));
-        rest = λ _ q _. refl;
+      short = λ v. record {
+        whole = λ _. same;
+        first = ap first_names same;
+        others = λ _. record {
+          agree = λ q some. absurd (false≢true (sym (ap (is_noted q) no_others) ∙ some));
+          rest = λ _ q _. refl;
+        };
+        ascending = tt;
       };
-      ascending = tt;
+      none = none;
+      whole = whole;
     }
 
 -- ---- names only get more
@@ -122,45 +122,31 @@ not_first NodeMember n e = absurd (false≢true e)
 not_first Deeper n e = refl
 
 pub kept_object : (v : Level) (o : ShortObject) (ms : Members) → keeps_first v ≡ false → IsShortObject v ms o
-    → exceeds v (length o.members.entries) ≡ false → view (Object o.members) ≡ short_object v ms
+    → exceeds v (length o.members.entries) ≡ false → object (members_view o.members.entries) ≡ short_object v ms
 kept_object v o ms all h few =
     let e : members_view o.members.entries ≡ ms = h.whole all in
     let count : members_len ms ≡ length o.members.entries = ap members_len (sym e) ∙ members_len-members_view o.members.entries in
-    view-Object o.members ∙ ap object e ∙ sym (few_names v ms all (ap (exceeds v) count ∙ few))
+    ap object e ∙ sym (few_names v ms all (ap (exceeds v) count ∙ few))
+
+-- where the first names are kept
+pub short_is : (v : Level) (ms : Members) → keeps_first v ≡ true → short_equations ms ≡ short_object v ms
+short_is v ms first = rw first
 
 settled_object : (v : Level) (o : ShortObject) (ms more : Members) → IsShortObject v (trim_members (below v) ms) o
     → exceeds v (length o.members.entries) ≡ true → members_len ms ≤ members_len more
-    → view Null ≡ short_object v (trim_members (below v) more)
+    → null ≡ short_object v (trim_members (below v) more)
 settled_object v o ms more h many le =
     let es : List Entry = o.members.entries in
     let all : keeps_first v ≡ false = not_first v (length es) many in
     let e : members_view es ≡ trim_members (below v) ms = h.whole all in
     let count : length es ≡ members_len ms = sym (members_len-members_view es) ∙ ap members_len e ∙ trim-members_len (below v) ms in
     let many_more : exceeds v (members_len more) ≡ true = more_exceed v (members_len ms) (members_len more) le (ap (exceeds v) (sym count) ∙ many) in
-    let seen : view Null ≡ null = search (rules, the_lemmas) in
-    seen ∙ sym (many_names v (trim_members (below v) more) all (ap (exceeds v) (trim-members_len (below v) more) ∙ many_more))
+    sym (many_names v (trim_members (below v) more) all (ap (exceeds v) (trim-members_len (below v) more) ∙ many_more))
 
 -- what is read of an object whose members are passed over from one name too many on
 pub settled_members : (v : Level) (o : ShortObject) (ms : Members) (r : List Token) (all left : Option (Members × List Token)) → all ≡ left
     → IsShortObject v (trim_members (below v) ms) o
     → exceeds v (length o.members.entries) ≡ true
     → (more : Members) × (left ≡ Some (more, r)) × (members_len ms ≤ members_len more)
-    → (more : Members) × (all ≡ Some (more, r)) × (view Null ≡ short_object v (trim_members (below v) more))
+    → (more : Members) × (all ≡ Some (more, r)) × (null ≡ short_object v (trim_members (below v) more))
 settled_members v o ms r all left same h many found = (found.0, same ∙ found.1, settled_object v o ms found.0 h many found.2)
-
--- ---- what is read behind the bracket of a list, and of an object
-
-pub opened_list : {E : Type 0} (r : Result Value E) (v w : Level) (ts : List Token) (all : Option (Data × List Token)) (left : Option (Items × List Token))
-    → all ≡ parse_map array left → w ≡ below v
-    → IfOk r (λ x. (ds : Items) × (left ≡ Some (ds, ts)) × (view x ≡ short_list (trim_items w ds)))
-    → IfOk r (λ x. (d : Data) × (all ≡ Some (d, ts)) × (view x ≡ trim v d))
-opened_list (Ok x) v w ts all left is level found =
-    (array found.0, is ∙ ap (parse_map array) found.1, found.2 ∙ ap (λ u. short_list (trim_items u found.0)) level)
-opened_list (Err e) v w ts all left is level found = tt
-
-pub opened_object : {E : Type 0} (r : Result Value E) (v : Level) (ts : List Token) (all : Option (Data × List Token))
-    (left : Option (Members × List Token)) → all ≡ parse_map object left
-    → IfOk r (λ x. (ms : Members) × (left ≡ Some (ms, ts)) × (view x ≡ short_object v (trim_members (below v) ms)))
-    → IfOk r (λ x. (d : Data) × (all ≡ Some (d, ts)) × (view x ≡ trim v d))
-opened_object (Ok x) v ts all left is found = (object found.0, is ∙ ap (parse_map object) found.1, found.2)
-opened_object (Err e) v ts all left is found = tt

@@ -7,8 +7,7 @@ use Rattle.json.specs.Json.{Parse, parse_map, after_end_array, read_key, items_s
 use Rattle.json.proofs.Grammar.{items_end, items_more, members_end, members_no_key, members_more}
 use Rattle.std.specs.Prelude.{is_some}
 use Rattle.std.proofs.lemmas.Bool.{false≢true}
-use Rattle.serde_json.specs.Find.{as_str}
-use Rattle.serde_json.specs.Data.{Num, Data, number, array, object, no_items, item, Members, no_members, put}
+use Rattle.serde_json.specs.Data.{Data, array, object, no_items, item, Members, no_members, put}
 use Rattle.serde_json.specs.Read.{of_json, of_items, of_members, converted}
 
 abbrev pick : {A : Type 0} → A → Option A → A
@@ -24,17 +23,6 @@ pub converted_some : {A B : Type 0} (f : A → Option B) (o : Option (A × List 
     → (a : A) × (o ≡ Some (a, r)) × (f a ≡ Some b)
 converted_some f None b r e = absurd (cc)
 converted_some f (Some p) b r e = let both = found p.0 p.1 r (f p.0) b e in (p.0, ap (λ s. Some (p.0, s)) both.0, both.1)
-
--- a number of JSON that is in range, and one that is not
-pub number_in_range : (o : Option Num) (r : List Token) → is_some o ≡ true
-    → (d : Data) × (option_map {U = Data × List Token} (λ e. (e, r)) (option_map number o) ≡ Some (d, r)) × (false ≡ is_some (as_str d))
-number_in_range None r e = absurd (false≢true e)
-number_in_range (Some n) r e = (number n, refl, refl)
-
-pub number_past_range : (o : Option Num) (r : List Token) → is_some o ≡ false
-    → option_map {U = Data × List Token} (λ e. (e, r)) (option_map number o) ≡ None
-number_past_range None r e = refl
-number_past_range (Some n) r e = absurd (false≢true (sym e))
 
 refused : {B : Type 0} (r : List Token) (x : Option B) → option_map {U = B × List Token} (λ y. (y, r)) x ≡ None → x ≡ None
 refused r None e = refl

@@ -1,12 +1,12 @@
 -- Objects whose names get more, and what is kept of them.
-use Rattle.std.specs.Prelude.{◌≡◌, ℕ, Bool, true, false, not, List, Option, Some, None, is_some}
+use Rattle.std.specs.Prelude.{◌≡◌, ℕ, Bool, true, false, not, List, [], if◌then◌else◌, Option, Some, None, is_some}
 use Rattle.std.specs.Borrow.{Bor}
 use Rattle.std.specs.Cmp.Lexicographic.{slice_cmp}
 use Rattle.std.specs.List.{list_any}
 use Rattle.std.specs.BTreeMap.{is_at}
 use Rattle.std.specs.Ordering.{nat_cmp}
 use Rattle.std.specs.declared.cmp.Ordering.TheVariants.{Less}
-use Rattle.serde_json.specs.Data.{Data, Members, no_members, member}
+use Rattle.serde_json.specs.Data.{Data, null, object, Members, no_members, member}
 use Rattle.serde_json.specs.Find.{get_member, as_str}
 use Rattle.cert_values.specs.View.{members_view}
 use Rattle.cert_json.specs.Trim.{keeps_first, first_names}
@@ -43,3 +43,13 @@ pub record IsShortObject (v : Level) (ms : Members) (o : ShortObject) : Type 0 w
   pub first : first_names (members_view o.members.entries) ≡ first_names ms
   pub others : keeps_first v ≡ true → TellsOthers ms o.others.keys o.is_partial
   pub ascending : AreAscending ms
+
+-- nothing is kept yet
+pub record IsEmpty (o : ShortObject) : Type 0 where
+  pub short : (v : Level) → IsShortObject v no_members o
+  pub none : o.members.entries ≡ []
+  pub whole : o.is_partial ≡ false
+
+-- the object of what is kept, or null
+abbrev pub object_of : ShortObject → Bool → Data
+object_of o is_null = if is_null then null else object (members_view o.members.entries)

@@ -11,6 +11,7 @@
 pub mod faults;
 mod level;
 mod numbers;
+mod openings;
 pub mod reader;
 mod short_list;
 mod short_object;

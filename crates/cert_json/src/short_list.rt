@@ -1,12 +1,13 @@
 //! Lists of which is kept what a certificate may have.
 
-ghost use Rattle.std.specs.Prelude.{◌≡◌, ◌&&◌, ◌||◌, is_some, IsTrue, OnOk};
+ghost use Rattle.std.specs.Prelude.{◌≡◌, ◌&&◌, ◌||◌, false, is_some, IsTrue, OnOk};
+ghost use Rattle.std.specs.Result.{result_map_both};
 ghost use Rattle.serde_json.specs.Data.{Items, no_items};
 ghost use Rattle.serde_json.specs.Find.{as_str};
 ghost use Rattle.cert_values.specs.View.{view, items_view};
 ghost use Rattle.cert_values.specs.Shape.{is_node as is_node_in, are_texts};
 ghost use Rattle.cert_json.specs.Trim.{short_list};
-ghost use Rattle.cert_json.specs.Lists.{IsShort, join_items, add_item, add_below, most_items, settled};
+ghost use Rattle.cert_json.specs.Lists.{IsShort, join_items, add_item, add_below, most_items, kept_items, settled, list_of};
 
 use cert_values::shape::is_node;
 use cert_values::value::Value;
@@ -44,18 +45,22 @@ fn note_item(list: &mut ShortList<'_>, value: &Value<'_>)
     list.all_nodes = list.all_nodes && is_node(value);
 }
 
-// Whether anything is kept of a list.
-fn is_kept(list: &ShortList<'_>) -> bool
-    ensures { result ≡ (list.now.all_texts || list.now.all_nodes) }
+// How many items are kept of a list. Where it is neither one of texts nor one of nodes none is, and those that were kept go.
+fn most_kept(list: &mut ShortList<'_>) -> usize
+    ensures most { result ≡ most_items list.old.all_texts list.old.all_nodes }
+    ensures texts { list.new.all_texts ≡ list.old.all_texts }
+    ensures nodes { list.new.all_nodes ≡ list.old.all_nodes }
+    ensures items { items_view list.new.items.items
+        ≡ kept_items list.old.all_texts list.old.all_nodes (items_view list.old.items.items) }
 {
-    list.all_texts || list.all_nodes
-}
-
-// How many items are kept of a list.
-fn most_kept(all_texts: bool) -> usize
-    ensures { result ≡ most_items all_texts }
-{
-    if all_texts { 65 } else { 4097 }
+    if list.all_texts {
+        return 65;
+    }
+    if list.all_nodes {
+        return 4097;
+    }
+    list.items.clear();
+    0
 }
 
 // Adds an item to fewer than so many.
@@ -77,11 +82,8 @@ pub fn add_to_list<'a>(list: &mut ShortList<'a>, value: Value<'a>) -> Result<(),
     ensures { OnOk result ((ds : Items) → IsShort ds list.old → IsShort (add_item ds (view value.entry)) list.new) }
 {
     note_item(list, &value);
-    if !is_kept(list) {
-        list.items.clear();
-        return Ok(());
-    }
-    push_below(&mut list.items, value, most_kept(list.all_texts))
+    let most = most_kept(list);
+    push_below(&mut list.items, value, most)
 }
 
 /// Whether what follows changes nothing of what is kept, but that it may not all be texts.
@@ -97,24 +99,36 @@ pub fn is_settled(list: &ShortList<'_>) -> bool
     }
 }
 
-/// The list of what was kept of a settled one, or null where it is one of no texts, or not all that follows are texts.
-pub fn value_of_settled<'a>(list: ShortList<'a>, texts: bool) -> Value<'a>
-    ensures { view result ≡ settled list.entry texts }
+/// Notes whether all that follows in a settled list are texts.
+pub fn settle(list: &mut ShortList<'_>, texts: bool)
+    ensures texts { list.new.all_texts ≡ (list.old.all_texts && texts) }
+    ensures nodes { list.new.all_nodes ≡ false }
+    ensures items { list.new.items ≡ list.old.items }
 {
-    if list.all_texts && texts {
+    list.all_texts = list.all_texts && texts;
+    list.all_nodes = false;
+}
+
+// The list of what was kept, or null where it is neither one of texts nor one of nodes.
+fn value_of_items<'a>(list: ShortList<'a>) -> Value<'a>
+    ensures { view result ≡ list_of list.entry }
+{
+    if list.all_texts || list.all_nodes {
         Value::Array(list.items)
     } else {
         Value::Null
     }
 }
 
-/// The list of what was kept, or null where it is neither one of texts nor one of nodes.
-pub fn value_of_list<'a>(list: ShortList<'a>) -> Value<'a>
-    ensures { (ds : Items) → IsShort ds list.entry → view result ≡ short_list ds }
+/// The list of what was kept, or null where it is neither one of texts nor one of nodes. A refusal is handed on.
+pub fn value_of_list<'a, E: Drop>(
+    list: ShortList<'a>,
+    outcome: Result<(), E>,
+) -> Result<Value<'a>, E>
+    ensures { result_map_both view (λ e. e) result ≡ result_map_both (λ u. list_of list.entry) (λ e. e) outcome }
 {
-    if list.all_texts || list.all_nodes {
-        Value::Array(list.items)
-    } else {
-        Value::Null
+    match outcome {
+        Ok(_) => Ok(value_of_items(list)),
+        Err(refusal) => Err(refusal),
     }
 }

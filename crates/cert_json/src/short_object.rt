@@ -1,11 +1,12 @@
 //! Objects of which is kept what a certificate may have.
 
-ghost use Rattle.std.specs.Prelude.{◌≡◌, [], length, true, false, None, IsTrue, IfSome, OnOk, is_some};
-ghost use Rattle.serde_json.specs.Data.{Data, Members, no_members, put};
+ghost use Rattle.std.specs.Prelude.{◌≡◌, length, true, false, None, IsTrue, IfSome, OnOk, is_some};
+ghost use Rattle.std.specs.Result.{result_map_both};
+ghost use Rattle.serde_json.specs.Data.{Data, Members, put};
 ghost use Rattle.serde_json.specs.Find.{as_str};
 ghost use Rattle.cert_values.specs.View.{view, members_view};
-ghost use Rattle.cert_json.specs.Trim.{exceeds, first_names, short_object, short_equations};
-ghost use Rattle.cert_json.specs.Objects.{IsShortObject, AreAscending, TellsOthers};
+ghost use Rattle.cert_json.specs.Trim.{exceeds, first_names, short_object};
+ghost use Rattle.cert_json.specs.Objects.{IsEmpty, IsShortObject, TellsOthers, object_of};
 
 use crate::level::Level;
 use cert_values::value::Value;
@@ -28,9 +29,7 @@ pub struct ShortObject<'a> {
 /// An object of no members.
 #[tactic(auto, using(crate::proofs::ObjectLaws::none_added))]
 pub fn empty_object<'a>(alloc: Global) -> ShortObject<'a>
-    ensures short { (level : Level) → IsShortObject level no_members result }
-    ensures none { result.members.entries ≡ [] }
-    ensures whole { result.is_partial ≡ false }
+    ensures { IsEmpty result }
 {
     ShortObject {
         members: Map::new(alloc),
@@ -139,38 +138,46 @@ pub fn add_member<'a>(
     if !level.keeps_first() {
         return put_member(&mut object.members, name, member);
     }
-    note_value(object, name, member.is_string(), whole)?;
-    put_first(&mut object.members, name, member)
+    let is_text = member.is_string();
+    put_first(&mut object.members, name, member)?;
+    note_value(object, name, is_text, whole)
 }
 
-// The value of equations, or null where they are not all texts; none where what was left out would tell.
-fn value_of_equations<'a>(object: ShortObject<'a>) -> Option<Value<'a>>
-    ensures value { IfSome result (λ v. (ms : Members)
-        → first_names (members_view object.entry.members.entries) ≡ first_names ms → AreAscending ms
-        → TellsOthers ms object.entry.others.keys object.entry.is_partial → view v ≡ short_equations ms) }
-    ensures none { result ≡ None → object.entry.is_partial ≡ true }
+/// Leaves the members of the value of what was kept, and tells whether that is null, as it is where the first names are kept and
+/// are not all texts. None where names were left out, of which one might have a value that is no text.
+pub fn close_object(object: &mut ShortObject<'_>, level: Level) -> Option<bool>
+    ensures value { IfSome result (λ is_null. (ms : Members) → IsShortObject level ms object.old
+        → exceeds level (length object.old.members.entries) ≡ false → object_of object.new is_null ≡ short_object level ms) }
+    ensures none { result ≡ None → object.old.is_partial ≡ true }
 {
+    if !level.keeps_first() {
+        return Some(false);
+    }
     if !object.others.is_empty() {
-        return Some(Value::Null);
+        return Some(true);
     }
     if object.is_partial {
         return None;
     }
-    let mut found = object.members;
-    cut(&mut found);
-    Some(Value::Object(found))
+    cut(&mut object.members);
+    Some(false)
 }
 
-/// The object of what was kept, or null where the first names are kept and are not all texts. None where names were left out,
-/// of which one might have a value that is no text.
-pub fn value_of_object<'a>(object: ShortObject<'a>, level: Level) -> Option<Value<'a>>
-    ensures value { IfSome result (λ v. (ms : Members) → IsShortObject level ms object.entry
-        → exceeds level (length object.entry.members.entries) ≡ false → view v ≡ short_object level ms) }
-    ensures none { result ≡ None → object.entry.is_partial ≡ true }
+/// The object of what was kept, or null. A refusal is handed on.
+pub fn value_of_object<'a, E: Drop>(
+    object: ShortObject<'a>,
+    outcome: Result<bool, E>,
+) -> Result<Value<'a>, E>
+    ensures { result_map_both view (λ e. e) result ≡ result_map_both (object_of object.entry) (λ e. e) outcome }
 {
-    if level.keeps_first() {
-        value_of_equations(object)
-    } else {
-        Some(Value::Object(object.members))
+    match outcome {
+        Ok(is_null) => {
+            if is_null {
+                Ok(Value::Null)
+            } else {
+                Ok(Value::Object(object.members))
+            }
+        }
+        Err(refusal) => Err(refusal),
     }
 }

@@ -1,6 +1,7 @@
 //! Passing over JSON of which nothing is kept.
 
-ghost use Rattle.std.specs.Prelude.{◌≡◌, ◌<◌, ◌≤◌, ◌∷◌, ℕ, [], length, false, Some, None, IfOk, OnOk, is_ok, is_some};
+ghost use Rattle.std.specs.Prelude.{◌≡◌, ◌<◌, ◌≤◌, ◌∷◌, ℕ, [], length, false, Some, None, IfOk, OnOk, is_ok, is_some, option_map};
+ghost use Rattle.std.specs.Result.{result_ok};
 ghost use Rattle.json.specs.Json.{after_end_array, value, items, members};
 ghost use Rattle.json.specs.Reads.{token_of};
 ghost use Rattle.serde_json.specs.Data.{Data, Items, Members};
@@ -8,8 +9,10 @@ ghost use Rattle.serde_json.specs.Events.{members_len};
 ghost use Rattle.serde_json.specs.Find.{as_str};
 ghost use Rattle.serde_json.specs.Read.{of_json, of_items, of_members, converted};
 ghost use Rattle.cert_values.specs.Shape.{are_texts};
+ghost use Rattle.cert_json.specs.Tokens.{data_of};
 
 use crate::numbers::is_in_range;
+use crate::openings::{begins_list, begins_object};
 use json::{Invalid, Reader, Token};
 
 // Whether a token closes a list.
@@ -18,6 +21,31 @@ fn is_end(token: &Token<'_>) -> bool
     ensures { result ≡ is_some (after_end_array (token_of token.now ∷ [])) }
 {
     matches!(token, Token::EndArray)
+}
+
+// Whether a token that opens nothing is a text. It refuses one that is no value.
+#[inline(always)]
+fn is_text(token: Token<'_>) -> Result<bool, Invalid>
+    ensures { result_ok result ≡ option_map (λ d. is_some (as_str d)) (data_of (token_of token.entry)) }
+{
+    match token {
+        Token::String(_) => Ok(true),
+        Token::Bool(_) => Ok(false),
+        Token::Null => Ok(false),
+        Token::Number(text) => {
+            if is_in_range(text) {
+                Ok(false)
+            } else {
+                Err(Invalid)
+            }
+        }
+        Token::BeginObject
+        | Token::EndObject
+        | Token::BeginArray
+        | Token::EndArray
+        | Token::Key(_)
+        | Token::Bad => Err(Invalid),
+    }
 }
 
 // Passes over the value that a token begins, and tells whether it is a text.
@@ -31,33 +59,15 @@ fn skip_from(token: Token<'_>, reader: &mut Reader<'_>, depth: usize) -> Result<
     ensures shorter { OnOk result (length reader.new ≤ length reader.old) }
     ensures err { is_ok result ≡ false → converted of_json (value depth (token_of token.entry ∷ reader.old)) ≡ None }
 {
-    match token {
-        Token::String(_) => Ok(true),
-        Token::Bool(_) => Ok(false),
-        Token::Null => Ok(false),
-        Token::Number(text) => {
-            if is_in_range(text) {
-                Ok(false)
-            } else {
-                Err(Invalid)
-            }
-        }
-        Token::EndObject | Token::EndArray | Token::Key(_) | Token::Bad => Err(Invalid),
-        Token::BeginArray => {
-            if depth == 0 {
-                return Err(Invalid);
-            }
-            skip_items(reader, depth - 1)?;
-            Ok(false)
-        }
-        Token::BeginObject => {
-            if depth == 0 {
-                return Err(Invalid);
-            }
-            skip_members(reader, depth - 1)?;
-            Ok(false)
-        }
+    if begins_list(&token, depth) {
+        skip_items(reader, depth - 1)?;
+        return Ok(false);
     }
+    if begins_object(&token, depth) {
+        skip_members(reader, depth - 1)?;
+        return Ok(false);
+    }
+    is_text(token)
 }
 
 /// Passes over the items that are left of a list, and tells whether all are texts. It refuses what `serde_json` does not

@@ -1,17 +1,23 @@
 //! Reading JSON without what no certificate has in a list or an object.
 
 ghost use Rattle.std.specs.Prelude.{◌≡◌, ◌<◌, length, false, Some, None, Err, IfOk, OnOk};
+ghost use Rattle.std.specs.Result.{result_map_both};
 ghost use Rattle.json.specs.Json.{value, items, members};
-ghost use Rattle.serde_json.specs.Data.{Data, Items, Members, no_members};
+ghost use Rattle.json.specs.Reads.{token_of};
+ghost use Rattle.serde_json.specs.Data.{Data, Items, Members, no_items, no_members};
 ghost use Rattle.serde_json.specs.Read.{of_json, of_items, of_members, converted, read as read_text};
 ghost use Rattle.cert_values.specs.View.{view};
 ghost use Rattle.cert_json.specs.Trim.{trim, trim_items, trim_members, short_list, short_object, below};
+ghost use Rattle.cert_json.specs.Lists.{IsShort, list_of};
+ghost use Rattle.cert_json.specs.Objects.{IsEmpty, object_of};
+ghost use Rattle.cert_json.specs.Tokens.{data_of, data_or_fault};
 ghost use Rattle.cert_json.specs.declared.level.Level.TheVariants.{File};
 
 use crate::level::Level;
 use crate::numbers::number_of;
-use crate::short_list::{add_to_list, empty_list, is_settled, value_of_list, value_of_settled};
-use crate::short_object::{add_member, empty_object, value_of_object};
+use crate::openings::{begins_list, begins_object};
+use crate::short_list::{ShortList, add_to_list, empty_list, is_settled, settle, value_of_list};
+use crate::short_object::{ShortObject, add_member, close_object, empty_object, value_of_object};
 use crate::skip::{skip_items, skip_members};
 use cert_values::value::Value;
 use json::{Invalid, Reader, Scratch, Token};
@@ -50,6 +56,28 @@ impl From<AllocError> for Fault {
     }
 }
 
+// The value of a token that opens neither.
+#[inline(always)]
+fn value_of_token<'a>(token: Token<'a>) -> Result<Value<'a>, Fault>
+    ensures { result_map_both view (λ e. e) result ≡ data_or_fault (data_of (token_of token.entry)) }
+{
+    match token {
+        Token::String(text) => Ok(Value::String(text)),
+        Token::Number(text) => match number_of(text) {
+            Some(number) => Ok(Value::Number(number)),
+            None => Err(Fault::NotJson),
+        },
+        Token::Bool(b) => Ok(Value::Bool(b)),
+        Token::Null => Ok(Value::Null),
+        Token::BeginObject
+        | Token::EndObject
+        | Token::BeginArray
+        | Token::EndArray
+        | Token::Key(_)
+        | Token::Bad => Err(Fault::NotJson),
+    }
+}
+
 #[cycle(read)]
 #[inline(always)]
 fn read<'a>(
@@ -66,28 +94,17 @@ fn read<'a>(
     ensures err { result ≡ Err Fault.NotJson → converted of_json (value depth reader.old) ≡ None }
 {
     let token = reader.next().ok_or(Invalid)?;
-    match token {
-        Token::String(text) => Ok(Value::String(text)),
-        Token::Number(text) => match number_of(text) {
-            Some(number) => Ok(Value::Number(number)),
-            None => Err(Fault::NotJson),
-        },
-        Token::Bool(b) => Ok(Value::Bool(b)),
-        Token::Null => Ok(Value::Null),
-        Token::EndObject | Token::EndArray | Token::Key(_) | Token::Bad => Err(Fault::NotJson),
-        Token::BeginArray => {
-            if depth == 0 {
-                return Err(Fault::NotJson);
-            }
-            read_items(alloc, reader, depth - 1, level.below(), whole)
-        }
-        Token::BeginObject => {
-            if depth == 0 {
-                return Err(Fault::NotJson);
-            }
-            read_members(alloc, reader, depth - 1, level, whole)
-        }
+    if begins_list(&token, depth) {
+        let mut found = empty_list(alloc);
+        let outcome = read_items(alloc, &mut found, reader, depth - 1, level.below(), whole);
+        return value_of_list(found, outcome);
     }
+    if begins_object(&token, depth) {
+        let mut found = empty_object(alloc);
+        let outcome = read_members(alloc, &mut found, reader, depth - 1, level, whole);
+        return value_of_object(found, outcome);
+    }
+    value_of_token(token)
 }
 
 // Reads the items of a list, which stand at a level.
@@ -95,61 +112,64 @@ fn read<'a>(
 #[inline(never)]
 fn read_items<'a>(
     alloc: Global,
+    found: &mut ShortList<'a>,
     reader: &mut Reader<'a>,
     depth: usize,
     level: Level,
     whole: bool,
-) -> Result<Value<'a>, Fault>
+) -> Result<(), Fault>
+    requires { IsShort no_items found.now }
     ensures ok { IfOk result
-        (λ v. (ds : Items) × (converted of_items (items (value depth) (length reader.old) reader.old) ≡ Some (ds, reader.new))
-        × (view v ≡ short_list (trim_items level ds))) }
+        (λ u. (ds : Items) × (converted of_items (items (value depth) (length reader.old) reader.old) ≡ Some (ds, reader.new))
+        × (list_of found.new ≡ short_list (trim_items level ds))) }
     ensures shorter { OnOk result (length reader.new < length reader.old) }
     ensures again { result ≡ Err Fault.Again → whole ≡ false }
     ensures err { result ≡ Err Fault.NotJson → converted of_items (items (value depth) (length reader.old) reader.old) ≡ None }
 {
-    let mut found = empty_list(alloc);
     'items: while !reader.take_end_array() {
         let item = read(alloc, reader, depth, level, whole)?;
-        add_to_list(&mut found, item)?;
-        if is_settled(&found) {
+        add_to_list(found, item)?;
+        if is_settled(found) {
             let texts = skip_items(reader, depth)?;
-            return Ok(value_of_settled(found, texts));
+            settle(found, texts);
+            return Ok(());
         }
     }
-    Ok(value_of_list(found))
+    Ok(())
 }
 
-// Reads the members of an object that stands at a level. Names only get more, so after one too many the rest is passed
-// over.
+// Reads the members of an object that stands at a level, and tells whether it is null. Names only get more, so after one too
+// many the rest is passed over.
 #[cycle(read)]
 #[inline(never)]
 fn read_members<'a>(
     alloc: Global,
+    found: &mut ShortObject<'a>,
     reader: &mut Reader<'a>,
     depth: usize,
     level: Level,
     whole: bool,
-) -> Result<Value<'a>, Fault>
+) -> Result<bool, Fault>
+    requires { IsEmpty found.now }
     ensures ok { IfOk result
-        (λ v. (ms : Members)
+        (λ is_null. (ms : Members)
         × (converted (λ es. of_members es no_members) (members (value depth) (length reader.old) reader.old)
-        ≡ Some (ms, reader.new)) × (view v ≡ short_object level (trim_members (below level) ms))) }
+        ≡ Some (ms, reader.new)) × (object_of found.new is_null ≡ short_object level (trim_members (below level) ms))) }
     ensures shorter { OnOk result (length reader.new < length reader.old) }
     ensures again { result ≡ Err Fault.Again → whole ≡ false }
     ensures err { result ≡ Err Fault.NotJson
         → converted (λ es. of_members es no_members) (members (value depth) (length reader.old) reader.old) ≡ None }
 {
-    let mut found = empty_object(alloc);
     'members: while let Some(name) = reader.next_key()? {
         let member = read(alloc, reader, depth, level.below(), whole)?;
-        add_member(&mut found, level, name, member, whole)?;
+        add_member(found, level, name, member, whole)?;
         if level.exceeds(found.members.len()) {
             skip_members(reader, depth)?;
-            return Ok(Value::Null);
+            return Ok(true);
         }
     }
-    match value_of_object(found, level) {
-        Some(value) => Ok(value),
+    match close_object(found, level) {
+        Some(is_null) => Ok(is_null),
         None => Err(Fault::Again),
     }
 }

@@ -2,7 +2,6 @@ use Rattle.std.proofs.Common.{sym, ap, ◌∙◌}
 use Rattle.std.proofs.lemmas.Result.{on_ok_weaker}
 use Rattle.cert_values.specs.View.{view, members_view}
 use Rattle.cert_json.specs.Trim.{first_names}
-use Rattle.serde_json.specs.Data.{put}
 use Rattle.cert_json.proofs.ObjectLaws.{first_added, any_added}
 use Rattle.cert_json.proofs.short_object.add_member.Goals as goal
 
@@ -17,11 +16,12 @@ returns-then-not-keeps_first-clause-whole c = on_ok_weaker c.put_member.result (
 
 pub returns-clause-short : goal.returns-clause-short
 returns-clause-short c =
+    let k = c.args.name.now in
     let d = view c.args.member in
-    on_ok_weaker c.put_first.result (λ is ms h. first_added c.args.level c.args.name.now d ms c.args.object.now _ (sym c.if-not-keeps_first.ensures)
-    (is ∙ ap (λ m. first_names (put c.args.name.now d (members_view m.entries))) c.in_ok-note_value.ensures.members)
-    (c.in_ok-note_value.ensures.others ms d (sym c.is_string.ensures)) h)
-    c.put_first.ensures
+    on_ok_weaker c.note_value.result (λ noted ms h. first_added c.args.level k d ms c.args.object.now _ (sym c.if-not-keeps_first.ensures)
+    (ap (λ m. first_names (members_view m.entries)) c.note_value.ensures.members ∙ c.in_ok-put_first.ensures)
+    (noted ms d (sym c.is_string-is_text.ensures)) h)
+    c.note_value.ensures.others
 
 pub returns-clause-whole : goal.returns-clause-whole
-returns-clause-whole c = on_ok_weaker c.put_first.result (λ _. c.in_ok-note_value.ensures.whole) c.put_first.ensures
+returns-clause-whole c = on_ok_weaker c.note_value.result (λ _. c.note_value.ensures.whole) c.note_value.ensures.others

@@ -1,106 +1,66 @@
-use Rattle.std.proofs.Common.{◌≡◌, ◌-◌, ◌<◌, ◌&&◌, [], refl, ◌∷◌, length, Some, None, sym, ap, ap₂, ◌∙◌, arith}
-use Rattle.json.specs.Token.{Token}
-use Rattle.json.specs.Json.{parse_map, after_end_array, read_key, items, members, value}
+use Rattle.std.proofs.Common.{◌≡◌, ◌-◌, ◌<◌, ◌&&◌, [], refl, ◌∷◌, length, Some, None, sym, ap, ◌∙◌, arith}
+use Rattle.json.specs.Json.{parse_map, after_end_array, read_key, items, value}
 use Rattle.json.specs.Reads.{token_of}
-use Rattle.json.proofs.Grammar.{value_is, value-begin_array, value-begin_object, read_key-shorter}
-use Rattle.serde_json.specs.Data.{null, boolean, string, array, object, no_items, no_members, put}
-use Rattle.serde_json.specs.Read.{of_json, of_items, converted, number_of}
+use Rattle.json.proofs.Grammar.{value_is, read_key-shorter}
+use Rattle.serde_json.specs.Data.{array, object, no_items, no_members, put}
+use Rattle.serde_json.specs.Read.{of_json, of_items, converted}
 use Rattle.cert_json.specs.Lists.{join_items, add_item}
-use Rattle.cert_json.proofs.Turns.{converted-array, converted-object, item_read, item_refused, items_over, member_read, member_refused, key_refused}
-use Rattle.cert_json.proofs.Turns.{members_over, number_in_range, number_past_range, list_ends, list_goes_on}
+use Rattle.cert_json.specs.Tokens.{data_of}
+use Rattle.cert_json.proofs.Turns.{item_read, item_refused, items_over, member_read, member_refused, key_refused}
+use Rattle.cert_json.proofs.Turns.{members_over, list_ends, list_goes_on}
 use Rattle.cert_json.proofs.ListLaws.{join-no_items, none_before, one_more_item, texts_on}
+use Rattle.cert_json.proofs.Opened.{list_opens, object_opens, by_itself, any_ok, text_read, text_refused}
 use Rattle.cert_json.proofs.ObjectLaws.{put-members_len}
 use Rattle.cert_json.proofs.skip.+skip.Goals as goal
 
-pub skip_from-returns-then-depth-eq0-clause-err : goal.skip_from-returns-then-depth-eq0-clause-err
-unfolding value
-skip_from-returns-then-depth-eq0-clause-err t c refused =
-    let none : c.args.depth ≡ 0 = omega arith in
-    ap (converted of_json) (ap₂ value none (ap (λ k. token_of k ∷ c.args.reader.now) c.in-BeginArray.is))
-
-pub skip_from-returns-then-depth-eq0-2-clause-err : goal.skip_from-returns-then-depth-eq0-2-clause-err
-unfolding value
-skip_from-returns-then-depth-eq0-2-clause-err t c refused =
-    let none : c.args.depth ≡ 0 = omega arith in
-    ap (converted of_json) (ap₂ value none (ap (λ k. token_of k ∷ c.args.reader.now) c.in-BeginObject.is))
-
-pub skip_from-returns-else-is_in_range-clause-err : goal.skip_from-returns-else-is_in_range-clause-err
-skip_from-returns-else-is_in_range-clause-err t c refused =
+pub skip_from-returns-then-begins_list-clause-ok : goal.skip_from-returns-then-begins_list-clause-ok
+skip_from-returns-then-begins_list-clause-ok t c =
     let ts = c.args.reader.now in
-    let is : token_of c.args.token ∷ ts ≡ Token.number c.in-Number.text.now ∷ ts = ap (λ k. token_of k ∷ ts) c.in-Number.is in
-    ap (converted of_json) (ap (value c.args.depth) is ∙ value_is c.args.depth _)
-    ∙ number_past_range (number_of c.in-Number.text.now) c.args.reader.now (sym c.if-is_in_range.ensures)
-
-pub skip_from-returns-in-EndObject-clause-err : goal.skip_from-returns-in-EndObject-clause-err
-skip_from-returns-in-EndObject-clause-err t c refused =
-    let ts = token_of c.args.token ∷ c.args.reader.now in
-    let none : value c.args.depth ts ≡ None = rw (value_is c.args.depth ts) (grind arith) in
-    ap (converted of_json) none
-
-pub skip_from-returns-in-String-clause-ok : goal.skip_from-returns-in-String-clause-ok
-skip_from-returns-in-String-clause-ok t c =
-    let ts = c.args.reader.now in
-    let is : token_of c.args.token ∷ ts ≡ Token.string c.in-String.field-0.now ∷ ts = ap (λ k. token_of k ∷ ts) c.in-String.is in
-    (string c.in-String.field-0.now, ap (converted of_json) (ap (value c.args.depth) is ∙ value_is c.args.depth _), refl)
-
-pub skip_from-returns-in-Bool-clause-ok : goal.skip_from-returns-in-Bool-clause-ok
-skip_from-returns-in-Bool-clause-ok t c =
-    let ts = c.args.reader.now in
-    let is : token_of c.args.token ∷ ts ≡ Token.boolean c.in-Bool.field-0 ∷ ts = ap (λ k. token_of k ∷ ts) c.in-Bool.is in
-    (boolean c.in-Bool.field-0, ap (converted of_json) (ap (value c.args.depth) is ∙ value_is c.args.depth _), refl)
-
-pub skip_from-returns-in-Null-clause-ok : goal.skip_from-returns-in-Null-clause-ok
-skip_from-returns-in-Null-clause-ok t c =
-    let ts = c.args.reader.now in
-    let is : token_of c.args.token ∷ ts ≡ Token.null ∷ ts = ap (λ k. token_of k ∷ ts) c.in-Null.is in
-    (null, ap (converted of_json) (ap (value c.args.depth) is ∙ value_is c.args.depth _), refl)
-
-pub skip_from-returns-in_ok-skip_items-in-BeginArray-clause-ok : goal.skip_from-returns-in_ok-skip_items-in-BeginArray-clause-ok
-skip_from-returns-in_ok-skip_items-in-BeginArray-clause-ok t c =
-    let ts = c.args.reader.now in
-    let opened = ap (converted of_json)
-    (ap (value c.args.depth) (ap (λ k. token_of k ∷ ts) c.in-BeginArray.is) ∙ value-begin_array c.args.depth ts (omega arith))
-    ∙ converted-array (items (value (c.args.depth - 1)) (length ts) ts) in
-    let found = c.in_ok-skip_items-in-BeginArray.ensures.ok in
+    let opened = list_opens c.args.depth (token_of c.args.token) ts (sym c.if-begins_list.ensures.value) in
+    let found = c.in_ok-skip_items.ensures.ok in
     (array found.0, opened ∙ ap (parse_map array) (found.1 (length ts) (omega arith)), refl)
 
-pub skip_from-returns-in_err-skip_items-in-BeginArray-clause-err : goal.skip_from-returns-in_err-skip_items-in-BeginArray-clause-err
-skip_from-returns-in_err-skip_items-in-BeginArray-clause-err t c refused =
+pub skip_from-returns-in_err-skip_items-clause-err : goal.skip_from-returns-in_err-skip_items-clause-err
+skip_from-returns-in_err-skip_items-clause-err t c refused =
     let ts = c.args.reader.now in
-    let opened = ap (converted of_json)
-    (ap (value c.args.depth) (ap (λ k. token_of k ∷ ts) c.in-BeginArray.is) ∙ value-begin_array c.args.depth ts (omega arith))
-    ∙ converted-array (items (value (c.args.depth - 1)) (length ts) ts) in
-    opened ∙ ap (parse_map array) (c.skip_items.ensures.err (grind arith) (length ts) (omega arith))
+    list_opens c.args.depth (token_of c.args.token) ts (sym c.if-begins_list.ensures.value)
+    ∙ ap (parse_map array) (c.skip_items.ensures.err (grind arith) (length ts) (omega arith))
 
-pub skip_from-returns-in_ok-skip_members-in-BeginObject-clause-ok : goal.skip_from-returns-in_ok-skip_members-in-BeginObject-clause-ok
-skip_from-returns-in_ok-skip_members-in-BeginObject-clause-ok t c =
+pub skip_from-returns-then-begins_object-clause-ok : goal.skip_from-returns-then-begins_object-clause-ok
+skip_from-returns-then-begins_object-clause-ok t c =
     let ts = c.args.reader.now in
-    let opened = ap (converted of_json)
-    (ap (value c.args.depth) (ap (λ k. token_of k ∷ ts) c.in-BeginObject.is) ∙ value-begin_object c.args.depth ts (omega arith))
-    ∙ converted-object (members (value (c.args.depth - 1)) (length ts) ts) in
-    let found = c.in_ok-skip_members-in-BeginObject.ensures.ok no_members (length ts) (omega arith) in
+    let opened = object_opens c.args.depth (token_of c.args.token) ts (sym c.if-begins_object.ensures.value) in
+    let found = c.in_ok-skip_members.ensures.ok no_members (length ts) (omega arith) in
     (object found.0, opened ∙ ap (parse_map object) found.1, refl)
 
-pub skip_from-returns-in_err-skip_members-in-BeginObject-clause-err : goal.skip_from-returns-in_err-skip_members-in-BeginObject-clause-err
-skip_from-returns-in_err-skip_members-in-BeginObject-clause-err t c refused =
+pub skip_from-returns-in_err-skip_members-clause-err : goal.skip_from-returns-in_err-skip_members-clause-err
+skip_from-returns-in_err-skip_members-clause-err t c refused =
     let ts = c.args.reader.now in
-    let opened = ap (converted of_json)
-    (ap (value c.args.depth) (ap (λ k. token_of k ∷ ts) c.in-BeginObject.is) ∙ value-begin_object c.args.depth ts (omega arith))
-    ∙ converted-object (members (value (c.args.depth - 1)) (length ts) ts) in
-    opened ∙ ap (parse_map object) (c.skip_members.ensures.err (grind arith) no_members (length ts) (omega arith))
+    object_opens c.args.depth (token_of c.args.token) ts (sym c.if-begins_object.ensures.value)
+    ∙ ap (parse_map object) (c.skip_members.ensures.err (grind arith) no_members (length ts) (omega arith))
+
+pub skip_from-returns-clause-ok : goal.skip_from-returns-clause-ok
+skip_from-returns-clause-ok t c =
+    let token = token_of c.args.token in
+    let ts = c.args.reader.now in
+    text_read c.is_text.result (data_of token) ts _ c.is_text.ensures
+    (by_itself c.args.depth token ts (sym c.if-begins_list.ensures.value) (sym c.if-begins_object.ensures.value))
+
+pub skip_from-returns-clause-shorter : goal.skip_from-returns-clause-shorter
+skip_from-returns-clause-shorter t c = any_ok c.is_text.result (omega arith)
+
+pub skip_from-returns-clause-err : goal.skip_from-returns-clause-err
+skip_from-returns-clause-err t c refused =
+    let token = token_of c.args.token in
+    let ts = c.args.reader.now in
+    text_refused (data_of token) c.is_text.result ts _ c.is_text.ensures
+    (by_itself c.args.depth token ts (sym c.if-begins_list.ensures.value) (sym c.if-begins_object.ensures.value)) refused
 
 pub skip_members-returns-in_err-next_key-clause-err : goal.skip_members-returns-in_err-next_key-clause-err
 skip_members-returns-in_err-next_key-clause-err t c refused old n enough =
     let l = c.members in
     let i = l.invariant.0 old n enough in
     i.3 ∙ key_refused (value c.args.depth) i.2 i.0 l.reader c.in_err-next_key.ensures.value
-
-pub skip_from-returns-then-is_in_range-clause-ok : goal.skip_from-returns-then-is_in_range-clause-ok
-skip_from-returns-then-is_in_range-clause-ok t c =
-    let ts = c.args.reader.now in
-    let is : token_of c.args.token ∷ ts ≡ Token.number c.in-Number.text.now ∷ ts = ap (λ k. token_of k ∷ ts) c.in-Number.is in
-    let found = number_in_range (number_of c.in-Number.text.now) c.args.reader.now (sym c.if-is_in_range.ensures) in
-    (found.0, ap (converted of_json) (ap (value c.args.depth) is ∙ value_is c.args.depth _) ∙ found.1, found.2)
 
 pub skip_items-items-init : goal.skip_items-items-init
 skip_items-items-init t c =

@@ -1,24 +1,22 @@
-use Rattle.std.proofs.Common.{◌≡◌, ◌-◌, ◌<◌, ◌≤◌, [], true, subst, refl, ◌∷◌, length, Some, None, sym, ap, ap₂, ◌∙◌, arith, rules}
-use Rattle.std.proofs.lemmas.Result.{on_ok_weaker}
-use Rattle.json.specs.Token.{Token}
-use Rattle.json.specs.Json.{parse_map, after_end_array, read_key, items, members, value}
+use Rattle.std.proofs.Common.{◌≡◌, ◌-◌, ◌<◌, ◌≤◌, [], true, subst, ◌∷◌, length, Some, None, sym, ap, ◌∙◌, refl, arith}
+use Rattle.json.specs.Json.{parse_map, after_end_array, read_key, items, value}
 use Rattle.json.specs.Reads.{token_of}
-use Rattle.json.proofs.Grammar.{value_is, value-begin_array, value-begin_object, read_key-shorter}
-use Rattle.serde_json.specs.Data.{null, boolean, number, string, array, object, no_items, item, put}
+use Rattle.json.proofs.Grammar.{value_is, read_key-shorter}
+use Rattle.serde_json.specs.Data.{array, object, no_items, no_members, item, put}
 use Rattle.serde_json.specs.Read.{of_json, of_items, converted}
 use Rattle.cert_values.specs.View.{view}
-use Rattle.serde_json.specs.View.{number_view}
-use Rattle.cert_values.specs.declared.value.Value.{String, Number, Bool, Null, the_lemmas}
-use Rattle.serde_json.specs.Data.{no_members}
-use Rattle.cert_json.specs.Trim.{trim_items, trim_members, short_list, below, exceeds}
-use Rattle.cert_json.specs.Objects.{IsShortObject}
-use Rattle.cert_json.specs.Lists.{join_items, add_item, IsShort, settled}
 use Rattle.cert_values.specs.Shape.{are_texts}
+use Rattle.cert_json.specs.Trim.{trim_items, trim_members, short_list, below, exceeds}
+use Rattle.cert_json.specs.Objects.{IsShortObject, object_of}
+use Rattle.cert_json.specs.Lists.{join_items, add_item, IsShort, settled, list_of}
+use Rattle.cert_json.specs.Tokens.{data_of}
+use Rattle.cert_json.specs.declared.trim.Fault.TheVariants.{NotJson, Again}
 use Rattle.cert_json.proofs.TrimLaws.{trim-are_texts}
-use Rattle.cert_json.proofs.Turns.{converted-array, converted-object, item_read, item_refused, items_over, member_read, member_refused, key_refused}
-use Rattle.cert_json.proofs.Turns.{members_over}
-use Rattle.cert_json.proofs.ListLaws.{join-no_items, none_before, one_more_item, trim-add_item, trim-join_items}
-use Rattle.cert_json.proofs.ObjectLaws.{none_exceed, kept_put, settled_members, opened_list, opened_object}
+use Rattle.cert_json.proofs.Turns.{item_read, item_refused, items_over, member_read, member_refused, key_refused, members_over}
+use Rattle.cert_json.proofs.ListLaws.{join-no_items, none_before, one_more_item, trim-add_item, trim-join_items, list_kept, settled_list}
+use Rattle.cert_json.proofs.ObjectLaws.{none_exceed, kept_put, settled_members}
+use Rattle.cert_json.proofs.Opened.{by_itself, list_opens, object_opens, token_stays, any_ok, token_read, token_refused, token_again}
+use Rattle.cert_json.proofs.Opened.{same_refusal, when_read, opened_list, opened_object}
 use Rattle.cert_json.proofs.trim.+read.Goals as goal
 
 pub read-returns-in_err-token-clause-err : goal.read-returns-in_err-token-clause-err
@@ -26,108 +24,89 @@ read-returns-in_err-token-clause-err t c refused =
     let empty : c.args.reader.now ≡ [] = grind arith in
     ap (converted of_json) (ap (value c.args.depth) empty ∙ value_is c.args.depth [])
 
-pub read-returns-then-depth-eq0-clause-err : goal.read-returns-then-depth-eq0-clause-err
-unfolding value
-read-returns-then-depth-eq0-clause-err t c never =
+pub read-returns-then-begins_list-clause-ok : goal.read-returns-then-begins_list-clause-ok
+read-returns-then-begins_list-clause-ok t c =
     let first : c.args.reader.now ≡ token_of c.in_ok-token.token ∷ c.next.new.self = grind arith in
-    let none : c.args.depth ≡ 0 = omega arith in
-    ap (converted of_json) (ap₂ value none (first ∙ ap (λ k. token_of k ∷ c.next.new.self) c.in-BeginArray.is))
+    let opened = ap (λ k. converted of_json (value c.args.depth k)) first
+    ∙ list_opens c.args.depth (token_of c.in_ok-token.token) c.next.new.self (sym c.if-begins_list.ensures.value) in
+    opened_list c.value_of_list.result c.read_items-outcome.result (list_of c.read_items-outcome.new.found) c.args.level c.below.result
+    c.read_items-outcome.new.reader _ _
+    c.value_of_list.ensures opened c.below.ensures c.read_items-outcome.ensures.ok
 
-pub read-returns-then-depth-eq0-2-clause-err : goal.read-returns-then-depth-eq0-2-clause-err
-unfolding value
-read-returns-then-depth-eq0-2-clause-err t c never =
+pub read-returns-then-begins_list-clause-shorter : goal.read-returns-then-begins_list-clause-shorter
+read-returns-then-begins_list-clause-shorter t c =
     let first : c.args.reader.now ≡ token_of c.in_ok-token.token ∷ c.next.new.self = grind arith in
-    let none : c.args.depth ≡ 0 = omega arith in
-    ap (converted of_json) (ap₂ value none (first ∙ ap (λ k. token_of k ∷ c.next.new.self) c.in-BeginObject.is))
+    when_read c.value_of_list.result c.read_items-outcome.result (λ u. list_of c.read_items-outcome.new.found) c.value_of_list.ensures
+    (λ less. omega (arith, less, ap length first)) c.read_items-outcome.ensures.shorter
 
-pub read-returns-in-String-clause-ok : goal.read-returns-in-String-clause-ok
-read-returns-in-String-clause-ok t c =
-    let first : c.args.reader.now ≡ token_of c.in_ok-token.token ∷ c.next.new.self = grind arith in
-    let is : c.args.reader.now ≡ Token.string c.in-String.text.now ∷ c.next.new.self = grind (arith, first) in
-    let seen : view (String c.in-String.text) ≡ string c.in-String.text.now = search (rules, the_lemmas) in
-    (string c.in-String.text.now, ap (converted of_json) (ap (value c.args.depth) is ∙ value_is c.args.depth _), seen)
+pub read-returns-then-begins_list-clause-again : goal.read-returns-then-begins_list-clause-again
+read-returns-then-begins_list-clause-again t c refused =
+    let stopped = same_refusal c.value_of_list.result c.read_items-outcome.result (λ u. list_of c.read_items-outcome.new.found) Again
+    c.value_of_list.ensures refused in
+    c.read_items-outcome.ensures.again stopped
 
-pub read-returns-in-Bool-clause-ok : goal.read-returns-in-Bool-clause-ok
-read-returns-in-Bool-clause-ok t c =
+pub read-returns-then-begins_list-clause-err : goal.read-returns-then-begins_list-clause-err
+read-returns-then-begins_list-clause-err t c refused =
     let first : c.args.reader.now ≡ token_of c.in_ok-token.token ∷ c.next.new.self = grind arith in
-    let is : c.args.reader.now ≡ Token.boolean c.in-Bool.b ∷ c.next.new.self = grind (arith, first) in
-    let seen : view (Bool c.in-Bool.b) ≡ boolean c.in-Bool.b = search (rules, the_lemmas) in
-    (boolean c.in-Bool.b, ap (converted of_json) (ap (value c.args.depth) is ∙ value_is c.args.depth _), seen)
+    let opened = ap (λ k. converted of_json (value c.args.depth k)) first
+    ∙ list_opens c.args.depth (token_of c.in_ok-token.token) c.next.new.self (sym c.if-begins_list.ensures.value) in
+    let stopped = same_refusal c.value_of_list.result c.read_items-outcome.result (λ u. list_of c.read_items-outcome.new.found) NotJson
+    c.value_of_list.ensures refused in
+    opened ∙ ap (parse_map array) (c.read_items-outcome.ensures.err stopped)
 
-pub read-returns-in-Null-clause-ok : goal.read-returns-in-Null-clause-ok
-read-returns-in-Null-clause-ok t c =
+pub read-returns-then-begins_object-clause-ok : goal.read-returns-then-begins_object-clause-ok
+read-returns-then-begins_object-clause-ok t c =
     let first : c.args.reader.now ≡ token_of c.in_ok-token.token ∷ c.next.new.self = grind arith in
-    let is : c.args.reader.now ≡ Token.null ∷ c.next.new.self = grind (arith, first) in
-    let seen : view (Null) ≡ null = search (rules, the_lemmas) in
-    (null, ap (converted of_json) (ap (value c.args.depth) is ∙ value_is c.args.depth _), seen)
+    let opened = ap (λ k. converted of_json (value c.args.depth k)) first
+    ∙ object_opens c.args.depth (token_of c.in_ok-token.token) c.next.new.self (sym c.if-begins_object.ensures.value) in
+    opened_object c.value_of_object.result c.read_members-outcome.result (object_of c.read_members-outcome.new.found) c.args.level
+    c.read_members-outcome.new.reader _ _ c.value_of_object.ensures opened c.read_members-outcome.ensures.ok
 
-pub read-returns-in-Some-clause-ok : goal.read-returns-in-Some-clause-ok
-read-returns-in-Some-clause-ok t c =
+pub read-returns-then-begins_object-clause-shorter : goal.read-returns-then-begins_object-clause-shorter
+read-returns-then-begins_object-clause-shorter t c =
     let first : c.args.reader.now ≡ token_of c.in_ok-token.token ∷ c.next.new.self = grind arith in
-    let is : c.args.reader.now ≡ Token.number c.in-Number.text.now ∷ c.next.new.self = grind (arith, first) in
-    let seen : view (Number c.in-Some.number) ≡ number (number_view c.in-Some.number) = search (rules, the_lemmas) in (
-      number (number_view c.in-Some.number),
-      ap (converted of_json) (ap (value c.args.depth) is ∙ value_is c.args.depth _) ∙ rw (← c.in-Some.ensures),
-      seen,
-    )
+    let found = object_of c.read_members-outcome.new.found in
+    when_read c.value_of_object.result c.read_members-outcome.result found c.value_of_object.ensures
+    (λ less. omega (arith, less, ap length first)) c.read_members-outcome.ensures.shorter
 
-pub read-returns-in-None-clause-err : goal.read-returns-in-None-clause-err
-read-returns-in-None-clause-err t c refused =
-    let first : c.args.reader.now ≡ token_of c.in_ok-token.token ∷ c.next.new.self = grind arith in
-    let is : c.args.reader.now ≡ Token.number c.in-Number.text.now ∷ c.next.new.self = grind (arith, first) in
-    ap (converted of_json) (ap (value c.args.depth) is ∙ value_is c.args.depth _) ∙ rw (← c.in-None.ensures)
+pub read-returns-then-begins_object-clause-again : goal.read-returns-then-begins_object-clause-again
+read-returns-then-begins_object-clause-again t c refused =
+    let found = object_of c.read_members-outcome.new.found in
+    c.read_members-outcome.ensures.again (same_refusal c.value_of_object.result c.read_members-outcome.result found Again c.value_of_object.ensures refused)
 
-pub read-returns-in-EndObject-clause-err : goal.read-returns-in-EndObject-clause-err
-read-returns-in-EndObject-clause-err t c refused =
+pub read-returns-then-begins_object-clause-err : goal.read-returns-then-begins_object-clause-err
+read-returns-then-begins_object-clause-err t c refused =
     let first : c.args.reader.now ≡ token_of c.in_ok-token.token ∷ c.next.new.self = grind arith in
-    let none : value c.args.depth c.args.reader.now ≡ None = rw (value_is c.args.depth c.args.reader.now, first) (grind arith) in
-    ap (converted of_json) none
+    let opened = ap (λ k. converted of_json (value c.args.depth k)) first
+    ∙ object_opens c.args.depth (token_of c.in_ok-token.token) c.next.new.self (sym c.if-begins_object.ensures.value) in
+    let found = object_of c.read_members-outcome.new.found in
+    let stopped = same_refusal c.value_of_object.result c.read_members-outcome.result found NotJson c.value_of_object.ensures refused in
+    opened ∙ ap (parse_map object) (c.read_members-outcome.ensures.err stopped)
 
-pub read-returns-else-depth-eq0-clause-ok : goal.read-returns-else-depth-eq0-clause-ok
-read-returns-else-depth-eq0-clause-ok t c =
+pub read-returns-clause-ok : goal.read-returns-clause-ok
+read-returns-clause-ok t c =
     let first : c.args.reader.now ≡ token_of c.in_ok-token.token ∷ c.next.new.self = grind arith in
-    let opened = ap (converted of_json)
-    (ap (value c.args.depth) (first ∙ ap (λ k. token_of k ∷ c.next.new.self) c.in-BeginArray.is)
-    ∙ value-begin_array c.args.depth c.next.new.self (omega arith))
-    ∙ converted-array (items (value (c.args.depth - 1)) (length c.next.new.self) c.next.new.self) in
-    opened_list c.read_items.result c.args.level c.below.result c.read_items.new.reader _ _ opened c.below.ensures c.read_items.ensures.ok
+    let token = token_of c.in_ok-token.token in
+    let is = ap (λ k. converted of_json (value c.args.depth k)) first
+    ∙ by_itself c.args.depth token c.next.new.self (sym c.if-begins_list.ensures.value) (sym c.if-begins_object.ensures.value) in
+    token_read c.value_of_token.result (data_of token) c.args.level c.next.new.self _ c.value_of_token.ensures (token_stays c.args.level token) is
 
-pub read-returns-else-depth-eq0-clause-shorter : goal.read-returns-else-depth-eq0-clause-shorter
-read-returns-else-depth-eq0-clause-shorter t c =
+pub read-returns-clause-shorter : goal.read-returns-clause-shorter
+read-returns-clause-shorter t c =
     let first : c.args.reader.now ≡ token_of c.in_ok-token.token ∷ c.next.new.self = grind arith in
-    on_ok_weaker c.read_items.result (λ less. omega (arith, less, ap length first)) c.read_items.ensures.shorter
+    any_ok c.value_of_token.result (omega (arith, ap length first))
 
-pub read-returns-else-depth-eq0-clause-err : goal.read-returns-else-depth-eq0-clause-err
-read-returns-else-depth-eq0-clause-err t c refused =
-    let first : c.args.reader.now ≡ token_of c.in_ok-token.token ∷ c.next.new.self = grind arith in
-    let opened = ap (converted of_json)
-    (ap (value c.args.depth) (first ∙ ap (λ k. token_of k ∷ c.next.new.self) c.in-BeginArray.is)
-    ∙ value-begin_array c.args.depth c.next.new.self (omega arith))
-    ∙ converted-array (items (value (c.args.depth - 1)) (length c.next.new.self) c.next.new.self) in
-    opened ∙ ap (parse_map array) (c.read_items.ensures.err refused)
+pub read-returns-clause-again : goal.read-returns-clause-again
+read-returns-clause-again t c refused =
+    absurd (token_again (data_of (token_of c.in_ok-token.token)) c.value_of_token.result c.value_of_token.ensures refused)
 
-pub read-returns-else-depth-eq0-2-clause-ok : goal.read-returns-else-depth-eq0-2-clause-ok
-read-returns-else-depth-eq0-2-clause-ok t c =
+pub read-returns-clause-err : goal.read-returns-clause-err
+read-returns-clause-err t c refused =
     let first : c.args.reader.now ≡ token_of c.in_ok-token.token ∷ c.next.new.self = grind arith in
-    let opened = ap (converted of_json)
-    (ap (value c.args.depth) (first ∙ ap (λ k. token_of k ∷ c.next.new.self) c.in-BeginObject.is)
-    ∙ value-begin_object c.args.depth c.next.new.self (omega arith))
-    ∙ converted-object (members (value (c.args.depth - 1)) (length c.next.new.self) c.next.new.self) in
-    opened_object c.read_members.result c.args.level c.read_members.new.reader _ _ opened c.read_members.ensures.ok
-
-pub read-returns-else-depth-eq0-2-clause-shorter : goal.read-returns-else-depth-eq0-2-clause-shorter
-read-returns-else-depth-eq0-2-clause-shorter t c =
-    let first : c.args.reader.now ≡ token_of c.in_ok-token.token ∷ c.next.new.self = grind arith in
-    on_ok_weaker c.read_members.result (λ less. omega (arith, less, ap length first)) c.read_members.ensures.shorter
-
-pub read-returns-else-depth-eq0-2-clause-err : goal.read-returns-else-depth-eq0-2-clause-err
-read-returns-else-depth-eq0-2-clause-err t c refused =
-    let first : c.args.reader.now ≡ token_of c.in_ok-token.token ∷ c.next.new.self = grind arith in
-    let opened = ap (converted of_json)
-    (ap (value c.args.depth) (first ∙ ap (λ k. token_of k ∷ c.next.new.self) c.in-BeginObject.is)
-    ∙ value-begin_object c.args.depth c.next.new.self (omega arith))
-    ∙ converted-object (members (value (c.args.depth - 1)) (length c.next.new.self) c.next.new.self) in
-    opened ∙ ap (parse_map object) (c.read_members.ensures.err refused)
+    let token = token_of c.in_ok-token.token in
+    let is = ap (λ k. converted of_json (value c.args.depth k)) first
+    ∙ by_itself c.args.depth token c.next.new.self (sym c.if-begins_list.ensures.value) (sym c.if-begins_object.ensures.value) in
+    token_refused (data_of token) c.value_of_token.result c.next.new.self _ c.value_of_token.ensures is refused
 
 pub read_items-items-init : goal.read_items-items-init
 read_items-items-init t c =
@@ -136,7 +115,7 @@ read_items-items-init t c =
       omega arith,
       no_items,
       none_before all,
-      c.empty_list-found.ensures,
+      c.requires,
       omega arith,
     )
 
@@ -210,7 +189,8 @@ read_items-returns-then-is_settled-clause-ok t c =
       join_items more left.0,
       l.invariant.3 ∙ ap (parse_map (join_items ds)) turn ∙ one_more_item ds d (converted of_items (items p (n - 1) r))
           ∙ ap (parse_map (join_items more)) (left.1 (n - 1) enough),
-      c.value_of_settled.ensures ∙ ap (settled c.add_to_list.new.list) texts
+      settled_list c.add_to_list.new.list c.settle.new.list c.in_ok-texts.texts c.settle.ensures.texts c.settle.ensures.nodes c.settle.ensures.items
+          ∙ ap (settled c.add_to_list.new.list) texts
           ∙ c.if-is_settled.ensures refl (trim_items level more) (trim_items level left.0) short
           ∙ ap short_list (sym (trim-join_items level more left.0)),
     )
@@ -224,12 +204,12 @@ read_items-returns-clause-ok t c =
     let r = c.take_end_array.new.self in (
       ds,
       l.invariant.3 ∙ ap (parse_map (join_items ds)) (items_over p n l.reader r l.invariant.1 (grind arith)) ∙ ap (λ es. Some (es, r)) (join-no_items ds),
-      c.value_of_list.ensures (trim_items c.args.level ds) l.invariant.4,
+      list_kept (trim_items c.args.level ds) l.found l.invariant.4,
     )
 
 pub read_members-members-init : goal.read_members-members-init
 read_members-members-init t c =
-    let made = c.empty_object-found.ensures in
+    let made = c.requires in
     let few = ap (λ es. exceeds c.args.level (length es)) made.none ∙ none_exceed c.args.level in
     (length c.args.reader.now, omega arith, no_members, refl, made.short c.args.level, few, omega arith, λ _. made.whole)
 
@@ -319,13 +299,13 @@ read_members-returns-then-exceeds-clause-ok t c =
     let read = l.invariant.3 ∙ member_read p old n k l.reader s r d (omega (arith, l.invariant.1, less, lesser)) named done.ok.1 in
     settled_members level object (put k d old) _ _ _ read same many (c.in_ok-skip_members.ensures.ok (put k d old) (n - 1) enough)
 
-pub read_members-returns-in-Some-value_of_object-clause-ok : goal.read_members-returns-in-Some-value_of_object-clause-ok
-read_members-returns-in-Some-value_of_object-clause-ok t c =
+pub read_members-returns-in-Some-close_object-clause-ok : goal.read_members-returns-in-Some-close_object-clause-ok
+read_members-returns-in-Some-close_object-clause-ok t c =
     let p = value c.args.depth in
     let l = c.members in
     let n = l.invariant.0 in
     let old = l.invariant.2 in (
       old,
       l.invariant.3 ∙ members_over p old n l.reader c.next_key.new.self l.invariant.1 (grind arith),
-      c.in-Some-value_of_object.ensures.value (trim_members (below c.args.level) old) l.invariant.4 l.invariant.5,
+      c.in-Some-close_object.ensures.value (trim_members (below c.args.level) old) l.invariant.4 l.invariant.5,
     )
