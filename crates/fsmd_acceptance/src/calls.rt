@@ -1,6 +1,7 @@
 //! Public calls that the program does not make: what an input and a variable hold.
 
 ghost use Rattle.std.specs.Prelude.{◌<◌, length};
+ghost use Rattle.fs_stores.specs.InputValues.{Serves, signatures_of};
 ghost use Rattle.fs_stores.specs.Values.{values_of};
 
 use crate::machines::reading::machine;
@@ -13,30 +14,16 @@ use std::alloc::Global;
 
 const TEXT: &str = "fsmd 1; input a; output y; reset s; state s: goto s: y = a;";
 
-// The number of an input, where there is such an input.
-fn number_given(inputs: &Inputs, k: u32) -> Option<i128> {
-    match inputs.sort(k) {
-        None => None,
-        Some(_) => match inputs.get(k) {
-            Value::Num(n) => Some(*n),
-            Value::Arr(_) | Value::List(_) => None,
-        },
+/// What inputs give index i of input k. A number has index 0 alone.
+pub fn value_at(inputs: &Inputs, k: u32, i: i128) -> Option<i128> {
+    if inputs.sort(k).is_none() {
+        return None;
     }
-}
-
-// Whether the first input of a machine, as a run begins, is 0, and there is no second one.
-fn gives_one(alloc: Global, machine: &Machine) -> bool {
-    match Inputs::zero(alloc, machine) {
-        Ok(inputs) => number_given(&inputs, 0) == Some(0) && number_given(&inputs, 1) == None,
-        Err(_) => false,
+    match inputs.get(k) {
+        Value::Num(n) => Some(*n),
+        Value::Arr(entries) => Some(entries.get(i)),
+        Value::List(_) => None,
     }
-}
-
-#[test]
-fn what_inputs_hold(rt: HostRuntime) -> Result<(), &'static str> {
-    let machine = machine(rt.alloc(), TEXT)?;
-    assert!(rt; gives_one(rt.alloc(), &machine));
-    Ok(())
 }
 
 // The number that the first variable holds.
@@ -50,22 +37,33 @@ fn first_number(store: &Store) -> Option<i128>
 }
 
 // The number that the first variable holds as a run begins, where there is a variable.
-fn first_begins_with(alloc: Global, machine: &Machine) -> Option<i128> {
-    let Ok(inputs) = Inputs::zero(alloc, machine) else {
-        return None;
-    };
-    let Ok(store) = start(alloc, machine, &inputs) else {
-        return None;
-    };
+fn begins_with(alloc: Global, machine: &Machine, inputs: &Inputs) -> Option<i128>
+    requires { Serves (signatures_of inputs.now) machine.now }
+{
     if machine.vars().is_empty() {
         return None;
     }
+    let Ok(store) = start(alloc, machine, inputs) else {
+        return None;
+    };
     first_number(&store)
 }
 
+// Whether a run of a machine begins with 0 for its one input and in its first variable.
+fn begins_with_zero(alloc: Global, machine: &Machine) -> bool {
+    match Inputs::zero(alloc, machine) {
+        Ok(inputs) => {
+            value_at(&inputs, 0, 0) == Some(0)
+                && value_at(&inputs, 1, 0).is_none()
+                && begins_with(alloc, machine, &inputs) == Some(0)
+        }
+        Err(_) => false,
+    }
+}
+
 #[test]
-fn what_variables_hold(rt: HostRuntime) -> Result<(), &'static str> {
+fn what_inputs_and_variables_hold(rt: HostRuntime) -> Result<(), &'static str> {
     let machine = machine(rt.alloc(), TEXT)?;
-    assert!(rt; first_begins_with(rt.alloc(), &machine) == Some(0));
+    assert!(rt; begins_with_zero(rt.alloc(), &machine));
     Ok(())
 }

@@ -1,33 +1,28 @@
 //! The first stated candidate that shows a difference of two machines.
 
+use crate::machines::reading::machine;
 use fs_ast::machine::Machine;
 use fs_pair::positions::same_interface;
 use fs_trials::differences::{Found, first_difference};
 use std::alloc::Global;
 
-/// The first stated candidate that shows a difference within 1,000 steps.
-pub fn first_found(
-    alloc: Global,
-    left: &Machine,
-    right: &Machine,
-) -> Result<Option<Found>, &'static str> {
+/// The first stated candidate that shows a difference within 1,000 steps. Nothing at all where the interfaces are not the same,
+/// or there is no memory.
+pub fn first_found(alloc: Global, left: &Machine, right: &Machine) -> Option<Option<Found>> {
     let Ok(pairing) = same_interface(alloc, left, right) else {
-        return Err("other interfaces");
+        return None;
     };
-    match first_difference(alloc, left, right, &pairing, 1_000) {
-        Ok(found) => Ok(found),
-        Err(_) => Err("no memory"),
-    }
+    first_difference(alloc, left, right, &pairing, 1_000).ok()
 }
 
-/// The number of the first stated candidate that shows a difference.
-pub fn first_number(
-    alloc: Global,
-    left: &Machine,
-    right: &Machine,
-) -> Result<Option<u64>, &'static str> {
-    match first_found(alloc, left, right)? {
-        Some(found) => Ok(Some(found.j)),
-        None => Ok(None),
-    }
+// The same of a machine and that of a text.
+fn first_against(alloc: Global, left: &Machine, right: &str) -> Option<Option<Found>> {
+    let right = machine(alloc, right).ok()?;
+    first_found(alloc, left, &right)
+}
+
+/// The same of two texts' machines.
+pub fn first_of_texts(alloc: Global, left: &str, right: &str) -> Option<Option<Found>> {
+    let left = machine(alloc, left).ok()?;
+    first_against(alloc, &left, right)
 }

@@ -1,12 +1,10 @@
 //! Further candidates.
 
-use crate::candidates::first::first_found;
+use crate::calls::value_at;
+use crate::candidates::first::first_of_texts;
 use crate::machines::reading::machine;
 use fs_ast::machine::Machine;
-use fs_stores::inputs::Inputs;
-use fs_stores::values::Value;
 use fs_trials::candidates::Candidates;
-use fs_trials::differences::Found;
 use std::alloc::Global;
 
 // The pool of two of these has 10 numbers, so that further candidates come from number 100 on. Further numbers are 0 to 10,
@@ -24,31 +22,16 @@ const REGIONS: &str = "fsmd 1; input n; local i, r, d, e, f; output y; reset q0;
 state q0: goto q1: i = 0, r = 1, d = 1, e = 1, f = 1;
 state q1: when i < n goto q1: i = i + 1, r = r + d, d = d + e, e = e + f, f = f + 1; goto q0: y = r;";
 
-// What inputs give index i of input k. A number has index 0 alone.
-fn value_at(inputs: &Inputs, k: u32, i: i128) -> Option<i128> {
-    if inputs.sort(k).is_none() {
-        return None;
-    }
-    match inputs.get(k) {
-        Value::Num(n) => Some(*n),
-        Value::Arr(entries) => Some(entries.get(i)),
-        Value::List(_) => None,
-    }
-}
-
 // What further candidate j gives index i of input k of a machine.
 fn given(alloc: Global, m: &Machine, j: u64, k: u32, i: i128) -> Option<i128> {
     if j >= 256 {
         return None;
     }
-    let Ok(candidates) = Candidates::of(alloc, m, m) else {
-        return None;
-    };
-    let number = candidates.count() - 256 + j;
-    match candidates.inputs(alloc, number, m) {
-        Ok(inputs) => value_at(&inputs, k, i),
-        Err(_) => None,
-    }
+    let candidates = Candidates::of(alloc, m, m).ok()?;
+    let inputs = candidates
+        .inputs(alloc, candidates.count() - 256 + j, m)
+        .ok()?;
+    value_at(&inputs, k, i)
 }
 
 // The first, one in the middle and the last, each at two scalars and at places of an array.
@@ -82,40 +65,17 @@ fn numbers_of_further_candidates(rt: HostRuntime) -> Result<(), &'static str> {
     Ok(())
 }
 
-// The first candidate that shows a difference of a machine and that of a text.
-fn first_against(
-    alloc: Global,
-    left: &Machine,
-    right: &str,
-) -> Result<Option<Found>, &'static str> {
-    let right = machine(alloc, right)?;
-    first_found(alloc, left, &right)
-}
-
-// The same of two texts' machines.
-fn first(alloc: Global, left: &str, right: &str) -> Result<Option<Found>, &'static str> {
-    let left = machine(alloc, left)?;
-    first_against(alloc, &left, right)
-}
-
 // Whether the first candidate that shows a difference of two texts' machines is this one, and gives the first input this number.
-fn is_first(
-    alloc: Global,
-    left: &str,
-    right: &str,
-    j: u64,
-    number: i128,
-) -> Result<bool, &'static str> {
-    match first(alloc, left, right)? {
-        Some(found) => Ok(found.j == j && value_at(&found.inputs, 0, 0) == Some(number)),
-        None => Ok(false),
+fn is_first(alloc: Global, left: &str, right: &str, j: u64, number: i128) -> bool {
+    match first_of_texts(alloc, left, right) {
+        Some(Some(found)) => found.j == j && value_at(&found.inputs, 0, 0) == Some(number),
+        _ => false,
     }
 }
 
 // A loop must turn five times before the two differ. The pool is 0, 1, -1 and 2, so its 16 candidates show nothing: the second
 // of the further ones gives 6.
 #[test]
-fn only_a_further_candidate_differs(rt: HostRuntime) -> Result<(), &'static str> {
-    assert!(rt; is_first(rt.alloc(), POWERS, REGIONS, 17, 6)?);
-    Ok(())
+fn only_a_further_candidate_differs(rt: HostRuntime) {
+    assert!(rt; is_first(rt.alloc(), POWERS, REGIONS, 17, 6));
 }

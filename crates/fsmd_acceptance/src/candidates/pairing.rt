@@ -45,18 +45,10 @@ R0 with 5
 R3
 ";
 
-// Whether two machines have the positions of a text.
-fn have_positions(alloc: Global, left: &Machine, right: &Machine, text: &str) -> bool {
+// Whether the two machines have these positions.
+fn are_paired(alloc: Global, left: &Machine, right: &Machine) -> bool {
     match same_interface(alloc, left, right) {
-        Ok(pairing) => are_positions(pairing.positions(), text),
-        Err(_) => false,
-    }
-}
-
-// The same of a machine and that of a text.
-fn has_positions(alloc: Global, left: &Machine, right: &str, text: &str) -> bool {
-    match machine(alloc, right) {
-        Ok(right) => have_positions(alloc, left, &right, text),
+        Ok(pairing) => are_positions(pairing.positions(), POSITIONS),
         Err(_) => false,
     }
 }
@@ -65,6 +57,7 @@ fn has_positions(alloc: Global, left: &Machine, right: &str, text: &str) -> bool
 #[test]
 fn positions_of_two_machines(rt: HostRuntime) -> Result<(), &'static str> {
     let left = machine(rt.alloc(), LEFT)?;
-    assert!(rt; has_positions(rt.alloc(), &left, RIGHT, POSITIONS));
+    let right = machine(rt.alloc(), RIGHT)?;
+    assert!(rt; are_paired(rt.alloc(), &left, &right));
     Ok(())
 }
