@@ -7,7 +7,6 @@ use fs_base::put_all::{PutError, put_all};
 use fs_base::writers::{WriterSink, write_whole};
 use std::alloc::Global;
 use std::io::Write;
-use std::process::Abort;
 use std::{fs, io};
 
 // Whether files answer where there is a folder 'folder' and nothing else.
@@ -17,14 +16,6 @@ fn answer_beside_a_folder<F: Files>(alloc: Global, files: &mut F) -> bool {
         && load_fails(alloc, files, "missing")
         && load_fails(alloc, files, "folder")
         && files.store(alloc, "folder", b"three") == Err(StoreError::Failed)
-}
-
-#[test]
-fn files_and_folders(rt: HostRuntime) -> io::Result<()> {
-    fs::create_dir(&rt, "folder")?;
-    assert!(rt; answer_beside_a_folder(rt.alloc(), &mut DiskFiles::new(&rt)));
-    fs::remove_file(&rt, "a")?;
-    fs::remove_dir(&rt, "folder")
 }
 
 // Whether bytes that are stored are loaded within their number, and not within one less.
@@ -44,22 +35,19 @@ fn keeps<F: Files>(alloc: Global, files: &mut F, count: usize) -> bool {
 }
 
 // A file is read by parts of 8,192 bytes: none, one part, a byte more, and several parts.
-fn keep_sizes<F: Files>(rt: &impl Abort, alloc: Global, files: &mut F) {
+#[test]
+fn files_and_folders(rt: HostRuntime) -> io::Result<()> {
     for count in [0, 8_192, 8_193, 20_000] {
-        assert!(rt; keeps(alloc, files, count), "{count} bytes");
+        assert!(rt;
+            keeps(rt.alloc(), &mut DiskFiles::new(&rt), count),
+            "{count} bytes"
+        );
     }
-}
-
-#[test]
-fn sizes_of_files(rt: HostRuntime) -> io::Result<()> {
-    keep_sizes(&rt, rt.alloc(), &mut DiskFiles::new(&rt));
-    fs::remove_file(&rt, "sized")
-}
-
-#[test]
-fn standard_output(rt: HostRuntime) {
-    let mut out = WriterSink::new(io::writer(&rt));
-    assert!(rt; put_all(&mut out, b"equivalent\n") == Ok(()));
+    fs::remove_file(&rt, "sized")?;
+    fs::create_dir(&rt, "folder")?;
+    assert!(rt; answer_beside_a_folder(rt.alloc(), &mut DiskFiles::new(&rt)));
+    fs::remove_file(&rt, "a")?;
+    fs::remove_dir(&rt, "folder")
 }
 
 // A pipe that takes at most so many bytes of each write.
@@ -81,31 +69,19 @@ impl Write for NarrowPipe {
     }
 }
 
-// Whether a sink takes three bytes of a put, and all bytes by more.
-fn takes_few<W: Write>(out: &mut WriterSink<W>) -> bool {
-    out.put(b"") == Ok(0) && out.put(b"equivalent") == Ok(3) && put_all(out, b"ivalent\n") == Ok(())
-}
-
-// The same of a sink round this pipe.
+// Whether a sink round this pipe takes three bytes of a put, and all bytes by more.
 fn sink_takes_few(pipe: &mut NarrowPipe) -> bool {
     let mut out = WriterSink::new(pipe);
-    takes_few(&mut out)
+    out.put(b"") == Ok(0)
+        && out.put(b"equivalent") == Ok(3)
+        && put_all(&mut out, b"ivalent\n") == Ok(())
 }
 
 // Whether a pipe that took nothing, and takes three bytes at most, answers.
-fn pipe_takes_few(pipe: &mut NarrowPipe) -> bool {
+fn takes_few(pipe: &mut NarrowPipe) -> bool {
     sink_takes_few(pipe)
         && write_whole(pipe, b"yes\n") == Ok(())
         && pipe.taken.as_slice() == b"equivalent\nyes\n".as_slice()
-}
-
-#[test]
-fn a_pipe_that_takes_few_bytes(rt: HostRuntime) {
-    let mut pipe = NarrowPipe {
-        taken: Vec::new(rt.alloc()),
-        most: 3,
-    };
-    assert!(rt; pipe_takes_few(&mut pipe));
 }
 
 // What a sink round this pipe answers.
@@ -122,10 +98,17 @@ fn takes_none(pipe: &mut NarrowPipe) -> bool {
 }
 
 #[test]
-fn a_pipe_that_takes_none(rt: HostRuntime) {
-    let mut pipe = NarrowPipe {
+fn writers(rt: HostRuntime) {
+    let mut out = WriterSink::new(io::writer(&rt));
+    assert!(rt; put_all(&mut out, b"equivalent\n") == Ok(()));
+    let mut few = NarrowPipe {
+        taken: Vec::new(rt.alloc()),
+        most: 3,
+    };
+    assert!(rt; takes_few(&mut few));
+    let mut none = NarrowPipe {
         taken: Vec::new(rt.alloc()),
         most: 0,
     };
-    assert!(rt; takes_none(&mut pipe));
+    assert!(rt; takes_none(&mut none));
 }

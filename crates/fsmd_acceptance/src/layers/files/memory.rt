@@ -56,13 +56,6 @@ fn fail_by_a_list(alloc: Global, files: &mut MemFiles) -> bool {
         && are_found(files.get("a"), files.get("b"))
 }
 
-#[test]
-fn calls_that_fail_by_a_list(rt: HostRuntime) -> Result<(), AllocError> {
-    let mut files = MemFiles::new(rt.alloc(), vec![in rt.alloc(); 4, 5]?);
-    assert!(rt; fail_by_a_list(rt.alloc(), &mut files));
-    Ok(())
-}
-
 // Whether files without a file answer.
 fn never_fail(alloc: Global, files: &mut CleanFiles) -> bool {
     files.add("a", b"three") == Ok(())
@@ -71,24 +64,55 @@ fn never_fail(alloc: Global, files: &mut CleanFiles) -> bool {
         && are_found(files.get("a"), files.get("b"))
 }
 
+// Whether these are the names that were loaded.
+fn loaded<F: Files>(files: &RecordedFiles<F>, want: &str) -> bool {
+    let Some(names) = files.loaded() else {
+        return false;
+    };
+    let mut left = want.split_whitespace();
+    for name in names {
+        if left.next() != Some(name.as_str()) {
+            return false;
+        }
+    }
+    left.next().is_none()
+}
+
+// Whether files that hold 'three' under 'a', and whose call 4 fails, tell which were loaded.
+fn tells_which<F: Files>(alloc: Global, files: &mut RecordedFiles<F>) -> bool {
+    loaded(files, "")
+        && load_and_store(alloc, files)
+        && loaded(files, "a a a")
+        && load_fails(alloc, files, "a")
+        && load_fails(alloc, files, "b")
+        && loaded(files, "a a a a b")
+}
+
+// The same of files without a file.
+fn tells_which_of(alloc: Global, mut within: MemFiles) -> bool {
+    if within.add("a", b"three") != Ok(()) {
+        return false;
+    }
+    tells_which(alloc, &mut RecordedFiles::new(alloc, within))
+}
+
 #[test]
-fn files_without_faults(rt: HostRuntime) {
-    let mut files = CleanFiles::new(rt.alloc());
-    assert!(rt; never_fail(rt.alloc(), &mut files));
+fn files_in_memory(rt: HostRuntime) -> Result<(), AllocError> {
+    let fails = vec![in rt.alloc(); 4, 5]?;
+    assert!(rt; fail_by_a_list(rt.alloc(), &mut MemFiles::new(rt.alloc(), fails)));
+    assert!(rt; never_fail(rt.alloc(), &mut CleanFiles::new(rt.alloc())));
+    let fails = vec![in rt.alloc(); 4]?;
+    assert!(rt; tells_which_of(rt.alloc(), MemFiles::new(rt.alloc(), fails)));
+    Ok(())
 }
 
 // Whether a sink that took nothing answers.
 fn takes_all(sink: &mut CleanSink) -> bool {
-    if sink.put(b"") != Ok(0) || sink.reserve(10) != Ok(()) || sink.room() != Some(10) {
-        return false;
-    }
-    put_all(sink, b"equivalent") == Ok(()) && sink.bytes() == b"equivalent".as_slice()
-}
-
-#[test]
-fn a_sink_without_faults(rt: HostRuntime) {
-    let mut sink = CleanSink::new(rt.alloc());
-    assert!(rt; takes_all(&mut sink));
+    sink.put(b"") == Ok(0)
+        && sink.reserve(10) == Ok(())
+        && sink.room() == Some(10)
+        && put_all(sink, b"equivalent") == Ok(())
+        && sink.bytes() == b"equivalent".as_slice()
 }
 
 // Whether a sink answers this to bytes that are put, and has then taken so many.
@@ -106,49 +130,9 @@ fn takes_by_a_list(sink: &mut MemSink) -> bool {
 }
 
 #[test]
-fn puts_that_fail_by_a_list(rt: HostRuntime) -> Result<(), AllocError> {
-    let mut sink = MemSink::new(rt.alloc(), vec![in rt.alloc(); 5, 0, 3]?);
-    assert!(rt; takes_by_a_list(&mut sink));
-    Ok(())
-}
-
-// Whether these are the names that were loaded.
-fn loaded<F: Files>(files: &RecordedFiles<F>, want: &[&str]) -> bool {
-    let Some(names) = files.loaded() else {
-        return false;
-    };
-    let mut left = want.iter();
-    for name in names {
-        match left.next() {
-            Some(want) if name.as_str() == *want => {}
-            _ => return false,
-        }
-    }
-    left.next().is_none()
-}
-
-// Whether files that hold 'three' under 'a', and whose call 4 fails, tell which were loaded.
-fn tells_which<F: Files>(alloc: Global, files: &mut RecordedFiles<F>) -> bool {
-    loaded(files, &[])
-        && load_and_store(alloc, files)
-        && loaded(files, &["a", "a", "a"])
-        && load_fails(alloc, files, "a")
-        && load_fails(alloc, files, "b")
-        && loaded(files, &["a", "a", "a", "a", "b"])
-}
-
-// The same of files without a file.
-fn tells_which_of(alloc: Global, mut within: MemFiles) -> bool {
-    if within.add("a", b"three") != Ok(()) {
-        return false;
-    }
-    let mut files = RecordedFiles::new(alloc, within);
-    tells_which(alloc, &mut files)
-}
-
-#[test]
-fn files_that_tell_which_were_loaded(rt: HostRuntime) -> Result<(), AllocError> {
-    let within = MemFiles::new(rt.alloc(), vec![in rt.alloc(); 4]?);
-    assert!(rt; tells_which_of(rt.alloc(), within));
+fn sinks_in_memory(rt: HostRuntime) -> Result<(), AllocError> {
+    assert!(rt; takes_all(&mut CleanSink::new(rt.alloc())));
+    let takes = vec![in rt.alloc(); 5, 0, 3]?;
+    assert!(rt; takes_by_a_list(&mut MemSink::new(rt.alloc(), takes)));
     Ok(())
 }
