@@ -9,14 +9,6 @@ use fs_pair::positions::same_interface;
 use hls_shrink::{Chain, ChainStop};
 use std::alloc::Global;
 
-// The chain of the machine of a text.
-fn chain_of(alloc: Global, first: &str) -> Option<Chain> {
-    match machine(alloc, first) {
-        Ok(machine) => Chain::new(alloc, machine).ok(),
-        Err(_) => None,
-    }
-}
-
 // A chain with a machine behind it, by a certificate as a text, or why that machine is not added. Nothing where the interfaces
 // are not the same or the text is no certificate.
 fn with_machine(
@@ -34,35 +26,16 @@ fn with_machine(
     }
 }
 
-// The same of the machine of a text.
-fn with_link(
-    alloc: Global,
-    chain: Chain,
-    next: &str,
-    cert: &str,
-) -> Option<Result<Chain, ChainStop>> {
-    match machine(alloc, next) {
-        Ok(next) => with_machine(alloc, chain, next, cert),
-        Err(_) => None,
-    }
+// The same of the machine of a text, and nothing where the text has none.
+fn linked(alloc: Global, chain: Chain, next: &str, cert: &str) -> Option<Result<Chain, ChainStop>> {
+    let next = machine(alloc, next).ok()?;
+    with_machine(alloc, chain, next, cert)
 }
 
-// The same where the machine is added.
-fn linked(alloc: Global, chain: Chain, next: &str, cert: &str) -> Option<Chain> {
-    with_link(alloc, chain, next, cert)?.ok()
-}
-
-// The chain of the first two machines.
-fn first_link(alloc: Global) -> Option<Chain> {
-    linked(alloc, chain_of(alloc, SUM)?, PRODUCTS, SUM_TO_PRODUCTS)
-}
-
-// How many states the last machine of a chain has, if there is one.
-fn count(chain: Option<Chain>) -> Option<u32> {
-    match chain {
-        Some(chain) => Some(chain.last().state_count()),
-        None => None,
-    }
+// How many states the last machine of a chain has, where the machines are added.
+fn count(link: Option<Result<Chain, ChainStop>>) -> Option<u32> {
+    let chain = link?.ok()?;
+    Some(chain.last().state_count())
 }
 
 // The square of a sum, in two steps.
@@ -88,49 +61,49 @@ const PRODUCTS_TO_STEPS: &str = "{\"format\": 1, \"nodes\": [
  \"equations\": {\"L.y\": \"0\", \"R.a\": \"L.a\", \"R.b\": \"L.b\", \"R.t\": \"0\", \"R.y\": \"0\"}},
 {\"left\": \"done\", \"right\": \"done\", \"mode\": \"end\", \"rank\": 0, \"conds\": [], \"equations\": {\"R.y\": \"L.y\"}}]}";
 
-// The chain of three machines.
-fn second_link(alloc: Global) -> Option<Chain> {
-    linked(alloc, first_link(alloc)?, STEPS, PRODUCTS_TO_STEPS)
-}
-
-// With none, one and two links.
-#[test]
-fn two_links(rt: HostRuntime) {
-    assert!(rt; count(chain_of(rt.alloc(), SUM)) == Some(2));
-    assert!(rt; count(first_link(rt.alloc())) == Some(1));
-    assert!(rt; count(second_link(rt.alloc())) == Some(3));
-}
-
 const LACKS_B: &str = "{\"format\": 1, \"nodes\": [
 {\"left\": \"start\", \"right\": \"start\", \"mode\": \"both\", \"rank\": 0, \"conds\": [],
  \"equations\": {\"L.y\": \"0\", \"R.a\": \"L.a\", \"R.t\": \"0\", \"R.y\": \"0\"}},
 {\"left\": \"done\", \"right\": \"done\", \"mode\": \"end\", \"rank\": 0, \"conds\": [], \"equations\": {\"R.y\": \"L.y\"}}]}";
 
-// Why the second link is not added.
-fn refusal_of_second(alloc: Global) -> Option<ChainStop> {
-    with_link(alloc, first_link(alloc)?, STEPS, LACKS_B)?.err()
+// The chain of the first machine.
+fn no_link(alloc: Global) -> Option<Result<Chain, ChainStop>> {
+    let first = machine(alloc, SUM).ok()?;
+    Some(Ok(Chain::new(alloc, first).ok()?))
 }
 
-// Whether the equation of place 5 is lacking.
-fn is_at_place_5(reason: Reason) -> bool {
-    match reason {
-        Reason::Equation { place } => place == 5,
-        _ => false,
-    }
+// The chain of the first two machines.
+fn first_link(alloc: Global) -> Option<Result<Chain, ChainStop>> {
+    linked(alloc, no_link(alloc)?.ok()?, PRODUCTS, SUM_TO_PRODUCTS)
+}
+
+// The chain of three machines by this certificate, or why the third one is not added.
+fn second_link(alloc: Global, cert: &str) -> Option<Result<Chain, ChainStop>> {
+    linked(alloc, first_link(alloc)?.ok()?, STEPS, cert)
 }
 
 // Whether a link is refused since obligation 3 fails at the equation of place 5.
-fn lacks_an_equation(stop: Option<ChainStop>) -> bool {
-    match stop {
-        Some(ChainStop::Verdict(Verdict::No { obligation, reason })) => {
-            obligation == 3 && is_at_place_5(reason)
+fn lacks_an_equation(link: Option<Result<Chain, ChainStop>>) -> bool {
+    match link {
+        Some(Err(ChainStop::Verdict(Verdict::No { obligation, reason }))) => {
+            obligation == 3 && matches!(reason, Reason::Equation { place: 5 })
         }
         _ => false,
     }
 }
 
-// The third obligation is the move from the start. The positions are L.a, R.a, L.b, R.b, L.y, R.y and R.t.
+// With none, one and two links, and with an obligation that fails: the third obligation is the move from the start. The positions
+// are L.a, R.a, L.b, R.b, L.y, R.y and R.t.
 #[test]
-fn a_link_with_an_obligation_that_fails(rt: HostRuntime) {
-    assert!(rt; lacks_an_equation(refusal_of_second(rt.alloc())));
+fn links(rt: HostRuntime) {
+    assert!(rt; count(no_link(rt.alloc())) == Some(2), "no link");
+    assert!(rt; count(first_link(rt.alloc())) == Some(1), "one link");
+    assert!(rt;
+        count(second_link(rt.alloc(), PRODUCTS_TO_STEPS)) == Some(3),
+        "two links"
+    );
+    assert!(rt;
+        lacks_an_equation(second_link(rt.alloc(), LACKS_B)),
+        "a link that fails"
+    );
 }

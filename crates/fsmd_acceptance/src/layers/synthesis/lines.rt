@@ -7,7 +7,6 @@ use fs_model::parts::StateId;
 use hls_sched::arrivals::count_arrivals;
 use hls_sched::lines::{Line, firsts, is_straight, item, trace_line};
 use std::alloc::Global;
-use std::test::Fail;
 
 fn number(text: &str) -> u32 {
     text.parse::<u32>().unwrap_or(u32::MAX)
@@ -45,17 +44,31 @@ fn has_lines(alloc: Global, m: &Machine, text: &str) -> bool {
     wanted.next().unwrap_or("").is_empty()
 }
 
-// The states of a machine that stand in lines, each with how many assignments it makes.
-fn straight(alloc: Global, text: &str) -> Result<String, Fail> {
-    let machine = machine(alloc, text)?;
-    let mut states = String::new(alloc);
-    for q in 0..machine.state_count() {
-        if is_straight(&machine, StateId(q)) {
-            let count = item(&machine, StateId(q)).len();
-            states.push_str(format!(in alloc; "{q}: {count}; ")?.as_str())?;
+// How many assignments a state makes by a text, as `2: 1`, if it is named there.
+fn told(text: &str, state: u32) -> Option<usize> {
+    for part in text.split("; ") {
+        let (place, count) = part.split_once(": ").unwrap_or(("", ""));
+        if number(place) == state {
+            return Some(number(count) as usize);
         }
     }
-    Ok(states)
+    None
+}
+
+// Whether the states of a machine that stand in lines are those of a text, each with how many assignments it makes.
+fn has_states(m: &Machine, text: &str) -> bool {
+    for q in 0..m.state_count() {
+        let count = told(text, q);
+        let is_told = if is_straight(m, StateId(q)) {
+            count == Some(item(m, StateId(q)).len())
+        } else {
+            count.is_none()
+        };
+        if !is_told {
+            return false;
+        }
+    }
+    true
 }
 
 // Two branches meet in a state that no line leads into, since two states lead to it.
@@ -83,32 +96,31 @@ state s3: goto s2;";
 
 const ALONE: &str = "fsmd 1; output x; reset s0; state s0: goto s0: x = 1;";
 
-// Whether the machine of a text has these lines.
-fn leads(alloc: Global, text: &str, lines: &str) -> bool {
+// Whether the machine of a text has these lines, and these states stand in them.
+fn leads(alloc: Global, text: &str, lines: &str, states: &str) -> bool {
     match machine(alloc, text) {
-        Ok(machine) => has_lines(alloc, &machine, lines),
+        Ok(machine) => has_lines(alloc, &machine, lines) && has_states(&machine, states),
         Err(_) => false,
     }
 }
 
 #[test]
 fn lines_of_machines(rt: HostRuntime) {
-    for (text, lines) in [
-        (SOLVER, "2 3 4 5 6 7 8 9 10 to 1"),
-        (MEETING, "2 to 4; 3 to 4; 4 5 to 0"),
-        (BACKWARDS, "3 2 1 to 0"),
-        (FORKED, "1 to 2; 2 to 0; 3 to 2"),
-        (ALONE, ""),
+    for (text, lines, states) in [
+        (
+            SOLVER,
+            "2 3 4 5 6 7 8 9 10 to 1",
+            "2: 1; 3: 1; 4: 1; 5: 1; 6: 1; 7: 1; 8: 1; 9: 1; 10: 1",
+        ),
+        (
+            MEETING,
+            "2 to 4; 3 to 4; 4 5 to 0",
+            "2: 1; 3: 1; 4: 1; 5: 1; ",
+        ),
+        (BACKWARDS, "3 2 1 to 0", "1: 1; 2: 1; 3: 1"),
+        (FORKED, "1 to 2; 2 to 0; 3 to 2", "1: 1; 2: 0; 3: 0; "),
+        (ALONE, "", ""),
     ] {
-        assert!(rt; leads(rt.alloc(), text, lines), "{text}");
+        assert!(rt; leads(rt.alloc(), text, lines, states), "{text}");
     }
-}
-
-#[test]
-fn states_in_lines(rt: HostRuntime) -> Result<(), Fail> {
-    let meeting = straight(rt.alloc(), MEETING)?;
-    assert_eq!(rt; meeting.as_str(), "2: 1; 3: 1; 4: 1; 5: 1; ");
-    let forked = straight(rt.alloc(), FORKED)?;
-    assert_eq!(rt; forked.as_str(), "1: 1; 2: 0; 3: 0; ");
-    Ok(())
 }

@@ -5,28 +5,15 @@ use hls_lang::compile::compile;
 use hls_lang::program::{Program, Stmt};
 use std::alloc::{AllocError, Global};
 
-// A list of one item.
-fn alone<T: Drop>(alloc: Global, item: T) -> Result<Vec<T>, AllocError> {
-    let mut list = Vec::new(alloc);
-    list.push(item)?;
-    Ok(list)
-}
-
-// That 0 is less than 1.
-fn less() -> Guard {
-    Guard::Lit(Lit {
-        rel: Rel::Lt,
-        left: Expr::Num(0),
-        right: Expr::Num(1),
-    })
-}
-
-// A loop round a block.
+// A loop round a block, as long as 0 is less than 1.
 fn loop_round(body: Vec<Stmt>) -> Stmt {
-    let guard = less();
     Stmt::While {
         line: 1,
-        guard,
+        guard: Guard::Lit(Lit {
+            rel: Rel::Lt,
+            left: Expr::Num(0),
+            right: Expr::Num(1),
+        }),
         body,
     }
 }
@@ -35,7 +22,9 @@ fn loop_round(body: Vec<Stmt>) -> Stmt {
 fn loops(alloc: Global, depth: u32) -> Result<Vec<Stmt>, AllocError> {
     let mut body = Vec::new(alloc);
     for _ in 0..depth {
-        body = alone(alloc, loop_round(body))?;
+        let mut block = Vec::new(alloc);
+        block.push(loop_round(body))?;
+        body = block;
     }
     Ok(body)
 }
@@ -54,17 +43,13 @@ fn states(alloc: Global, program: &Program) -> Option<u32> {
 // The same of a program of loops that are so deep.
 fn states_of_loops(alloc: Global, depth: u32) -> Result<Option<u32>, AllocError> {
     let body = loops(alloc, depth)?;
-    let program = Program {
-        decls: Vec::new(alloc),
-        body,
-    };
-    Ok(states(alloc, &program))
+    let decls = Vec::new(alloc);
+    Ok(states(alloc, &Program { decls, body }))
 }
 
 // Blocks 64 deep are those of a program, and blocks 65 deep are not.
 #[test]
-fn blocks_nest_64_deep(rt: HostRuntime) -> Result<(), AllocError> {
-    assert_eq!(rt; states_of_loops(rt.alloc(), 64)?, Some(65));
-    assert_eq!(rt; states_of_loops(rt.alloc(), 65)?, None);
-    Ok(())
+fn blocks_nest_64_deep(rt: HostRuntime) {
+    assert!(rt; states_of_loops(rt.alloc(), 64) == Ok(Some(65)));
+    assert!(rt; states_of_loops(rt.alloc(), 65) == Ok(None));
 }

@@ -32,22 +32,15 @@ fn uses_from(alloc: Global, m: &Machine, from: u32) -> Result<Vec<Uses>, AllocEr
     Ok(uses)
 }
 
-// Whether a row is that of a word, and none that of `-`.
-fn is_row(row: &Option<u32>, word: &str) -> bool {
-    match row {
-        Some(row) => word.parse::<u32>().ok() == Some(*row),
-        None => word == "-",
-    }
-}
-
-// Whether the rows of a plan are those of a text, or any where that is `…`.
+// Whether each item of a plan has a row, that of a text, or any where that is `…`.
 fn has_rows(plan: &Plan, text: &str) -> bool {
     if text == "…" {
         return true;
     }
     let mut words = text.split(' ');
     for row in plan.rows.as_slice() {
-        if !is_row(row, words.next().unwrap_or("")) {
+        let word = words.next().unwrap_or("");
+        if row.is_none() || word.parse::<u32>().ok() != *row {
             return false;
         }
     }
@@ -87,15 +80,11 @@ fn plans(
     Ok(fills(alloc, effects.as_slice(), uses.as_slice(), units, text))
 }
 
-// The same of the machine of a text and a file of unit counts.
-fn holds(alloc: Global, text: &str, from: u32, counts: &str, plan: &str) -> bool {
-    let Ok(units) = read_units(alloc, counts.as_bytes()) else {
-        return false;
-    };
-    match machine(alloc, text) {
-        Ok(machine) => plans(alloc, &machine, from, &units, plan).unwrap_or(false),
-        Err(_) => false,
-    }
+// The same of the machine of a text and a file of unit counts, and nothing where one is refused.
+fn holds(alloc: Global, text: &str, from: u32, counts: &str, plan: &str) -> Option<bool> {
+    let units = read_units(alloc, counts.as_bytes()).ok()?;
+    let machine = machine(alloc, text).ok()?;
+    plans(alloc, &machine, from, &units, plan).ok()
 }
 
 // Each item reads what the one before it writes.
@@ -122,7 +111,7 @@ fn rows_of_items(rt: HostRuntime) {
         (EMITS, 1, "{}", "0 1 0 in 2, chain 2"),
     ] {
         assert!(rt;
-            holds(rt.alloc(), text, from, counts, plan),
+            holds(rt.alloc(), text, from, counts, plan) == Some(true),
             "{counts}: not {plan}"
         );
     }
