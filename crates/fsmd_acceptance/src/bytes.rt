@@ -52,7 +52,7 @@ fn bytes_that_are_no_text(rt: HostRuntime) -> Result<(), AllocError> {
     ];
     for (left, reply) in cases {
         assert!(rt;
-            is_told(rt.alloc(), "check a.fsmd b.fsmd", left, b"", reply)?,
+            is_told(rt.alloc(), "check a.fsmd b.fsmd", left, reply)?,
             "{reply}"
         );
     }

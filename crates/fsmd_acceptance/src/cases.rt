@@ -1,6 +1,5 @@
 //! Cases: what is asked of the program over files in memory, and whether it answers so.
 
-use crate::spelling::joined;
 use crate::statuses::status_of;
 use fs_base::memory::MemFiles;
 use fs_base::outside::Files;
@@ -26,76 +25,23 @@ const FAILS: usize = 7;
 
 const TAKES: usize = 8;
 
-// A part of a form whose cells are in their places, empty behind the last.
+// A part of a case, empty behind the last.
 fn part(case: &str, place: usize) -> &str {
     case.split('¦').nth(place).unwrap_or("")
 }
 
-/// Whether the program answers as a form says whose cells are in their places.
+/// Whether the program answers as a case says.
 pub fn is_answered(alloc: Global, case: &str) -> Result<bool, AllocError> {
-    let left = part(case, LEFT);
-    let (front, rest) = left.split_once('▸').unwrap_or((left, ""));
-    let text = joined(alloc, &[front, rest])?;
-    is_answered_to(alloc, case, text.as_bytes(), front)
+    is_told(alloc, case, part(case, LEFT).as_bytes(), part(case, REPLY))
 }
 
-// The same with these bytes for the left machine, and the place behind this text for `▸`.
-fn is_answered_to(alloc: Global, case: &str, left: &[u8], front: &str) -> Result<bool, AllocError> {
-    let reply = with_place(alloc, part(case, REPLY), front)?;
-    is_replied(alloc, case, left, reply.as_str())
-}
-
-// The same with this reply.
-fn is_replied(alloc: Global, case: &str, left: &[u8], reply: &str) -> Result<bool, AllocError> {
-    let cert = with_change(alloc, part(case, CERT))?;
-    is_told(alloc, case, left, cert.as_bytes(), reply)
-}
-
-// The reply with the place behind this text for `▸`.
-fn with_place(alloc: Global, reply: &str, front: &str) -> Result<String, AllocError> {
-    let (line, column) = place_behind(front);
-    let place = format!(in alloc; "{line}:{column}")?;
-    reply.replace(alloc, '▸', place.as_str())
-}
-
-// The line and the column of the byte behind this text.
-fn place_behind(text: &str) -> (usize, usize) {
-    let mut line: usize = 1;
-    let mut column: usize = 1;
-    for byte in text.as_bytes() {
-        if *byte == b'\n' {
-            line = line.saturating_add(1);
-            column = 1;
-        } else {
-            column = column.saturating_add(1);
-        }
-    }
-    (line, column)
-}
-
-// The text before `«` with what stands behind `»` in place of the piece between them, where that first stands.
-fn with_change(alloc: Global, text: &str) -> Result<String, AllocError> {
-    let Some((whole, change)) = text.split_once('«') else {
-        return String::from_str(alloc, text);
-    };
-    let (piece, other) = change.split_once('»').unwrap_or((change, ""));
-    let (front, rest) = whole.split_once(piece).unwrap_or(("no such piece", ""));
-    joined(alloc, &[front, other, rest])
-}
-
-/// The same with these bytes for the left machine and the certificate, and this reply.
-pub fn is_told(
-    alloc: Global,
-    case: &str,
-    left: &[u8],
-    cert: &[u8],
-    reply: &str,
-) -> Result<bool, AllocError> {
+/// The same with these bytes for the left machine and this reply.
+pub fn is_told(alloc: Global, case: &str, left: &[u8], reply: &str) -> Result<bool, AllocError> {
     let mut files = MemFiles::new(alloc, numbers(alloc, part(case, FAILS))?);
-    if !are_held(&mut files, case, left, cert) {
+    if !are_held(&mut files, case, left) {
         return Err(AllocError);
     }
-    is_told_over(alloc, case, &mut files, cert, reply)
+    is_told_over(alloc, case, &mut files, reply)
 }
 
 // The same over these files.
@@ -103,24 +49,23 @@ fn is_told_over(
     alloc: Global,
     case: &str,
     files: &mut MemFiles,
-    cert: &[u8],
     reply: &str,
 ) -> Result<bool, AllocError> {
     let is_put = puts_last(alloc, case, files, reply)?;
-    let stored = files.get("c.json").unwrap_or(b"");
-    if !is_put || !is_stored(stored, part(case, STORED), cert) {
-        return Ok(false);
-    }
-    Ok(part(case, FAILS).is_empty() || files.load(alloc, "a.fsmd", 1_048_576).is_err())
+    Ok(
+        is_put
+            && is_stored(files.get("c.json").unwrap_or(b""), case)
+            && (part(case, FAILS).is_empty() || files.load(alloc, "a.fsmd", 1_048_576).is_err()),
+    )
 }
 
 // Whether there is memory to add the files.
-fn are_held(files: &mut MemFiles, case: &str, left: &[u8], cert: &[u8]) -> bool {
+fn are_held(files: &mut MemFiles, case: &str, left: &[u8]) -> bool {
     let inputs = part(case, INPUTS).as_bytes();
     add_each(files, "a.fsmd p.prog", left)
         && add_each(files, "b.fsmd", part(case, RIGHT).as_bytes())
         && add_each(files, "i.json u.json m.json d.json o.fsmd", inputs)
-        && add_each(files, "c.json", cert)
+        && add_each(files, "c.json", part(case, CERT).as_bytes())
         && add_each(files, "x.fsmd x.json", b"")
 }
 
@@ -184,10 +129,10 @@ fn puts_by(
     Ok(status == status_of(reply, takes) && is_text(out.bytes(), reply))
 }
 
-// The words of a command, which a blank parts.
-fn words_of(alloc: Global, text: &str) -> Result<Vec<String>, AllocError> {
+/// The words of a command, which blanks part.
+pub fn words_of(alloc: Global, text: &str) -> Result<Vec<String>, AllocError> {
     let mut words = Vec::new(alloc);
-    for word in text.split(' ') {
+    for word in text.split_whitespace() {
         words.push(String::from_str(alloc, word)?)?;
     }
     Ok(words)
@@ -201,10 +146,11 @@ fn is_text(bytes: &[u8], text: &str) -> bool {
     }
 }
 
-// Whether the bytes are those that are wanted to be stored, where it wants others than before.
-fn is_stored(bytes: &[u8], wanted: &str, before: &[u8]) -> bool {
+// Whether the bytes are those that a case wants to be stored, where it wants others than before.
+fn is_stored(bytes: &[u8], case: &str) -> bool {
+    let wanted = part(case, STORED);
     if wanted.is_empty() {
-        bytes == before
+        bytes == part(case, CERT).as_bytes()
     } else {
         is_text(bytes, wanted)
     }

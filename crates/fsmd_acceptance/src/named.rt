@@ -1,9 +1,6 @@
 //! Machines and certificates that several tables ask about, as an engineer and as `check` write them.
 
-use crate::certificates::moved_sum::CERTIFICATE;
 use crate::machines::samples::SOLVER;
-use crate::spelling::put_text;
-use std::alloc::{AllocError, Global};
 
 // A name before each text. A certificate of a left machine that may never end has no rank that falls in its cycle; that of a
 // square says of the end no more than that the outputs are equal.
@@ -258,6 +255,9 @@ certificate of a cycle:
 {"conds":[],"equations":{"L.y":"0","R.x":"L.x","R.y":"1"},"left":"s1","mode":"left","rank":0,"right":"done"},
 {"conds":[],"equations":{"L.y":"1","R.x":"L.x","R.y":"1"},"left":"done","mode":"end","rank":0,"right":"done"}]}
 
+certificate of a sum past a test:
+{"format":1,"nodes":[{"conds":[],"equations":{"L.x":"0","L.y":"0","R.a":"L.a","R.b":"L.b","R.c":"L.c","R.x":"0","R.y":"0"},"left":"start","mode":"left","rank":0,"right":"start"},{"conds":[],"equations":{"L.x":"L.a + L.b","L.y":"0","R.a":"L.a","R.b":"L.b","R.c":"L.c","R.x":"0","R.y":"0"},"left":"s1","mode":"both","rank":0,"right":"start"},{"conds":[],"equations":{"L.x":"L.a + L.b","R.a":"L.a","R.b":"L.b","R.c":"L.c","R.x":"L.a + L.b","R.y":"L.y"},"left":"done","mode":"end","rank":0,"right":"done"}]}
+
 certificate of a sum out of a loop:
 {"format":1,"nodes":[{"conds":[],"equations":{"L.i":"0","L.s":"0","L.x":"0","L.y":"0","R.a":"L.a","R.b":"L.b","R.i":"0","R.n":"L.n","R.s":"0","R.x":"0","R.y":"0"},"left":"start","mode":"both","rank":0,"right":"start"},{"conds":[],"equations":{"L.y":"0","R.a":"L.a","R.b":"L.b","R.i":"L.i","R.n":"L.n","R.s":"L.s","R.x":"L.a + L.b","R.y":"0"},"left":"s1","mode":"both","rank":0,"right":"q1"},{"conds":["L.i <= 0"],"equations":{"L.s":"L.y","R.a":"L.a","R.b":"L.b","R.i":"L.i","R.n":"L.n","R.s":"L.y","R.x":"L.a + L.b","R.y":"L.y"},"left":"done","mode":"end","rank":0,"right":"done"}]}
 
@@ -276,24 +276,16 @@ certificate of the left alone:
 certificate of the right alone:
 {"format":1,"nodes":[{"conds":[],"equations":{"L.y":"0","R.a":"L.a","R.b":"L.b","R.y":"0"},"left":"start","mode":"left","rank":0,"right":"start"},{"conds":[],"equations":{"L.y":"L.a","R.a":"L.a","R.b":"L.b","R.y":"0"},"left":"done","mode":"right","rank":1,"right":"start"},{"conds":[],"equations":{"L.y":"L.a","R.a":"L.a","R.b":"L.b","R.y":"0"},"left":"done","mode":"right","rank":0,"right":"s1"},{"conds":[],"equations":{"L.y":"L.a","R.a":"L.a","R.b":"L.b","R.y":"L.a"},"left":"done","mode":"end","rank":0,"right":"done"}]}"#;
 
-/// A text with what each name between braces stands for in its place.
-pub fn with_names(alloc: Global, text: &str) -> Result<String, AllocError> {
-    let mut all = String::from_str(alloc, text)?;
-    put_text(alloc, &mut all, "solver", SOLVER)?;
-    put_text(
-        alloc,
-        &mut all,
-        "certificate of a sum past a test",
-        CERTIFICATE,
-    )?;
-    put_names(alloc, &mut all)?;
-    Ok(all)
-}
-
-fn put_names(alloc: Global, all: &mut String) -> Result<(), AllocError> {
-    for part in NAMED.split("\n\n") {
-        let (name, text) = part.split_once(":\n").unwrap_or((part, ""));
-        put_text(alloc, all, name, text)?;
+/// The text of a name.
+pub fn text_of(name: &str) -> Option<&'static str> {
+    if name == "solver" {
+        return Some(SOLVER);
     }
-    Ok(())
+    for part in NAMED.split("\n\n") {
+        let (this, text) = part.split_once(":\n").unwrap_or((part, ""));
+        if this == name {
+            return Some(text);
+        }
+    }
+    None
 }

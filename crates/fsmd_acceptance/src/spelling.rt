@@ -1,104 +1,94 @@
 //! What the marks of a form and of its cells stand for.
 
+use crate::named::text_of;
 use std::alloc::{AllocError, Global};
 
-/// A form with the cells of a line of the head and of a row in their places.
+/// A form with the cells of a line of the head and of a row in their places, and all other marks written out.
 pub fn fill(alloc: Global, form: &str, line: &str, row: &str) -> Result<String, AllocError> {
     let mut all = String::from_str(alloc, form)?;
-    put_rows(alloc, &mut all, line, row)?;
-    spelled(alloc, all.as_str())
-}
-
-fn put_rows(alloc: Global, all: &mut String, line: &str, row: &str) -> Result<(), AllocError> {
-    put_cells(alloc, all, line, "A B C")?;
-    put_cells(alloc, all, row, "1 2 3 4")
-}
-
-fn put_cells(alloc: Global, all: &mut String, cells: &str, marks: &str) -> Result<(), AllocError> {
-    for (mark, cell) in marks.split(' ').zip(cells.split('¦')) {
-        put_text(alloc, all, mark, cell)?;
+    for round in 0..10 {
+        all = written(alloc, all.as_str(), round, line, row)?;
     }
-    Ok(())
-}
-
-/// Puts a text in the place of its name between braces; each end of a line of the text is spelled `\n`.
-pub fn put_text(alloc: Global, all: &mut String, name: &str, text: &str) -> Result<(), AllocError> {
-    let line = text.replace(alloc, '\n', "\\n")?;
-    put_line(alloc, all, name, line.as_str())
-}
-
-fn put_line(alloc: Global, all: &mut String, name: &str, line: &str) -> Result<(), AllocError> {
-    let place = joined(alloc, &["{", name, "}"])?;
-    *all = all.as_str().replace(alloc, place.as_str(), line)?;
-    Ok(())
-}
-
-/// Adds texts, one behind the other.
-pub fn push_all(all: &mut String, texts: &[&str]) -> Result<(), AllocError> {
-    for text in texts {
-        all.push_str(text)?;
-    }
-    Ok(())
-}
-
-/// Texts one behind the other.
-pub fn joined(alloc: Global, texts: &[&str]) -> Result<String, AllocError> {
-    let mut all = String::new(alloc);
-    push_all(&mut all, texts)?;
     Ok(all)
 }
 
-fn spelled(alloc: Global, text: &str) -> Result<String, AllocError> {
-    let whole = without_escapes(alloc, text)?;
-    with_all_runs(alloc, whole.as_str())
+// A text with the marks of one round written out: a cell of the line may have marks of the row's cells, and those may have names
+// of texts.
+fn written(
+    alloc: Global,
+    text: &str,
+    round: u32,
+    line: &str,
+    row: &str,
+) -> Result<String, AllocError> {
+    match round {
+        0 | 1 | 2 => with_texts(alloc, text, line, row),
+        3 => text.replace(alloc, "\\n", "\n"),
+        4 => text.replace(alloc, "\\t", "\t"),
+        5 => text.replace(alloc, "\\r", "\r"),
+        6 => with_runs(alloc, text, "(*", "*)"),
+        7 => with_runs(alloc, text, "<<", ">>"),
+        8 => with_place(alloc, text),
+        _ => with_change(alloc, text),
+    }
 }
 
-fn without_escapes(alloc: Global, text: &str) -> Result<String, AllocError> {
-    let lines = text.replace(alloc, "\\n", "\n")?;
-    without_blanks(alloc, lines.as_str())
+// A text with what stands for each mark between braces.
+fn with_texts(alloc: Global, text: &str, line: &str, row: &str) -> Result<String, AllocError> {
+    let mut all = String::new(alloc);
+    for piece in text.split_inclusive('}') {
+        push_piece(&mut all, piece, line, row)?;
+    }
+    Ok(all)
 }
 
-fn without_blanks(alloc: Global, text: &str) -> Result<String, AllocError> {
-    let tabs = text.replace(alloc, "\\t", "\t")?;
-    tabs.as_str().replace(alloc, "\\r", "\r")
+// Adds what ends with a mark, or with no mark.
+fn push_piece(all: &mut String, piece: &str, line: &str, row: &str) -> Result<(), AllocError> {
+    let (front, mark) = piece.rsplit_once('{').unwrap_or((piece, ""));
+    match text_for(mark, line, row) {
+        Some(text) => {
+            all.push_str(front)?;
+            all.push_str(text)
+        }
+        None => all.push_str(piece),
+    }
 }
 
-// The text with each run round others, and then each of the others, written out.
-fn with_all_runs(alloc: Global, text: &str) -> Result<String, AllocError> {
-    let outer = with_runs(alloc, text, "(*", "*)")?;
-    with_runs(alloc, outer.as_str(), "<<", ">>")
+fn text_for<'a>(mark: &str, line: &'a str, row: &'a str) -> Option<&'a str> {
+    cell("A} B} C}", line, mark)
+        .or(cell("1} 2} 3} 4}", row, mark))
+        .or(text_of(mark.strip_suffix('}').unwrap_or("")))
+}
+
+// The cell that a mark stands for.
+fn cell<'a>(marks: &str, cells: &'a str, mark: &str) -> Option<&'a str> {
+    for (this, cell) in marks.split(' ').zip(cells.split('¦')) {
+        if this == mark {
+            return Some(cell);
+        }
+    }
+    None
 }
 
 /// A text with each run between these marks written out.
 pub fn with_runs(alloc: Global, text: &str, open: &str, close: &str) -> Result<String, AllocError> {
     let mut all = String::new(alloc);
-    push_runs(alloc, &mut all, text, open, close)?;
+    for piece in text.split(open) {
+        let (run, rest) = piece.split_once(close).unwrap_or(("", piece));
+        push_run(&mut all, run)?;
+        all.push_str(rest)?;
+    }
     Ok(all)
 }
 
-fn push_runs(
-    alloc: Global,
-    all: &mut String,
-    text: &str,
-    open: &str,
-    close: &str,
-) -> Result<(), AllocError> {
-    for piece in text.split(open) {
-        let (run, rest) = piece.split_once(close).unwrap_or(("", piece));
-        push_run(alloc, all, run)?;
-        all.push_str(rest)?;
-    }
-    Ok(())
-}
-
-fn push_run(alloc: Global, all: &mut String, run: &str) -> Result<(), AllocError> {
+fn push_run(all: &mut String, run: &str) -> Result<(), AllocError> {
     let (span, item) = run.split_once(':').unwrap_or(("", ""));
     if let Some(times) = span.strip_suffix(" times") {
         return push_times(all, item, number(times));
     }
     match span.strip_suffix(" of") {
         Some(span) => all.push_str(bytes_of(item, span)),
-        None => push_numbered(alloc, all, item, span),
+        None => push_numbered(all, item, span),
     }
 }
 
@@ -117,39 +107,71 @@ fn push_times(all: &mut String, item: &str, times: u32) -> Result<(), AllocError
 }
 
 // Adds the item for each number of a span, as `2 to 4`.
-fn push_numbered(
-    alloc: Global,
-    all: &mut String,
-    item: &str,
-    span: &str,
-) -> Result<(), AllocError> {
+fn push_numbered(all: &mut String, item: &str, span: &str) -> Result<(), AllocError> {
     let (first, end) = span.split_once(" to ").unwrap_or(("", ""));
     for this in number(first)..number(end) {
-        push_item(alloc, all, item, this)?;
+        push_item(all, item, this)?;
     }
     Ok(())
 }
 
 // Adds the item with a number and the next in their places.
-fn push_item(alloc: Global, all: &mut String, item: &str, this: u32) -> Result<(), AllocError> {
+fn push_item(all: &mut String, item: &str, this: u32) -> Result<(), AllocError> {
     let mut pieces = item.split('#');
     all.push_str(pieces.next().unwrap_or(""))?;
     for piece in pieces {
-        push_number(alloc, all, piece, this)?;
+        push_number(all, piece, this)?;
     }
     Ok(())
 }
 
-// Adds what stands behind a `#` for this number, and the number before it, or the next one for `+1`.
-fn push_number(alloc: Global, all: &mut String, piece: &str, this: u32) -> Result<(), AllocError> {
+// Adds this number, or the next one for `+1`, in the place of a `#`, and what stands behind.
+fn push_number(all: &mut String, piece: &str, this: u32) -> Result<(), AllocError> {
     let (number, rest) = match piece.strip_prefix("+1") {
         Some(rest) => (this.saturating_add(1), rest),
         None => (this, piece),
     };
-    let digits = format!(in alloc; "{number}{rest}")?;
-    all.push_str(digits.as_str())
+    write!(all, "{number}{rest}")
 }
 
 fn number(digits: &str) -> u32 {
     digits.parse().unwrap_or(0)
+}
+
+// A case with the place behind the first `▸` in place of the second one.
+fn with_place(alloc: Global, case: &str) -> Result<String, AllocError> {
+    let Some((front, rest)) = case.split_once('▸') else {
+        return String::from_str(alloc, case);
+    };
+    let (text, reply) = rest.split_once('▸').unwrap_or((rest, "no such place"));
+    let (_, left) = front.rsplit_once('¦').unwrap_or(("", front));
+    let (line, column) = place_behind(left);
+    format!(in alloc; "{front}{text}{line}:{column}{reply}")
+}
+
+// The line and the column of the byte behind this text.
+fn place_behind(text: &str) -> (usize, usize) {
+    let mut line: usize = 1;
+    let mut column: usize = 1;
+    for byte in text.as_bytes() {
+        if *byte == b'\n' {
+            line = line.saturating_add(1);
+            column = 1;
+        } else {
+            column = column.saturating_add(1);
+        }
+    }
+    (line, column)
+}
+
+// A case with what stands behind `»` in place of the piece between `«` and that, where it first stands in the text before.
+fn with_change(alloc: Global, case: &str) -> Result<String, AllocError> {
+    let Some((front, change)) = case.split_once('«') else {
+        return String::from_str(alloc, case);
+    };
+    let (piece, behind) = change.split_once('»').unwrap_or((change, ""));
+    let (other, tail) = behind.split_once('¦').unwrap_or((behind, ""));
+    let (front, text) = front.rsplit_once('¦').unwrap_or(("", front));
+    let (before, after) = text.split_once(piece).unwrap_or(("no such piece", ""));
+    format!(in alloc; "{front}¦{before}{other}{after}¦{tail}")
 }

@@ -1,12 +1,14 @@
 //! Words of the command line with what they ask, and words that are refused.
 
+use crate::cases::words_of;
+use crate::spelling::with_runs;
 use fsmd_words::asking::{Ask, AskError};
 use fsmd_words::words::ask;
 use std::alloc::{AllocError, Global};
 
-// Words, and what they ask.
-const TAKEN: &str =
-    r#"check a.fsmd b.fsmd¦Check { left: "a.fsmd", right: "b.fsmd", cert: None, steps: 10000 }
+// Words, and what they ask; words that are refused have no more. The longest chain is of 129 files. The empty line has no words.
+const ROWS: &str =
+    r##"check a.fsmd b.fsmd¦Check { left: "a.fsmd", right: "b.fsmd", cert: None, steps: 10000 }
 check a.fsmd b.fsmd --steps 5¦Check { left: "a.fsmd", right: "b.fsmd", cert: None, steps: 5 }
 check --steps=5 a.fsmd b.fsmd¦Check { left: "a.fsmd", right: "b.fsmd", cert: None, steps: 5 }
 check a.fsmd --cert c.json --steps 100000 b.fsmd¦Check { left: "a.fsmd", right: "b.fsmd", cert: Some("c.json"), steps: 100000 }
@@ -32,10 +34,8 @@ chain a.fsmd c.json b.fsmd¦Chain { files: ["a.fsmd", "c.json", "b.fsmd"] }
 chain a.fsmd c.json b.fsmd d.json b.fsmd¦Chain { files: ["a.fsmd", "c.json", "b.fsmd", "d.json", "b.fsmd"] }
 chain a.fsmd -- --steps -¦Chain { files: ["a.fsmd", "--steps", "-"] }
 chain -- -- check chain¦Chain { files: ["--", "check", "chain"] }
-"#;
+chain<<0 to 129: #>>¦Chain { files: ["0"<<1 to 129:, "#">>] }
 
-// Words that are refused. The first line has none.
-const REFUSED: &str = "
 trace a.fsmd
 help
 --help
@@ -99,80 +99,46 @@ chain a.fsmd c.json --steps=5
 chain a.fsmd -c.json b.fsmd
 chain a.fsmd c.json b.fsmd --help
 chain -- a.fsmd c.json
-";
+chain<<0 to 128: #>>
+chain<<0 to 130: #>>
+chain<<0 to 131: #>>
+"##;
 
-fn split(alloc: Global, text: &str) -> Result<Vec<String>, AllocError> {
-    let mut words = Vec::new(alloc);
-    for word in text.split_whitespace() {
-        words.push(String::from_str(alloc, word)?)?;
-    }
-    Ok(words)
-}
-
-// What words that blanks part ask, or why they ask nothing.
-fn answer(alloc: Global, text: &str) -> Result<String, AllocError> {
-    let words = split(alloc, text)?;
-    match ask(alloc, words.as_slice()) {
-        Ok(ask) => format!(in alloc; "{ask:?}"),
-        Err(error) => format!(in alloc; "{error:?}"),
-    }
-}
-
-// Whether words ask this, or ask nothing for this reason.
-fn is_answered(alloc: Global, words: &str, wanted: &str) -> Result<bool, AllocError> {
-    let given = answer(alloc, words)?;
+// Whether words ask what a text says.
+fn asks(alloc: Global, ask: &Ask, wanted: &str) -> Result<bool, AllocError> {
+    let given = format!(in alloc; "{ask:?}")?;
     Ok(given.as_str() == wanted)
 }
 
-#[test]
-fn words_that_are_taken(rt: HostRuntime) -> Result<(), AllocError> {
-    for row in TAKEN.lines() {
-        let (words, wanted) = row.split_once('¦').unwrap_or((row, ""));
-        assert!(rt; is_answered(rt.alloc(), words, wanted)?, "{row}");
+// Whether words in a list ask this, or nothing where they are to be refused.
+fn are_answered(alloc: Global, words: &[String], wanted: &str) -> Result<bool, AllocError> {
+    match ask(alloc, words) {
+        Ok(ask) => asks(alloc, &ask, wanted),
+        Err(AskError::Usage) => Ok(wanted == "Usage"),
+        Err(AskError::NoMemory) => Err(AllocError),
     }
-    Ok(())
+}
+
+// The same of words that blanks part.
+fn is_answered(alloc: Global, words: &str, wanted: &str) -> Result<bool, AllocError> {
+    let words = words_of(alloc, words)?;
+    are_answered(alloc, words.as_slice(), wanted)
+}
+
+// The same of the words and the answer of a row.
+fn holds(alloc: Global, row: &str) -> Result<bool, AllocError> {
+    let row = with_runs(alloc, row, "<<", ">>")?;
+    let (words, wanted) = row
+        .as_str()
+        .split_once('¦')
+        .unwrap_or((row.as_str(), "Usage"));
+    is_answered(alloc, words, wanted)
 }
 
 #[test]
-fn words_that_are_refused(rt: HostRuntime) -> Result<(), AllocError> {
-    for words in REFUSED.lines() {
-        assert!(rt; is_answered(rt.alloc(), words, "Usage")?, "{words}");
-    }
-    Ok(())
-}
-
-// The words of a chain of so many files, which are named by their numbers.
-fn words_of_chain(alloc: Global, files: usize) -> Result<Vec<String>, AllocError> {
-    let mut words = split(alloc, "chain")?;
-    for file in 0..files {
-        words.push(format!(in alloc; "{file}")?)?;
-    }
-    Ok(words)
-}
-
-fn is_last(names: &[String], name: &str) -> bool {
-    match names.last() {
-        Some(last) => last.as_str() == name,
-        None => false,
-    }
-}
-
-// Whether a chain of so many files is taken, the last of this name, or refused where that is empty.
-fn is_chain(alloc: Global, files: usize, last: &str) -> Result<bool, AllocError> {
-    let words = words_of_chain(alloc, files)?;
-    match ask(alloc, words.as_slice()) {
-        Ok(Ask::Chain { files: names }) => {
-            Ok(names.len() == files && is_last(names.as_slice(), last))
-        }
-        Ok(_) => Ok(false),
-        Err(error) => Ok(last.is_empty() && matches!(error, AskError::Usage)),
-    }
-}
-
-#[test]
-fn longest_chain(rt: HostRuntime) -> Result<(), AllocError> {
-    for (files, last) in [(129, "128"), (128, ""), (130, ""), (131, "")] {
-        assert!(rt; is_chain(rt.alloc(), files, last)?, "{files}");
+fn words_of_commands(rt: HostRuntime) -> Result<(), AllocError> {
+    for row in ROWS.lines() {
+        assert!(rt; holds(rt.alloc(), row)?, "{row}");
     }
     Ok(())
 }
