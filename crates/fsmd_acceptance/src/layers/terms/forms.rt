@@ -3,8 +3,7 @@
 //! The words are those of trees, and more: `-` stands behind two sums and `neg` behind one; `#s` is the list s and `#0` the
 //! empty one, and `<<` stands behind a list and an item.
 
-use crate::layers::terms::operators::{Operator, operator_of};
-use crate::layers::terms::trees::{Tree, from_end, operand, position, put_last, tree_of};
+use crate::layers::terms::trees::{Trees, operands, position, put_each as put_trees, put_last};
 use nf_arrays::division::{div, rem};
 use nf_arrays::pushes::push;
 use nf_arrays::reads::read;
@@ -18,11 +17,24 @@ use nf_terms::stop::NfStop;
 use nf_terms::tree::SeqBase;
 use std::alloc::Global;
 
-/// The normal form that a tree is, where it is one.
-pub fn normal(tree: Tree) -> Option<Nf> {
-    match tree {
-        Tree::Sum(sum) => Some(Nf::Num(Poly::of(sum)?)),
-        Tree::Array(array) => Some(Nf::Arr(Arr::of(array)?)),
+// The normal form that the last array is, or the last sum where there is no array.
+fn normal(trees: &mut Trees) -> Option<Nf> {
+    match trees.arrays.pop() {
+        Some(array) => Some(Nf::Arr(Arr::of(array)?)),
+        None => Some(Nf::Num(Poly::of(trees.sums.pop()?)?)),
+    }
+}
+
+/// The normal form that the tree of a text is, where it is one.
+pub fn normal_form(alloc: Global, text: &str) -> Result<Option<Nf>, NfStop> {
+    let mut trees = Trees {
+        sums: Vec::new(alloc),
+        arrays: Vec::new(alloc),
+    };
+    if put_trees(alloc, &mut trees, text) {
+        Ok(normal(&mut trees))
+    } else {
+        Err(NfStop::NoMemory)
     }
 }
 
@@ -31,13 +43,13 @@ pub fn written_form(alloc: Global, text: &str) -> Result<Nf, NfStop> {
     if text.trim().starts_with("#") {
         return form(alloc, text);
     }
-    normal(tree_of(alloc, text)?).ok_or(NfStop::NoMemory)
+    normal_form(alloc, text)?.ok_or(NfStop::NoMemory)
 }
 
 // The list, sum or array of one word.
 fn simple(alloc: Global, word: &str) -> Result<Nf, NfStop> {
     match word.strip_prefix("#") {
-        None => normal(operand(alloc, word)?).ok_or(NfStop::NoMemory),
+        None => normal_form(alloc, word)?.ok_or(NfStop::NoMemory),
         Some("0") => Ok(Nf::Seq(Seq::bare(alloc, SeqBase::Empty))),
         Some(name) => {
             let symbol = position(name).ok_or(NfStop::NoMemory)?;
@@ -46,142 +58,81 @@ fn simple(alloc: Global, word: &str) -> Result<Nf, NfStop> {
     }
 }
 
-// The sum that stands so many places before the end of a stack.
-fn sum_at(stack: &[Nf], places: usize) -> Result<&Poly, NfStop> {
-    match from_end(stack, places) {
-        Some(Nf::Num(sum)) => Ok(sum),
-        Some(Nf::Arr(_)) | Some(Nf::Seq(_)) | None => Err(NfStop::NoMemory),
-    }
-}
-
-fn array_at(stack: &[Nf], places: usize) -> Result<&Arr, NfStop> {
-    match from_end(stack, places) {
-        Some(Nf::Arr(array)) => Ok(array),
-        Some(Nf::Num(_)) | Some(Nf::Seq(_)) | None => Err(NfStop::NoMemory),
-    }
-}
-
-fn list_at(stack: &[Nf], places: usize) -> Result<&Seq, NfStop> {
-    match from_end(stack, places) {
-        Some(Nf::Seq(list)) => Ok(list),
-        Some(Nf::Num(_)) | Some(Nf::Arr(_)) | None => Err(NfStop::NoMemory),
-    }
-}
-
 // An operation on two sums.
-fn operation(alloc: Global, operator: Operator, left: &Poly, right: &Poly) -> Result<Poly, NfStop> {
-    match operator {
-        Operator::Add => add(alloc, left, right),
-        Operator::Subtract => sub(alloc, left, right),
-        Operator::Multiply => mul(alloc, left, right),
-        Operator::Divide => div(alloc, left, right),
-        _ => rem(alloc, left, right),
+fn combined(alloc: Global, word: &str, left: &Poly, right: &Poly) -> Result<Poly, NfStop> {
+    match word {
+        "+" => add(alloc, left, right),
+        "-" => sub(alloc, left, right),
+        "*" => mul(alloc, left, right),
+        "/" => div(alloc, left, right),
+        "%" => rem(alloc, left, right),
+        _ => Err(NfStop::NoMemory),
     }
 }
 
-fn combined(alloc: Global, stack: &[Nf], operator: Operator) -> Result<Poly, NfStop> {
-    let left = sum_at(stack, 2)?;
-    let right = sum_at(stack, 1)?;
-    operation(alloc, operator, left, right)
-}
-
-fn read_at(alloc: Global, stack: &[Nf]) -> Result<Poly, NfStop> {
-    let array = array_at(stack, 2)?;
-    let index = sum_at(stack, 1)?;
-    read(alloc, array, index)
-}
-
-fn written(alloc: Global, stack: &[Nf]) -> Result<Arr, NfStop> {
-    let array = array_at(stack, 3)?;
-    let index = sum_at(stack, 2)?;
-    let value = sum_at(stack, 1)?;
-    write(alloc, array, index, value)
-}
-
-fn pushed(alloc: Global, stack: &[Nf]) -> Result<Seq, NfStop> {
-    let list = list_at(stack, 2)?;
-    let item = sum_at(stack, 1)?;
-    push(alloc, list, item)
-}
-
-// The negation of the sum at the end of a stack.
-fn negated(alloc: Global, stack: &[Nf]) -> Result<Poly, NfStop> {
-    let sum = sum_at(stack, 1)?;
-    Ok(neg(alloc, sum)?)
-}
-
-// The sum that an operator makes.
-fn sum_made(alloc: Global, stack: &[Nf], operator: Operator) -> Result<Poly, NfStop> {
-    match operator {
-        Operator::Negate => negated(alloc, stack),
-        Operator::Read => read_at(alloc, stack),
-        _ => combined(alloc, stack, operator),
+// The sum that a word makes of the last forms.
+fn sum_made(alloc: Global, forms: &[Nf], word: &str) -> Result<Poly, NfStop> {
+    match (word, forms) {
+        ("neg", [.., Nf::Num(sum)]) => Ok(neg(alloc, sum)?),
+        ("[]", [.., Nf::Arr(array), Nf::Num(index)]) => read(alloc, array, index),
+        (_, [.., Nf::Num(left), Nf::Num(right)]) => combined(alloc, word, left, right),
+        _ => Err(NfStop::NoMemory),
     }
 }
 
-// What an operator makes of the end of a stack.
-fn made(alloc: Global, stack: &[Nf], operator: Operator) -> Result<Nf, NfStop> {
-    match operator {
-        Operator::Write => Ok(Nf::Arr(written(alloc, stack)?)),
-        Operator::Push => Ok(Nf::Seq(pushed(alloc, stack)?)),
-        _ => Ok(Nf::Num(sum_made(alloc, stack, operator)?)),
-    }
-}
-
-// How many forms an operator works on.
-fn operands(operator: Operator) -> usize {
-    match operator {
-        Operator::Negate => 1,
-        Operator::Write => 3,
-        _ => 2,
-    }
-}
-
-// Puts an item in the place of the last so many.
-fn replace_last<T: Drop>(stack: &mut Vec<T>, count: usize, item: T) -> Result<(), NfStop> {
-    stack.truncate(stack.len().saturating_sub(count));
-    put_last(stack, item)
-}
-
-// Puts what an operator makes in the place of what it works on.
-fn apply(alloc: Global, stack: &mut Vec<Nf>, operator: Operator) -> Result<(), NfStop> {
-    let form = made(alloc, stack.as_slice(), operator)?;
-    replace_last(stack, operands(operator), form)
-}
-
-// Puts what a name or a number is on the stack.
-fn put_simple(alloc: Global, stack: &mut Vec<Nf>, word: &str) -> Result<(), NfStop> {
-    let form = simple(alloc, word)?;
-    put_last(stack, form)
-}
-
-// Puts what each word of a text makes on the stack.
-fn make_each(alloc: Global, stack: &mut Vec<Nf>, text: &str) -> Result<(), NfStop> {
-    for word in text.split_whitespace() {
-        match operator_of(word) {
-            Some(operator) => apply(alloc, stack, operator)?,
-            None => put_simple(alloc, stack, word)?,
+// What a word makes of the last forms.
+fn made(alloc: Global, forms: &[Nf], word: &str) -> Result<Nf, NfStop> {
+    match (word, forms) {
+        ("{}", [.., Nf::Arr(array), Nf::Num(index), Nf::Num(value)]) => {
+            Ok(Nf::Arr(write(alloc, array, index, value)?))
         }
+        ("<<", [.., Nf::Seq(list), Nf::Num(item)]) => Ok(Nf::Seq(push(alloc, list, item)?)),
+        _ => Ok(Nf::Num(sum_made(alloc, forms, word)?)),
+    }
+}
+
+// Puts what a word makes in the place of what it works on.
+fn put(alloc: Global, forms: &mut Vec<Nf>, word: &str) -> Result<(), NfStop> {
+    let (first, last) = operands(word);
+    let form = match last {
+        0 => simple(alloc, word)?,
+        _ => made(alloc, forms.as_slice(), word)?,
+    };
+    forms.truncate(forms.len().saturating_sub(first).saturating_sub(last));
+    if put_last(forms, form) {
+        Ok(())
+    } else {
+        Err(NfStop::NoMemory)
+    }
+}
+
+/// Puts what each word of a text makes of the forms before it.
+pub fn put_each(alloc: Global, forms: &mut Vec<Nf>, text: &str) -> Result<(), NfStop> {
+    for word in text.split_whitespace() {
+        put(alloc, forms, word)?;
     }
     Ok(())
 }
 
 /// The normal form of a text.
 pub fn form(alloc: Global, text: &str) -> Result<Nf, NfStop> {
-    let mut stack = Vec::new(alloc);
-    make_each(alloc, &mut stack, text)?;
-    stack.pop().ok_or(NfStop::NoMemory)
+    let mut forms = Vec::new(alloc);
+    put_each(alloc, &mut forms, text)?;
+    forms.pop().ok_or(NfStop::NoMemory)
 }
 
-/// The normal sum of a text.
-pub fn sum(alloc: Global, text: &str) -> Result<Poly, NfStop> {
-    match form(alloc, text)? {
-        Nf::Num(sum) => Ok(sum),
-        Nf::Arr(_) | Nf::Seq(_) => Err(NfStop::NoMemory),
+/// Whether a form is that of a text.
+pub fn is_form(alloc: Global, found: &Nf, text: &str) -> bool {
+    match form(alloc, text) {
+        Ok(wanted) => wanted.is_same(found),
+        Err(_) => false,
     }
 }
 
-/// Whether a sum is that of a text.
-pub fn is_sum(alloc: Global, found: &Poly, text: &str) -> Result<bool, NfStop> {
-    Ok(sum(alloc, text)? == *found)
+/// Whether a form is the one whose tree a text is.
+pub fn is_written(alloc: Global, found: &Nf, text: &str) -> bool {
+    match written_form(alloc, text) {
+        Ok(wanted) => wanted.is_same(found),
+        Err(_) => false,
+    }
 }

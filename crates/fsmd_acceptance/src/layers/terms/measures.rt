@@ -1,8 +1,8 @@
 //! Sizes, depths and weights.
 
 use crate::layers::terms::forms::written_form;
+use crate::layers::terms::rows::number;
 use nf_terms::form::Nf;
-use nf_terms::stop::NfStop;
 use std::alloc::Global;
 
 // The weight of a sum, and 0 of other forms.
@@ -13,29 +13,26 @@ fn weight(form: &Nf) -> u128 {
     }
 }
 
-fn number(cell: &str) -> u128 {
-    cell.trim().parse::<u128>().unwrap_or(u128::MAX)
-}
-
 // Whether a form has the size, the depth and the weight of a text.
 fn has(form: &Nf, text: &str) -> bool {
-    let mut cells = text.split(',');
-    let size = number(cells.next().unwrap_or(""));
-    let depth = number(cells.next().unwrap_or(""));
-    size == form.size() as u128
-        && depth == form.depth() as u128
-        && number(cells.next().unwrap_or("")) == weight(form)
+    let (size, rest) = text.split_once(',').unwrap_or((text, ""));
+    let (depth, last) = rest.split_once(',').unwrap_or((rest, ""));
+    number(size) == form.size() as u128
+        && number(depth) == form.depth() as u128
+        && number(last) == weight(form)
 }
 
 /// Whether the form of a row has its size, its depth and its weight.
-pub fn has_measures(alloc: Global, row: &str) -> Result<bool, NfStop> {
+pub fn has_measures(alloc: Global, row: &str) -> bool {
     let (text, cells) = row.split_once(':').unwrap_or((row, ""));
-    let form = written_form(alloc, text)?;
-    Ok(has(&form, cells))
+    match written_form(alloc, text) {
+        Ok(form) => has(&form, cells),
+        Err(_) => false,
+    }
 }
 
 /// A text: its size, its depth, its weight.
-pub static MEASURES: &str = "measures:
+pub static TABLES: &str = "measures:
 0: 0, 0, 0
 7: 1, 0, 7
 a: 2, 0, 1

@@ -1,18 +1,18 @@
 //! Which trees are normal forms.
 
-use crate::layers::terms::forms::normal;
-use crate::layers::terms::trees::tree_of;
-use nf_terms::stop::NfStop;
+use crate::layers::terms::forms::normal_form;
 use std::alloc::Global;
 
 /// Whether the tree of a text is a normal form, or is none, as wanted.
-pub fn is_normal(alloc: Global, text: &str, wanted: bool) -> Result<bool, NfStop> {
-    let tree = tree_of(alloc, text)?;
-    Ok(normal(tree).is_some() == wanted)
+pub fn is_normal(alloc: Global, text: &str, wanted: bool) -> bool {
+    match normal_form(alloc, text) {
+        Ok(form) => form.is_some() == wanted,
+        Err(_) => false,
+    }
 }
 
-/// Rows of the kind `normal`.
-pub static NORMAL: &str = "normal:
+/// A text of each row.
+pub static TABLES: &str = "normal:
 0
 -5
 a b *
@@ -40,10 +40,8 @@ a^4095
 m~64
 @m a^4093 0 {}
 @m m~63 0 {}
-";
 
-/// Rows of the kind `not normal`.
-pub static NOT_NORMAL: &str = "not normal:
+not normal:
 b a *
 A a *
 b a +

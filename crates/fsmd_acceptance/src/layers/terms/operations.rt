@@ -1,27 +1,45 @@
 //! What operations give, and where they stop.
 
-use crate::layers::terms::forms::{form, written_form};
-use nf_sums::sums::number;
-use nf_terms::form::Nf;
+use crate::layers::terms::forms::{form, is_written};
+use crate::layers::terms::rows::number;
+use nf_sums::sums;
 use nf_terms::stop::NfStop;
 use std::alloc::Global;
 
-/// Whether a form is the one whose tree a text is.
-pub fn is_written(alloc: Global, form: &Nf, text: &str) -> Result<bool, NfStop> {
-    Ok(written_form(alloc, text)?.is_same(form))
-}
-
 /// Whether the left text gives the form whose tree is the right one, or stops as that says.
-pub fn gives(alloc: Global, row: &str) -> Result<bool, NfStop> {
+pub fn gives(alloc: Global, row: &str) -> bool {
     let (left, right) = row.split_once('=').unwrap_or((row, ""));
     match form(alloc, left) {
         Ok(given) => is_written(alloc, &given, right),
-        Err(stop) => Ok(is_event(stop, right)),
+        Err(stop) => is_event(stop, right),
     }
 }
 
-/// Rows of the kind `operation`.
-pub static SUMS: &str = "operation:
+/// Whether an event is that of a text, as `wide 1 2` or `large 1 2`.
+pub fn is_event(stop: NfStop, text: &str) -> bool {
+    let (word, left, right) = match stop {
+        NfStop::Wide { left, right } => ("wide", left, right),
+        NfStop::Large { units, depth } => ("large", units as u128, depth as u128),
+        NfStop::NoMemory => return false,
+    };
+    let (kind, numbers) = text.trim().split_once(' ').unwrap_or((text, ""));
+    let (first, second) = numbers.split_once(' ').unwrap_or((numbers, ""));
+    kind == word && number(first) == left && number(second) == right
+}
+
+/// Whether no sum is made of the number of a row, as its event says.
+pub fn is_wide(alloc: Global, row: &str) -> bool {
+    let (digits, event) = row.split_once('=').unwrap_or((row, ""));
+    let value = digits.trim().parse::<i128>().unwrap_or(0);
+    match sums::number(alloc, &value) {
+        Ok(_) => false,
+        Err(stop) => is_event(stop, event),
+    }
+}
+
+/// What an operation gives, or the first event in order; in one operation the weight, then the size, then the depth. Of `wide
+/// number`: a number, whose sum would be too wide, as the absolute value and 0 say.
+pub static TABLES: &str = "operation:
 b a + = a b +
 a a + = 2 a *
 a a - = 0
@@ -38,10 +56,8 @@ a 1 + a 1 - * = a a * -1 +
 0 a * = 0
 a b * c * b a * c * - = 0
 a b + c + d + e + b - d - = a c + e +
-";
 
-/// Rows of the kind `operation`.
-pub static DIVISIONS: &str = "operation:
+operation:
 7 2 / = 3
 -7 2 / = -3
 7 -2 / = -3
@@ -58,10 +74,8 @@ a a / = a a /
 a 1 % = a 1 %
 a b + a - 2 / = b 2 /
 a b / a b % + = a b / a b % +
-";
 
-/// Rows of the kind `operation`.
-pub static ARRAYS: &str = "operation:
+operation:
 @m 0 [] = @m 0 []
 @0 a [] = 0
 @m a 5 {} a [] = 5
@@ -81,29 +95,8 @@ pub static ARRAYS: &str = "operation:
 @m a 5 {} a b + b - [] = 5
 @m a @m a [] {} a [] = @m a []
 #0 1 << 2 << = #0 1 << 2 <<
-";
 
-/// Whether an event is that of a text, as `wide 1 2` or `large 1 2`.
-pub fn is_event(stop: NfStop, text: &str) -> bool {
-    let (kind, numbers) = text.trim().split_once(' ').unwrap_or((text, ""));
-    let (first, second) = numbers.split_once(' ').unwrap_or((numbers, ""));
-    match stop {
-        NfStop::Wide { left, right } => {
-            kind == "wide"
-                && first.parse::<u128>().ok() == Some(left)
-                && second.parse::<u128>().ok() == Some(right)
-        }
-        NfStop::Large { units, depth } => {
-            kind == "large"
-                && first.parse::<u64>().ok() == Some(units)
-                && second.parse::<u32>().ok() == Some(depth)
-        }
-        NfStop::NoMemory => false,
-    }
-}
-
-/// The first event in order; in one operation the weight, then the size, then the depth.
-pub static EVENTS: &str = "operation:
+operation:
 170141183460469231731687303715884105727 a + = wide 170141183460469231731687303715884105727 1
 170141183460469231731687303715884105727 -1 - = wide 170141183460469231731687303715884105727 1
 170141183460469231731687303715884105727 a * 2 * = wide 170141183460469231731687303715884105727 2
@@ -123,19 +116,7 @@ b m~64 % = large 196 65
 a^4094 b / = large 4099 0
 #s m~64 << = large 194 65
 #s a^4094 << = large 4097 0
-";
 
-/// Rows of the kind `wide number`: a number, whose sum would be too wide, as the absolute value and 0 say.
-pub static WIDE_NUMBERS: &str = "wide number:
+wide number:
 -170141183460469231731687303715884105728 = wide 170141183460469231731687303715884105728 0
 ";
-
-/// Whether no sum is made of the number of a row, as its event says.
-pub fn is_wide(alloc: Global, row: &str) -> Result<bool, NfStop> {
-    let (digits, event) = row.split_once('=').unwrap_or((row, ""));
-    let value = digits.trim().parse::<i128>().unwrap_or(0);
-    match number(alloc, &value) {
-        Ok(_) => Ok(false),
-        Err(stop) => Ok(is_event(stop, event)),
-    }
-}

@@ -1,8 +1,7 @@
 //! The order of terms.
 
-use crate::layers::terms::forms::form;
+use crate::layers::terms::forms::put_each;
 use nf_terms::form::Nf;
-use nf_terms::stop::NfStop;
 use std::alloc::Global;
 use std::cmp::Ordering;
 
@@ -25,21 +24,25 @@ fn stand(lower: &Nf, higher: &Nf) -> bool {
         && !lower.is_same(higher)
 }
 
-// Whether a form stands before that of a text.
-fn stands_before(alloc: Global, lower: &Nf, text: &str) -> Result<bool, NfStop> {
-    let higher = form(alloc, text)?;
-    Ok(stand(lower, &higher))
+// Whether two forms are there, and stand in this order.
+fn both_stand(forms: &[Nf]) -> bool {
+    match forms {
+        [lower, higher] => stand(lower, higher),
+        _ => false,
+    }
 }
 
 /// Whether the left form of a row stands before the right one.
-pub fn stands(alloc: Global, row: &str) -> Result<bool, NfStop> {
+pub fn stands(alloc: Global, row: &str) -> bool {
     let (left, right) = row.split_once(" < ").unwrap_or((row, ""));
-    let lower = form(alloc, left)?;
-    stands_before(alloc, &lower, right)
+    let mut forms = Vec::new(alloc);
+    put_each(alloc, &mut forms, left).is_ok()
+        && put_each(alloc, &mut forms, right).is_ok()
+        && both_stand(forms.as_slice())
 }
 
-/// Rows of the kind `order`.
-pub static RISING: &str = "order:
+/// Two forms in order.
+pub static TABLES: &str = "order:
 a < b
 b < A
 z < A

@@ -1,6 +1,6 @@
 //! Vectors, and what they give in place of symbols.
 
-use crate::layers::terms::forms::form;
+use crate::layers::terms::forms::{form, is_form};
 use crate::layers::terms::operations::is_event;
 use crate::layers::terms::trees::position;
 use nf_substitution::subst::{Subst, subst_arr, subst_poly, subst_seq};
@@ -9,23 +9,28 @@ use nf_terms::form::Nf;
 use nf_terms::stop::NfStop;
 use std::alloc::Global;
 
-// Gives the symbol of an equation its form, as `a = b 1 +`.
-fn put(alloc: Global, vector: &mut Vector, equation: &str) -> Result<(), NfStop> {
+// Gives the symbol of an equation its form, as `a = b 1 +`; an empty text is no equation.
+fn put(alloc: Global, vector: &mut Vector, equation: &str) -> bool {
     let Some((name, text)) = equation.split_once('=') else {
-        return Ok(());
+        return equation.trim().is_empty();
     };
-    let symbol = position(name.trim()).ok_or(NfStop::NoMemory)?;
-    let value = form(alloc, text)?;
-    Ok(vector.put(symbol, value)?)
+    let Some(symbol) = position(name.trim()) else {
+        return false;
+    };
+    match form(alloc, text) {
+        Ok(value) => vector.put(symbol, value).is_ok(),
+        Err(_) => false,
+    }
 }
 
-// The vector of equations between `;`.
-fn read_vector(alloc: Global, text: &str) -> Result<Vector, NfStop> {
-    let mut vector = Vector::new(alloc);
+// The same of the equations between `;`.
+fn put_each(alloc: Global, vector: &mut Vector, text: &str) -> bool {
     for equation in text.split(';') {
-        put(alloc, &mut vector, equation)?;
+        if !put(alloc, vector, equation) {
+            return false;
+        }
     }
-    Ok(vector)
+    true
 }
 
 // A form with a vector's forms in place of its symbols.
@@ -46,58 +51,45 @@ fn again(alloc: Global, form: &Nf, subst: &mut Subst) -> Result<Nf, NfStop> {
     }
 }
 
-// Whether a substitution gives a form.
-fn gives_again(alloc: Global, subst: &mut Subst, form: &Nf, wanted: &Nf) -> Result<bool, NfStop> {
-    let found = again(alloc, form, subst)?;
-    Ok(found.is_same(wanted))
-}
-
-// Whether a kept substitution gives a form twice.
-fn gives_twice(alloc: Global, subst: &mut Subst, form: &Nf, wanted: &Nf) -> Result<bool, NfStop> {
-    Ok(gives_again(alloc, subst, form, wanted)? && gives_again(alloc, subst, form, wanted)?)
-}
-
-fn kept(alloc: Global, vector: &Vector, form: &Nf, wanted: &Nf) -> Result<bool, NfStop> {
-    let mut subst = Subst::new(alloc, vector);
-    gives_twice(alloc, &mut subst, form, wanted)
-}
-
-// Whether what was found over a vector is the form of a text, which a kept substitution gives, too.
-fn is_wanted(
-    alloc: Global,
-    vector: &Vector,
-    given: &Nf,
-    found: &Nf,
-    text: &str,
-) -> Result<bool, NfStop> {
-    let wanted = form(alloc, text)?;
-    Ok(found.is_same(&wanted) && kept(alloc, vector, given, &wanted)?)
-}
-
-// Whether a form over a vector is the form of a text, or stops as that says.
-fn is_given(alloc: Global, vector: &Vector, given: &Nf, text: &str) -> Result<bool, NfStop> {
-    match substituted(alloc, given, vector) {
-        Ok(found) => is_wanted(alloc, vector, given, &found, text),
-        Err(stop) => Ok(is_event(stop, text)),
+// Whether what was found is the form of a text, or stopped as that says.
+fn is_wanted(alloc: Global, found: Result<Nf, NfStop>, text: &str) -> bool {
+    match found {
+        Ok(form) => is_form(alloc, &form, text),
+        Err(stop) => is_event(stop, text),
     }
 }
 
+// Whether a kept substitution gives the form of a text twice, or stops so.
+fn gives_twice(alloc: Global, subst: &mut Subst, given: &Nf, text: &str) -> bool {
+    is_wanted(alloc, again(alloc, given, subst), text)
+        && is_wanted(alloc, again(alloc, given, subst), text)
+}
+
+// Whether a form over a vector is the form of a text, or stops as that says, by a kept substitution, too.
+fn is_given(alloc: Global, vector: &Vector, given: &Nf, text: &str) -> bool {
+    let mut subst = Subst::new(alloc, vector);
+    is_wanted(alloc, substituted(alloc, given, vector), text)
+        && gives_twice(alloc, &mut subst, given, text)
+}
+
 // The same of the form of the one text, and the other.
-fn holds(alloc: Global, vector: &Vector, left: &str, right: &str) -> Result<bool, NfStop> {
-    let given = form(alloc, left)?;
-    is_given(alloc, vector, &given, right)
+fn holds(alloc: Global, vector: &Vector, left: &str, right: &str) -> bool {
+    match form(alloc, left) {
+        Ok(given) => is_given(alloc, vector, &given, right),
+        Err(_) => false,
+    }
 }
 
 /// Whether a row's form over its vector is its other form, or stops as that says.
-pub fn gives(alloc: Global, row: &str) -> Result<bool, NfStop> {
+pub fn gives(alloc: Global, row: &str) -> bool {
     let (equations, rest) = row.split_once('|').unwrap_or((row, ""));
     let (left, right) = rest.split_once(':').unwrap_or((rest, ""));
-    let vector = read_vector(alloc, equations)?;
-    holds(alloc, &vector, left, right)
+    let mut vector = Vector::new(alloc);
+    put_each(alloc, &mut vector, equations) && holds(alloc, &vector, left, right)
 }
 
-/// Rows of the kind `substitution`.
-pub static SUBSTITUTIONS: &str = "substitution:
+/// A vector, a text and what it becomes.
+pub static TABLES: &str = "substitution:
 a = b | a 1 + : b 1 +
 a = b ; b = a | a 2 b * - : b 2 a * -
 a = b 1 + | a a * : b b * 2 b * + 1 +
@@ -118,10 +110,8 @@ s = #0 1 << ; a = 2 | #s a << : #0 1 << 2 <<
 s = #0 | #s : #0
 a = A | #0 a a * << : #0 A A * <<
 a = b ; a = c | a : c
-";
 
-/// Rows of the kind `substitution`.
-pub static EVENTS: &str = "substitution:
+substitution:
 a = a^64 ; b = 170141183460469231731687303715884105727 | a a * 2 b * + : large 4225 0
 a = a^64 ; b = 170141183460469231731687303715884105727 | a 2 * b * c * a a * + : wide 2 170141183460469231731687303715884105727
 ";

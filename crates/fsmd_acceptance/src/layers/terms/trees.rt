@@ -5,17 +5,16 @@
 //! behind two monomials, `/` and `%` behind a dividend and a divisor, `[]` behind an array and an index, and `{}` behind an
 //! array, an index and a value. `a^3` is the product of three a, and `m~3` is m read at m read at m read at 0.
 
-use crate::layers::terms::operators::{Operator, operator_of};
 use nf_terms::atoms::{make_quotient, make_read, make_remainder};
-use nf_terms::stop::NfStop;
+use nf_terms::stop::NoMemory;
 use nf_trees::tree::{ArrTree, Atom, Base, MonoTree, PolyTree, Pos, Side};
 use std::alloc::Global;
 
-/// A sum, or an array.
+/// Sums and arrays: a word takes what it works on from the ends, and what it makes comes last.
 #[derive(Drop)]
-pub enum Tree {
-    Sum(PolyTree),
-    Array(ArrTree),
+pub struct Trees {
+    pub sums: Vec<PolyTree>,
+    pub arrays: Vec<ArrTree>,
 }
 
 /// The variable of a letter.
@@ -37,27 +36,90 @@ pub fn position(name: &str) -> Option<Pos> {
     }
 }
 
-/// Puts an item behind the others of a list.
-pub fn put_last<T: Drop>(list: &mut Vec<T>, item: T) -> Result<(), NfStop> {
-    Ok(list.push(item)?)
+/// How many arrays or lists a word works on, and how many sums behind them; a name or a number works on none.
+pub fn operands(word: &str) -> (usize, usize) {
+    match word {
+        "+" | "-" | "*" | "/" | "%" => (0, 2),
+        "neg" => (0, 1),
+        "[]" | "<<" => (1, 1),
+        "{}" => (1, 2),
+        _ => (0, 0),
+    }
 }
 
-// A list of one item.
-fn alone<T: Drop>(alloc: Global, item: T) -> Result<Vec<T>, NfStop> {
-    let mut list = Vec::new(alloc);
-    put_last(&mut list, item)?;
-    Ok(list)
+/// Puts an item behind the others of a list, where there is memory.
+pub fn put_last<T: Drop>(list: &mut Vec<T>, item: T) -> bool {
+    list.push(item).is_ok()
 }
 
-// One monomial.
-fn monomial(alloc: Global, atoms: Vec<Atom>, coefficient: i128) -> Result<PolyTree, NfStop> {
-    let monos = alone(alloc, (MonoTree { atoms }, coefficient))?;
-    Ok(PolyTree { monos })
+// Puts the sum of one monomial.
+fn put_monomial(
+    alloc: Global,
+    sums: &mut Vec<PolyTree>,
+    atoms: Vec<Atom>,
+    coefficient: i128,
+) -> bool {
+    let mut monos = Vec::new(alloc);
+    let is_put = put_last(&mut monos, (MonoTree { atoms }, coefficient));
+    put_last(sums, PolyTree { monos }) && is_put
 }
 
-// One atom.
-fn atom_alone(alloc: Global, atom: Atom) -> Result<PolyTree, NfStop> {
-    monomial(alloc, alone(alloc, atom)?, 1)
+// Puts a power of a symbol.
+fn put_power(alloc: Global, sums: &mut Vec<PolyTree>, symbol: Pos, times: u32) -> bool {
+    let mut atoms = Vec::new(alloc);
+    let mut is_put = true;
+    for _ in 0..times {
+        is_put = put_last(&mut atoms, Atom::Sym(symbol)) && is_put;
+    }
+    put_monomial(alloc, sums, atoms, 1) && is_put
+}
+
+// Puts a number; 0 has no monomial.
+fn put_number(alloc: Global, sums: &mut Vec<PolyTree>, word: &str) -> bool {
+    match word.parse::<i128>() {
+        Ok(0) => put_last(sums, zero(alloc)),
+        Ok(number) => put_monomial(alloc, sums, Vec::new(alloc), number),
+        Err(_) => word == "none" && put_monomial(alloc, sums, Vec::new(alloc), 0),
+    }
+}
+
+// Puts a symbol, a power of one or a number.
+fn put_sum(alloc: Global, sums: &mut Vec<PolyTree>, word: &str) -> bool {
+    let (name, times) = word.split_once('^').unwrap_or((word, "1"));
+    match position(name) {
+        Some(symbol) => put_power(alloc, sums, symbol, times.parse::<u32>().unwrap_or(0)),
+        None => put_number(alloc, sums, word),
+    }
+}
+
+// Puts the array of a symbol, or that of zeros.
+fn put_array(alloc: Global, arrays: &mut Vec<ArrTree>, name: &str) -> bool {
+    match position(name) {
+        Some(symbol) => put_last(arrays, bare(alloc, Base::Sym(symbol))),
+        None => name == "0" && put_last(arrays, bare(alloc, Base::Zero)),
+    }
+}
+
+// Puts so many reads of an array inside one another, round 0.
+fn put_reads(alloc: Global, trees: &mut Trees, name: &str, times: u32) -> bool {
+    let mut is_put = put_last(&mut trees.sums, zero(alloc));
+    for _ in 0..times {
+        is_put = put_array(alloc, &mut trees.arrays, name)
+            && put_atom(alloc, trees, "[]")
+            && is_put;
+    }
+    is_put
+}
+
+// Puts the sum or the array of a name or a number.
+fn put_operand(alloc: Global, trees: &mut Trees, word: &str) -> bool {
+    if let Some(name) = word.strip_prefix("@") {
+        return put_array(alloc, &mut trees.arrays, name);
+    }
+    match word.split_once('~') {
+        Some((name, times)) => put_reads(alloc, trees, name, times.parse::<u32>().unwrap_or(0)),
+        None => put_sum(alloc, &mut trees.sums, word),
+    }
 }
 
 // The sum without a monomial.
@@ -67,31 +129,6 @@ fn zero(alloc: Global) -> PolyTree {
     }
 }
 
-// A number; 0 has no monomial.
-fn number(alloc: Global, text: &str) -> Result<PolyTree, NfStop> {
-    match text.parse::<i128>() {
-        Ok(0) => Ok(zero(alloc)),
-        Ok(number) => monomial(alloc, Vec::new(alloc), number),
-        Err(_) => Err(NfStop::NoMemory),
-    }
-}
-
-// So many symbols, all the same.
-fn symbols(alloc: Global, symbol: Pos, times: u32) -> Result<Vec<Atom>, NfStop> {
-    let mut atoms = Vec::new(alloc);
-    for _ in 0..times {
-        put_last(&mut atoms, Atom::Sym(symbol))?;
-    }
-    Ok(atoms)
-}
-
-// A power of a symbol.
-fn power(alloc: Global, name: &str, times: &str) -> Result<PolyTree, NfStop> {
-    let symbol = position(name).ok_or(NfStop::NoMemory)?;
-    let times = times.parse::<u32>().unwrap_or(0);
-    monomial(alloc, symbols(alloc, symbol, times)?, 1)
-}
-
 fn bare(alloc: Global, base: Base) -> ArrTree {
     ArrTree {
         base,
@@ -99,110 +136,25 @@ fn bare(alloc: Global, base: Base) -> ArrTree {
     }
 }
 
-// An array read at an index.
-fn read(alloc: Global, array: ArrTree, index: PolyTree) -> Result<PolyTree, NfStop> {
-    atom_alone(alloc, make_read(alloc, array, index)?)
-}
-
-// So many reads of an array inside one another, round a sum.
-fn nested(alloc: Global, symbol: Pos, times: u32, sum: PolyTree) -> Result<PolyTree, NfStop> {
-    let mut so_far = sum;
-    for _ in 0..times {
-        so_far = read(alloc, bare(alloc, Base::Sym(symbol)), so_far)?;
-    }
-    Ok(so_far)
-}
-
-// The same round 0.
-fn reads(alloc: Global, name: &str, times: &str) -> Result<PolyTree, NfStop> {
-    let symbol = position(name).ok_or(NfStop::NoMemory)?;
-    let times = times.parse::<u32>().unwrap_or(0);
-    nested(alloc, symbol, times, zero(alloc))
-}
-
-// A sum of one word.
-fn sum(alloc: Global, word: &str) -> Result<PolyTree, NfStop> {
-    if let Some(symbol) = position(word) {
-        return atom_alone(alloc, Atom::Sym(symbol));
-    }
-    if word == "none" {
-        return monomial(alloc, Vec::new(alloc), 0);
-    }
-    if let Some((name, times)) = word.split_once('^') {
-        return power(alloc, name, times);
-    }
-    if let Some((name, times)) = word.split_once('~') {
-        return reads(alloc, name, times);
-    }
-    number(alloc, word)
-}
-
-/// The sum or array of one word.
-pub fn operand(alloc: Global, word: &str) -> Result<Tree, NfStop> {
-    match word.strip_prefix("@") {
-        None => Ok(Tree::Sum(sum(alloc, word)?)),
-        Some("0") => Ok(Tree::Array(bare(alloc, Base::Zero))),
-        Some(name) => {
-            let symbol = position(name).ok_or(NfStop::NoMemory)?;
-            Ok(Tree::Array(bare(alloc, Base::Sym(symbol))))
-        }
+// The last sum, and 0 where none is there.
+fn take_sum(alloc: Global, sums: &mut Vec<PolyTree>) -> PolyTree {
+    match sums.pop() {
+        Some(sum) => sum,
+        None => zero(alloc),
     }
 }
 
-/// The item of a list that stands so many places before its end.
-pub fn from_end<T>(list: &[T], places: usize) -> Option<&T> {
-    match list.len().checked_sub(places) {
-        Some(place) => list.get(place),
-        None => None,
+// The last array, and that of zeros where none is there.
+fn take_array(alloc: Global, arrays: &mut Vec<ArrTree>) -> ArrTree {
+    match arrays.pop() {
+        Some(array) => array,
+        None => bare(alloc, Base::Zero),
     }
 }
 
-// Whether a sum stands so many places before the end of a stack.
-fn has_sum(stack: &[Tree], places: usize) -> bool {
-    matches!(from_end(stack, places), Some(Tree::Sum(_)))
-}
-
-// The same of an array.
-fn has_array(stack: &[Tree], places: usize) -> bool {
-    matches!(from_end(stack, places), Some(Tree::Array(_)))
-}
-
-// Whether a stack ends with what an operator works on.
-fn has_operands(stack: &[Tree], operator: Operator) -> bool {
-    match operator {
-        Operator::Read => has_sum(stack, 1) && has_array(stack, 2),
-        Operator::Write => has_sum(stack, 1) && has_sum(stack, 2) && has_array(stack, 3),
-        _ => has_sum(stack, 1) && has_sum(stack, 2),
-    }
-}
-
-// The sum at the end of a stack, and 0 where none is there.
-fn take_sum(alloc: Global, stack: &mut Vec<Tree>) -> PolyTree {
-    match stack.pop() {
-        Some(Tree::Sum(sum)) => sum,
-        Some(Tree::Array(_)) | None => zero(alloc),
-    }
-}
-
-// The array at the end of a stack, and that of zeros where none is there.
-fn take_array(alloc: Global, stack: &mut Vec<Tree>) -> ArrTree {
-    match stack.pop() {
-        Some(Tree::Array(array)) => array,
-        Some(Tree::Sum(_)) | None => bare(alloc, Base::Zero),
-    }
-}
-
-// The one sum behind the other.
-fn joined(alloc: Global, stack: &mut Vec<Tree>) -> Result<PolyTree, NfStop> {
-    let mut right = take_sum(alloc, stack);
-    let mut left = take_sum(alloc, stack);
-    left.monos.append(&mut right.monos)?;
-    Ok(left)
-}
-
-// The last monomial of the sum at the end of a stack, and one without atoms where there is none.
-fn take_monomial(alloc: Global, stack: &mut Vec<Tree>) -> (MonoTree, i128) {
-    let mut sum = take_sum(alloc, stack);
+// The last monomial of the last sum, and one without atoms where there is none.
+fn take_monomial(alloc: Global, sums: &mut Vec<PolyTree>) -> (MonoTree, i128) {
+    let mut sum = take_sum(alloc, sums);
     match sum.monos.pop() {
         Some(mono) => mono,
         None => {
@@ -212,84 +164,72 @@ fn take_monomial(alloc: Global, stack: &mut Vec<Tree>) -> (MonoTree, i128) {
     }
 }
 
-// The atoms of one monomial behind those of the other.
-fn multiplied(alloc: Global, stack: &mut Vec<Tree>) -> Result<PolyTree, NfStop> {
-    let (mut right, factor) = take_monomial(alloc, stack);
-    let (mut left, coefficient) = take_monomial(alloc, stack);
-    left.atoms.append(&mut right.atoms)?;
-    monomial(alloc, left.atoms, coefficient.saturating_mul(factor))
+// Puts the one sum behind the other.
+fn add(alloc: Global, sums: &mut Vec<PolyTree>) -> bool {
+    let mut right = take_sum(alloc, sums);
+    let mut left = take_sum(alloc, sums);
+    let is_put = left.monos.append(&mut right.monos).is_ok();
+    put_last(sums, left) && is_put
 }
 
-// A quotient.
-fn quotient(alloc: Global, stack: &mut Vec<Tree>) -> Result<PolyTree, NfStop> {
-    let right = take_sum(alloc, stack);
-    let left = take_sum(alloc, stack);
-    atom_alone(alloc, make_quotient(alloc, left, right)?)
+// Puts the atoms of one monomial behind those of the other.
+fn multiply(alloc: Global, sums: &mut Vec<PolyTree>) -> bool {
+    let (mut right, factor) = take_monomial(alloc, sums);
+    let (mut left, coefficient) = take_monomial(alloc, sums);
+    let is_put = left.atoms.append(&mut right.atoms).is_ok();
+    put_monomial(alloc, sums, left.atoms, coefficient.saturating_mul(factor)) && is_put
 }
 
-fn remainder(alloc: Global, stack: &mut Vec<Tree>) -> Result<PolyTree, NfStop> {
-    let right = take_sum(alloc, stack);
-    let left = take_sum(alloc, stack);
-    atom_alone(alloc, make_remainder(alloc, left, right)?)
+// Puts a write behind those of the last array.
+fn write(alloc: Global, trees: &mut Trees) -> bool {
+    let value = take_sum(alloc, &mut trees.sums);
+    let index = take_sum(alloc, &mut trees.sums);
+    let mut array = take_array(alloc, &mut trees.arrays);
+    let is_put = put_last(&mut array.writes, (index, value));
+    put_last(&mut trees.arrays, array) && is_put
 }
 
-fn read_at(alloc: Global, stack: &mut Vec<Tree>) -> Result<PolyTree, NfStop> {
-    let index = take_sum(alloc, stack);
-    let array = take_array(alloc, stack);
-    read(alloc, array, index)
-}
-
-fn written(alloc: Global, stack: &mut Vec<Tree>) -> Result<Tree, NfStop> {
-    let value = take_sum(alloc, stack);
-    let index = take_sum(alloc, stack);
-    let mut array = take_array(alloc, stack);
-    put_last(&mut array.writes, (index, value))?;
-    Ok(Tree::Array(array))
-}
-
-// The sum that an operator makes. Negation and what works on lists make no tree.
-fn sum_made(alloc: Global, stack: &mut Vec<Tree>, operator: Operator) -> Result<PolyTree, NfStop> {
-    match operator {
-        Operator::Add => joined(alloc, stack),
-        Operator::Multiply => multiplied(alloc, stack),
-        Operator::Divide => quotient(alloc, stack),
-        Operator::Remainder => remainder(alloc, stack),
-        Operator::Read => read_at(alloc, stack),
-        _ => Err(NfStop::NoMemory),
+// A read, a quotient or a remainder.
+fn atom(alloc: Global, trees: &mut Trees, word: &str) -> Result<Atom, NoMemory> {
+    let right = take_sum(alloc, &mut trees.sums);
+    match word {
+        "[]" => make_read(alloc, take_array(alloc, &mut trees.arrays), right),
+        "/" => make_quotient(alloc, take_sum(alloc, &mut trees.sums), right),
+        _ => make_remainder(alloc, take_sum(alloc, &mut trees.sums), right),
     }
 }
 
-// What an operator makes.
-fn made(alloc: Global, stack: &mut Vec<Tree>, operator: Operator) -> Result<Tree, NfStop> {
-    if !has_operands(stack.as_slice(), operator) {
-        return Err(NfStop::NoMemory);
+// Puts it.
+fn put_atom(alloc: Global, trees: &mut Trees, word: &str) -> bool {
+    let Ok(atom) = atom(alloc, trees, word) else {
+        return false;
+    };
+    let mut atoms = Vec::new(alloc);
+    let is_put = put_last(&mut atoms, atom);
+    put_monomial(alloc, &mut trees.sums, atoms, 1) && is_put
+}
+
+// Puts what a word makes of the last trees. Negation and what works on lists make no tree.
+fn put(alloc: Global, trees: &mut Trees, word: &str) -> bool {
+    let (arrays, sums) = operands(word);
+    if trees.arrays.len() < arrays || trees.sums.len() < sums {
+        return false;
     }
-    match operator {
-        Operator::Write => written(alloc, stack),
-        _ => Ok(Tree::Sum(sum_made(alloc, stack, operator)?)),
+    match word {
+        "+" => add(alloc, &mut trees.sums),
+        "*" => multiply(alloc, &mut trees.sums),
+        "{}" => write(alloc, trees),
+        "[]" | "/" | "%" => put_atom(alloc, trees, word),
+        _ => put_operand(alloc, trees, word),
     }
 }
 
-// What a word makes.
-fn word_made(alloc: Global, stack: &mut Vec<Tree>, word: &str) -> Result<Tree, NfStop> {
-    match operator_of(word) {
-        Some(operator) => made(alloc, stack, operator),
-        None => operand(alloc, word),
-    }
-}
-
-// Puts what each word of a text makes on the stack.
-fn make_each(alloc: Global, stack: &mut Vec<Tree>, text: &str) -> Result<(), NfStop> {
+/// Puts what each word of a text makes of the trees before it.
+pub fn put_each(alloc: Global, trees: &mut Trees, text: &str) -> bool {
     for word in text.split_whitespace() {
-        let tree = word_made(alloc, stack, word)?;
-        put_last(stack, tree)?;
+        if !put(alloc, trees, word) {
+            return false;
+        }
     }
-    Ok(())
-}
-
-/// The tree of a text.
-pub fn tree_of(alloc: Global, text: &str) -> Result<Tree, NfStop> {
-    let mut stack = Vec::new(alloc);
-    make_each(alloc, &mut stack, text)?;
-    stack.pop().ok_or(NfStop::NoMemory)
+    true
 }
