@@ -62,18 +62,6 @@ fn made_in_box<T: Drop>(alloc: Global, made: Result<T, NoMemory>) -> Result<Box<
     put_in_box(alloc, made?)
 }
 
-// Two values that were made, each in a box of its own.
-fn both_in_boxes<T: Drop>(
-    alloc: Global,
-    left: Result<T, NoMemory>,
-    right: Result<T, NoMemory>,
-) -> Result<(Box<T>, Box<T>), NoMemory>
-    ensures left { IfOk result (λ p. left ≡ Ok p.0.value) }
-    ensures right { IfOk result (λ p. right ≡ Ok p.1.value) }
-{
-    Ok((made_in_box(alloc, left)?, made_in_box(alloc, right)?))
-}
-
 // Two values that were made.
 fn both<A: Drop, B: Drop>(
     left: Result<A, NoMemory>,
@@ -87,15 +75,14 @@ fn both<A: Drop, B: Drop>(
 
 // The expression of the same operator between other operands, where these were made.
 fn same_operator<V, W: Drop>(
-    alloc: Global,
     expr: &Expr<V>,
-    left: Result<Expr<W>, NoMemory>,
-    right: Result<Expr<W>, NoMemory>,
+    left: Result<Box<Expr<W>>, NoMemory>,
+    right: Result<Box<Expr<W>>, NoMemory>,
 ) -> Result<Expr<W>, NoMemory>
-    ensures { (a b : Term W) → IfOk left (λ e. term_by (λ x. x) e ≡ a) → IfOk right (λ e. term_by (λ x. x) e ≡ b)
+    ensures { (a b : Term W) → IfOk left (λ e. term_by (λ x. x) e.value ≡ a) → IfOk right (λ e. term_by (λ x. x) e.value ≡ b)
         → IfOk result (λ e. term_by (λ x. x) e ≡ term_with_operands (term_by (λ x. x) expr.now) a b) }
 {
-    let (left, right) = both_in_boxes(alloc, left, right)?;
+    let (left, right) = both(left, right)?;
     Ok(match expr {
         Expr::Sub(..) => Expr::Sub(left, right),
         Expr::Mul(..) => Expr::Mul(left, right),
@@ -136,15 +123,15 @@ fn test<W: Drop>(lit: Result<Lit<W>, NoMemory>) -> Result<Guard<W>, NoMemory>
 
 // The guard of the same connective between other guards, where these were made.
 fn same_connective<V, W: Drop>(
-    alloc: Global,
     guard: &Guard<V>,
-    left: Result<Guard<W>, NoMemory>,
-    right: Result<Guard<W>, NoMemory>,
+    left: Result<Box<Guard<W>>, NoMemory>,
+    right: Result<Box<Guard<W>>, NoMemory>,
 ) -> Result<Guard<W>, NoMemory>
-    ensures { (a b : terms.Guard W) → IfOk left (λ g. guard_by (λ x. x) g ≡ a) → IfOk right (λ g. guard_by (λ x. x) g ≡ b)
+    ensures { (a b : terms.Guard W) → IfOk left (λ g. guard_by (λ x. x) g.value ≡ a)
+        → IfOk right (λ g. guard_by (λ x. x) g.value ≡ b)
         → IfOk result (λ g. guard_by (λ x. x) g ≡ guard_with_parts (guard_by (λ x. x) guard.now) a b) }
 {
-    let (left, right) = both_in_boxes(alloc, left, right)?;
+    let (left, right) = both(left, right)?;
     Ok(match guard {
         Guard::Or(..) => Guard::Or(left, right),
         _ => Guard::And(left, right),
@@ -187,12 +174,11 @@ impl<V> Expr<V> {
             | Expr::Sub(a, b)
             | Expr::Mul(a, b)
             | Expr::Div(a, b)
-            | Expr::Rem(a, b) => same_operator(
-                alloc,
-                self,
-                a.copy_renamed(alloc, by),
-                b.copy_renamed(alloc, by),
-            ),
+            | Expr::Rem(a, b) => {
+                let left = made_in_box(alloc, a.copy_renamed(alloc, by));
+                let right = made_in_box(alloc, b.copy_renamed(alloc, by));
+                same_operator(self, left, right)
+            }
             Expr::Neg(a) => negative(alloc, a.copy_renamed(alloc, by)),
         }
     }
@@ -229,30 +215,25 @@ impl<V> Guard<V> {
         match self {
             Guard::Lit(lit) => test(lit.copy_renamed(alloc, by)),
             Guard::Not(a) => denial(alloc, a.copy_renamed(alloc, by)),
-            Guard::And(a, b) | Guard::Or(a, b) => same_connective(
-                alloc,
-                self,
-                a.copy_renamed(alloc, by),
-                b.copy_renamed(alloc, by),
-            ),
+            Guard::And(a, b) | Guard::Or(a, b) => {
+                let left = made_in_box(alloc, a.copy_renamed(alloc, by));
+                let right = made_in_box(alloc, b.copy_renamed(alloc, by));
+                same_connective(self, left, right)
+            }
         }
     }
 }
 
-// The write to a renamed array at an index, of a renamed value.
-fn renamed_write<V, R: Rename<V>>(
-    alloc: Global,
-    array: &V,
-    index: Expr<R::To>,
-    value: &Expr<V>,
-    by: &R,
-) -> Result<Assign<R::To>, NoMemory>
-    requires { R.can_rename by.now }
-    ensures { IfOk result
-        (λ a. assignment_by (λ x. x) a ≡ ArrayWrite (R.renamed by.now array.now) (term_by (λ x. x) index)
-        (term_over (R.renamed by.now) (term_by (λ x. x) value.now))) }
+// The write of a value to an array at an index, where these were made.
+fn write<W: Drop>(
+    index: Result<Expr<W>, NoMemory>,
+    written: Result<(W, Expr<W>), NoMemory>,
+) -> Result<Assign<W>, NoMemory>
+    ensures { (i v : Term W) (x : W) → IfOk index (λ e. term_by (λ x. x) e ≡ i) → IfOk written (λ p. p.0 ≡ x)
+        → IfOk written (λ p. term_by (λ x. x) p.1 ≡ v)
+        → IfOk result (λ a. assignment_by (λ x. x) a ≡ ArrayWrite x i v) }
 {
-    let (array, value) = rename_with_value(alloc, array, value, by)?;
+    let (index, (array, value)) = both(index, written)?;
     Ok(Assign::Put(array, index, value))
 }
 
@@ -273,8 +254,8 @@ impl<V> Assign<V> {
                 Ok(Assign::Set(x, value))
             }
             Assign::Put(x, index, value) => {
-                let index = index.copy_renamed(alloc, by)?;
-                renamed_write(alloc, x, index, value, by)
+                let index = index.copy_renamed(alloc, by);
+                write(index, rename_with_value(alloc, x, value, by))
             }
             Assign::Emit(x, value) => {
                 let (x, value) = rename_with_value(alloc, x, value, by)?;
