@@ -137,6 +137,16 @@ put_new k m same old new v absent put n =
     put_at (bytes_eq m n) (old m) (old n) (new n) v (λ t. ap old (sym ((bytes_eq-Decides m n).0 t)))
     (put n ∙ ap (λ z. cond (bytes_eq z n) (Some v) (old n)) same) absent
 
+there_at : (b : Bool) (o : Option ℕ) (v : ℕ) → (b ≡ true → is_some o ≡ true) → o ≡ cond (is_some o) o (cond b (Some v) None)
+there_at b (Some x) v h = refl
+there_at true None v h = absurd (cc (h refl))
+there_at false None v h = refl
+
+-- a name that was there
+pub put_there : (m : List ℕ) (old : List ℕ → Option ℕ) (v : ℕ) → is_some (old m) ≡ true
+    → (n : List ℕ) → old n ≡ cond (is_some (old n)) (old n) (cond (bytes_eq m n) (Some v) None)
+put_there m old v h n = there_at (bytes_eq m n) (old n) v (λ t. ap (λ k. is_some (old k)) (sym ((bytes_eq-Decides m n).0 t)) ∙ h)
+
 -- one turn over the declared names
 pub index_finds : (ds : List Declared) (i : ℕ) (x : Declared) → i < length ds → x ≡ get_or ds i x → (old new : List (List ℕ × ℕ))
     → FindsFirst old (declared_name_list (map declared_of (take i ds)))

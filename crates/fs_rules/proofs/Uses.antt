@@ -1,21 +1,28 @@
 -- Uses of two lists together.
 use Rattle.std.proofs.Common.{◌≡◌, ℕ, ◌+◌, ◌<◌, ◌≤◌, ◌==◌, length, get_or, take, drop, Bool, true, false, List, [], ◌∷◌, ◌++◌, refl, sym, ◌∙◌, ap, ap₂}
 use Rattle.std.proofs.Common.{append-nil, append_assoc, arith}
-use Rattle.std.specs.Prelude.{not, ◌&&◌, ◌||◌, map}
-use Rattle.fs_model.specs.Terms.{Assignment, Assign, ArrayWrite, Emit}
+use Rattle.std.specs.Prelude.{not, ◌&&◌, ◌||◌, map, Option, Some, None}
+use Rattle.std.specs.Option.{is_some}
+use Rattle.std.specs.List.{slice_get}
+use Rattle.fs_model.specs.declared.parts.Sort.{Sort}
+use Rattle.fs_model.specs.Terms.{Guard, Assignment, Assign, ArrayWrite, Emit}
 use Rattle.fs_model.specs.Renamed.{assignment_over}
 use Rattle.fs_model.specs.Runs.{is_scalar, is_array, is_port}
 use Rattle.std.specs.List.{list_all, list_any}
 use Rattle.std.proofs.lemmas.List.{drop_all}
+use Rattle.std.proofs.lemmas.Bool.{lt-ltb, le-ltb}
 use Rattle.std.proofs.lemmas.Bool.Decides.{nat_tests}
+use Rattle.std.proofs.lemmas.Option.{slice_get_within}
 use Rattle.fs_rules.proofs.Turns.{taken_map}
 use Rattle.std.proofs.lemmas.List.Folds.{list_all-append, list_any-append}
 use Rattle.fs_model.proofs.Booleans.{and_swap, not_or}
-use Rattle.fs_model.proofs.Lists.{map_drop_next}
+use Rattle.fs_model.proofs.Lists.{map_drop_next, slice_get-none}
 use Rattle.fs_model.specs.declared.parts.VarInfo.{VarInfo}
-use Rattle.fs_rules.specs.SoundParts.{other_sort_at, scalars_in_assignment, arrays_in_assignment, port_in, scalars_in_assignments, arrays_in_assignments}
+use Rattle.fs_rules.specs.SoundParts.{has_sort, other_sort_at, scalars_in_assignment, arrays_in_assignment, port_in, scalars_in_assignments, arrays_in_assignments}
+use Rattle.fs_rules.specs.SoundParts.{scalars_in_condition, arrays_in_condition}
 use Rattle.fs_rules.specs.SoundParts.{ports_in_assignments, emits_of, emit_count, occurs, assigned_in, all_differ}
 use Rattle.fs_rules.specs.Rules.{is_known}
+use Rattle.fs_rules.specs.declared.rules.Uses.{Uses}
 use Rattle.fs_rules.specs.Uses.{uses_of, either_of}
 
 not_both : (a b c d : Bool) → (not (a && b) || not (c && d)) ≡ not ((a && c) && (b && d))
@@ -57,8 +64,61 @@ either_line vs a b d e f = either_uses vs a b [] d e f
 pub either_terms : (vs : List VarInfo) (a b d e : List ℕ) → either_of (uses_of vs a b []) (uses_of vs d e []) ≡ uses_of vs (a ++ d) (b ++ e) []
 either_terms vs a b d e = either_uses vs a b [] d e []
 
-pub either_port : (vs : List VarInfo) (x : ℕ) (d e : List ℕ) → either_of (uses_of vs [] [] (x ∷ [])) (uses_of vs d e []) ≡ uses_of vs d e (x ∷ [])
-either_port vs x d e = either_uses vs [] [] (x ∷ []) d e []
+-- ---- one use
+
+abbrev pub told : Bool → Bool → Uses
+told unknown wrong = record { unknown = unknown; wrong_sort = wrong }
+
+known_cases : (vs : List VarInfo) (x : ℕ) (o : Option VarInfo) → slice_get vs x ≡ o → is_known vs x ≡ is_some o
+known_cases vs x None e = le-ltb x (length vs) (slice_get-none vs x e)
+known_cases vs x (Some v) e = lt-ltb x (length vs) (slice_get_within vs x v e)
+
+one_scalar : (k o : Bool) → told (not k) o ≡ told (not ((k && true) && (true && true))) ((o || false) || (false || false))
+one_scalar true true = refl
+one_scalar true false = refl
+one_scalar false true = refl
+one_scalar false false = refl
+
+one_array : (k o : Bool) → told (not k) o ≡ told (not (true && ((k && true) && true))) (false || ((o || false) || false))
+one_array true true = refl
+one_array true false = refl
+one_array false true = refl
+one_array false false = refl
+
+one_port : (k o : Bool) → told (not k) o ≡ told (not (true && (true && (k && true)))) (false || (false || (o || false)))
+one_port true true = refl
+one_port true false = refl
+one_port false true = refl
+one_port false false = refl
+
+-- what is wrong with a use, by what stands at the place
+abbrev pub use_by : (Sort → Bool) → Option VarInfo → Uses
+use_by test o = told (not (is_some o)) (has_sort (λ s. not (test s)) o)
+
+known_use : (test : Sort → Bool) (vs : List VarInfo) (x : ℕ) → use_by test (slice_get vs x) ≡ told (not (is_known vs x)) (other_sort_at test vs x)
+known_use test vs x = ap (λ k. told (not k) (other_sort_at test vs x)) (sym (known_cases vs x (slice_get vs x) refl))
+
+pub scalar_used : (vs : List VarInfo) (x : ℕ) → use_by is_scalar (slice_get vs x) ≡ uses_of vs (x ∷ []) [] []
+scalar_used vs x = known_use is_scalar vs x ∙ one_scalar (is_known vs x) (other_sort_at is_scalar vs x)
+
+pub array_used : (vs : List VarInfo) (x : ℕ) → use_by is_array (slice_get vs x) ≡ uses_of vs [] (x ∷ []) []
+array_used vs x = known_use is_array vs x ∙ one_array (is_known vs x) (other_sort_at is_array vs x)
+
+pub port_used : (vs : List VarInfo) (x : ℕ) → use_by is_port (slice_get vs x) ≡ uses_of vs [] [] (x ∷ [])
+port_used vs x = known_use is_port vs x ∙ one_port (is_known vs x) (other_sort_at is_port vs x)
+
+-- ---- uses of a part
+
+abbrev pub assigned_uses : List VarInfo → Assignment ℕ → Uses
+assigned_uses vs a = uses_of vs (scalars_in_assignment a) (arrays_in_assignment a) (port_in a)
+
+abbrev pub all_uses : List VarInfo → List (Assignment ℕ) → Uses
+all_uses vs bs = uses_of vs (scalars_in_assignments bs) (arrays_in_assignments bs) (ports_in_assignments bs)
+
+-- of assignments behind a guard
+abbrev pub guarded_uses : List VarInfo → List (Assignment ℕ) → Option (Guard ℕ) → Uses
+guarded_uses vs bs g =
+    uses_of vs (scalars_in_condition g ++ scalars_in_assignments bs) (arrays_in_condition g ++ arrays_in_assignments bs) (ports_in_assignments bs)
 
 scalars_push : (bs : List (Assignment ℕ)) (a : Assignment ℕ) → scalars_in_assignments (bs ++ a ∷ []) ≡ scalars_in_assignments bs ++ scalars_in_assignment a
 scalars_push [] a = append-nil (scalars_in_assignment a)

@@ -364,3 +364,46 @@ pub still_seen : (next : List ℕ) (cut : List Bool) (start walk end steps : ℕ
     → IsTargetWalk next cut start walk before after end steps
     → (q : ℕ) → is_some (pass_at before q) ≡ true → is_some (pass_at after q) ≡ true
 still_seen next cut start walk end steps before after w q some = let p = some_pass (pass_at before q) some in ap is_some (w.keeps q p.0 p.1)
+
+-- ---- before the first walk, and after one more
+
+pub none_more : (xs : List (Option Pass)) (q : ℕ) → ((k : ℕ) → pass_at xs k ≡ None) → pass_at (xs ++ None ∷ []) q ≡ None
+none_more [] zero none = refl
+none_more [] (suc q) none = refl
+none_more (x ∷ xs) zero none = none zero
+none_more (x ∷ xs) (suc q) none = none_more xs q (λ k. none (suc k))
+
+no_pass : {R : Type 0} (o : Option Pass) (p : Pass) → o ≡ None → o ≡ Some p → R
+no_pass None p n e = absurd (cc e)
+no_pass (Some x) p n e = absurd (cc n)
+
+-- where nothing was passed, all walks so far are settled
+none_settled : (next : List ℕ) (cut : List Bool) (passes : List (Option Pass)) → length passes ≡ length next → ((q : ℕ) → pass_at passes q ≡ None)
+    → AreSettledWalks next cut passes [] []
+none_settled next cut passes same none = record {
+  same = same;
+  known = λ q p e. no_pass (pass_at passes q) p (none q) e;
+  ends = λ q p total e g. no_pass (pass_at passes q) p (none q) e;
+  told = λ w g. absurd (cc g);
+  inside = refl;
+  uncut = λ q p e. no_pass (pass_at passes q) p (none q) e;
+  goes = λ q p e g. no_pass (pass_at passes q) p (none q) e;
+  rounds = λ k q g. absurd (cc g);
+  all = λ q p e g r. no_pass (pass_at passes q) p (none q) e;
+}
+
+pub none_settled_in : (next : List ℕ) (cut : List Bool) (passes : List (Option Pass)) (vs : List Verdict) (found : List ℕ)
+    → length passes ≡ length next → ((q : ℕ) → pass_at passes q ≡ None) → vs ≡ [] → found ≡ [] → AreSettledWalks next cut passes vs found
+none_settled_in next cut passes vs found same none e f =
+    subst (λ l. AreSettledWalks next cut passes l found) (sym e)
+    (subst (λ l. AreSettledWalks next cut passes [] l) (sym f) (none_settled next cut passes same none))
+
+-- each state up to one was seen
+pub seen_more : (cut : List Bool) (before after : List (Option Pass)) (start : ℕ)
+    → ((q : ℕ) → q < start → (is_cut cut q ≡ true) ⊎ (is_some (pass_at before q) ≡ true))
+    → ((q : ℕ) → is_some (pass_at before q) ≡ true → is_some (pass_at after q) ≡ true)
+    → (is_cut cut start ≡ true) ⊎ (is_some (pass_at after start) ≡ true)
+    → (q : ℕ) → q < start + 1 → (is_cut cut q ≡ true) ⊎ (is_some (pass_at after q) ≡ true)
+seen_more cut before after start seen keeps last q h =
+    ⊎_elim (λ at. subst (λ k. (is_cut cut k ≡ true) ⊎ (is_some (pass_at after k) ≡ true)) (sym at) last)
+    (λ apart. ⊎_elim (λ c. inl c) (λ s. inr (keeps q s)) (seen q (omega arith))) (cases_eq q start)

@@ -133,7 +133,6 @@ impl Scope<'_> {
     }
 
     // What is wrong with the uses of an assignment.
-    #[tactic(auto, using(crate::proofs::Uses::either_terms, crate::proofs::Uses::either_port))]
     fn assign_uses(&self, assign: &Assign<Name>) -> Uses
         ensures { let a = assignment_over (place_or_end (names_of self.now.vars.items)) (named_assignment assign.now) in
             result ≡ uses_of self.now.vars.items (scalars_in_assignment a) (arrays_in_assignment a) (port_in a) }
@@ -165,7 +164,6 @@ impl Scope<'_> {
     }
 
     // What is wrong with the uses of a transition.
-    #[tactic(auto, using(crate::proofs::Uses::either_line))]
     fn line_uses(&self, line: &RawLine) -> Uses
         ensures { let vs = self.now.vars.items in
             let l = transition_spelled (names_of vs) (names_stated self.now.states.now) (source_transition_of line.now) in

@@ -117,20 +117,10 @@ fn declare(alloc: Global, decl: &Decl, out: &mut Variables) -> Result<(), NoMemo
         ++ map (λ n. (decl.now.line, n)) decl.now.names.items) }
 {
     for name in &decl.names {
-        declare_one(alloc, decl, name, out)?;
+        add_variable(alloc, decl, name, &mut out.vars)?;
+        add_name(alloc, decl.line, name, &mut out.declared)?;
     }
     Ok(())
-}
-
-// Adds one variable of a declaration.
-fn declare_one(alloc: Global, decl: &Decl, name: &Name, out: &mut Variables) -> Result<(), NoMemory>
-    ensures vars { OnOk result
-        (out.new.vars.items ≡ out.old.vars.items ++ record { name = name.now; role = decl.now.role; sort = decl.now.sort } ∷ []) }
-    ensures declared { OnOk result
-        (map declared_of out.new.declared.items ≡ map declared_of out.old.declared.items ++ (decl.now.line, name.now) ∷ []) }
-{
-    add_variable(alloc, decl, name, &mut out.vars)?;
-    add_name(alloc, decl.line, name, &mut out.declared)
 }
 
 // Adds the variable of a name.

@@ -11,6 +11,7 @@ ghost use Rattle.fs_rules.specs.TargetWalks.{round_of_walk, IsTargetWalk, AreSet
 ghost use Rattle.fs_rules.specs.declared.uncut_cycles.Pass.{Pass};
 ghost use Rattle.fs_rules.specs.declared.uncut_cycles.Verdict.TheVariants.{Ends};
 
+use fs_model::memory::push_value;
 use fs_model::name::NoMemory;
 use std::alloc::Global;
 
@@ -72,7 +73,7 @@ fn none_passed(alloc: Global, count: usize) -> Result<Vec<Option<Pass>>, NoMemor
 {
     let mut out = Vec::new(alloc);
     'none: for _ in 0..count {
-        push(&mut out, None)?;
+        push_value(&mut out, None)?;
     }
     Ok(out)
 }
@@ -93,7 +94,7 @@ fn visit(next: &[usize], cut: &[bool], start: usize, walks: &mut Walks) -> Resul
     let pass = walks.passes[stop.end];
     let verdict = judge(cut[stop.end], pass, stop.steps, walks.verdicts.as_slice());
     add_round(next, stop, walk, pass, &mut walks.found)?;
-    push(&mut walks.verdicts, verdict)
+    push_value(&mut walks.verdicts, verdict)
 }
 
 // Passes states from one on, up to a cut or to a state that was passed.
@@ -180,16 +181,8 @@ fn add_trail(
 {
     let mut at = start;
     'trail: for _ in 0..steps {
-        push(found, at)?;
+        push_value(found, at)?;
         at = next[at];
     }
-    Ok(())
-}
-
-// One clause, which the proofs of the walks cite.
-fn push<T: Drop>(items: &mut Vec<T>, item: T) -> Result<(), NoMemory>
-    ensures { OnOk result (items.new.items ≡ items.old.items ++ item ∷ []) }
-{
-    items.push(item)?;
     Ok(())
 }

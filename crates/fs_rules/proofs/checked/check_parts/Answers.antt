@@ -34,3 +34,6 @@ returns-clause-first c =
     (c.in_ok-check_states.ensures
     ∙ ap (λ l. earliest two (flat_map (state_faults vars (state_names states)) (map source_state_of l))) c.as_slice.ensures.value
     ∙ ap₂ (λ (v : List VarInfo) (n : List SourceState). earliest two (flat_map (state_faults v (state_names n)) p.states)) s.vars s.stated)
+
+pub returns-clause-scope : goal.returns-clause-scope
+returns-clause-scope c = c.in_ok-scope.ensures.scope

@@ -4,10 +4,17 @@ use Rattle.fs_model.specs.View.{declaration_of, source_of, source_state_of}
 use Rattle.fs_rules.specs.declared.check.CheckRule.TheVariants.{TwiceNamed, TooMany}
 use Rattle.fs_model.specs.Limits.{most_variables, most_states}
 use Rattle.fs_rules.specs.Rules.{at_lines, declared_names, declared_states, repeated_lines, line_past_limit}
+use Rattle.fs_rules.specs.MachineOfParts.{variables_of}
 use Rattle.fs_rules.specs.FirstFault.{earliest}
 use Rattle.fs_rules.specs.Scopes.{table_faults}
 use Rattle.fs_rules.proofs.Naming.{names_noted}
 use Rattle.fs_rules.proofs.checked.declare.Goals as goal
+
+pub returns-clause-scope : goal.returns-clause-scope
+returns-clause-scope c = record {
+  vars = c.in_ok-variables.ensures.vars ∙ ap (λ ds. variables_of (map declaration_of ds)) c.as_slice.ensures.value;
+  stated = ap (map source_state_of) c.as_slice-states.ensures.value;
+}
 
 pub returns-clause-noted : goal.returns-clause-noted
 returns-clause-noted c =

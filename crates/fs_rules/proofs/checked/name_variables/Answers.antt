@@ -22,3 +22,6 @@ returns-clause-noted c =
     c.in_ok-places.ensures.noted
     ∙ ap (λ l. earliest c.args.faults.now.first (table_faults most_variables l))
     (ap (map declared_of) c.deref.ensures.value ∙ c.in_ok-variables.ensures.declared)
+
+pub returns-clause-vars : goal.returns-clause-vars
+returns-clause-vars c = c.in_ok-variables.ensures.vars

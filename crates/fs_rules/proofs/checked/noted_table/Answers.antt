@@ -13,3 +13,6 @@ returns-clause-noted c =
     let late = at_lines TooMany (line_past_limit c.args.most ns) in
     c.note_past.ensures ∙ ap (λ k. earliest k late) c.in_ok-table.ensures.noted
     ∙ sym (earliest-append c.args.faults.now.first (at_lines TwiceNamed (repeated_lines [] ns)) late)
+
+pub returns-clause-table : goal.returns-clause-table
+returns-clause-table c = c.in_ok-table.ensures.table

@@ -3,7 +3,7 @@ use Rattle.std.specs.Prelude.{None}
 use Rattle.std.specs.List.{slice_get}
 use Rattle.std.proofs.lemmas.List.{get_or_read}
 use Rattle.fs_rules.specs.TargetWalks.{is_cut, pass_at, walk_verdict, IsTargetWalk}
-use Rattle.fs_rules.proofs.Walks.{judge_safe}
+use Rattle.fs_rules.proofs.Walks.{judge_safe, start_seen, still_seen}
 use Rattle.fs_rules.proofs.Rounds.{settle_all}
 use Rattle.fs_rules.proofs.Results.{on_ok}
 use Rattle.fs_rules.proofs.uncut_cycles.visit.Goals as goal
@@ -32,11 +32,27 @@ returns-clause-settled c =
     let number : c.len-walk.result ≡ length w.verdicts.items = omega (arith, c.len-walk.ensures, w.verdicts.ok) in
     let inside : stop.end < length c.take_walk-stop.new.passes.items =
     omega (arith, c.take_walk-stop.ensures.walk.within, c.take_walk-stop.ensures.walk.same, c.requires.settled.same) in
-    on_ok c.push.result
+    on_ok c.push_value.result
     (λ e. settle_all c.args.next.now c.args.cut.now c.args.start stop.end stop.steps c.len-walk.result w.passes.items c.take_walk-stop.new.passes.items
     c.index-pass.result.now w.verdicts.items _ w.found.items _ c.judge-verdict.result number
     (get_or_read c.take_walk-stop.new.passes.items _ _ inside c.index-pass.ensures None) c.requires.graph c.requires.settled c.take_walk-stop.ensures.walk
     c.take_walk-stop.ensures.stops
     (c.judge-verdict.ensures ∙ ap (walk_verdict (is_cut c.args.cut.now stop.end) c.index-pass.result.now stop.steps) c.as_slice.ensures.value) e
     c.in_ok-add_round.ensures)
-    c.push.ensures
+    c.push_value.ensures
+
+pub returns-clause-seen : goal.returns-clause-seen
+returns-clause-seen c =
+    let stop = c.take_walk-stop.result in
+    on_ok c.push_value.result
+    (λ e. start_seen c.args.next.now c.args.cut.now c.args.start c.len-walk.result stop.end stop.steps c.args.walks.now.passes.items
+    c.take_walk-stop.new.passes.items c.take_walk-stop.ensures.walk c.take_walk-stop.ensures.stops)
+    c.push_value.ensures
+
+pub returns-clause-keeps : goal.returns-clause-keeps
+returns-clause-keeps c =
+    let stop = c.take_walk-stop.result in
+    on_ok c.push_value.result
+    (λ e. still_seen c.args.next.now c.args.cut.now c.args.start c.len-walk.result stop.end stop.steps c.args.walks.now.passes.items
+    c.take_walk-stop.new.passes.items c.take_walk-stop.ensures.walk)
+    c.push_value.ensures

@@ -5,8 +5,9 @@ use Rattle.fs_model.specs.Renamed.{assignment_over}
 use Rattle.fs_rules.specs.MachineOfParts.{place_or_end, names_of}
 use Rattle.fs_rules.specs.SoundParts.{scalars_in_assignments, arrays_in_assignments, ports_in_assignments}
 use Rattle.fs_rules.specs.Uses.{uses_of, either_of}
+use Rattle.std.proofs.lemmas.List.{take_all}
 use Rattle.fs_rules.proofs.Turns.{taken_twice}
-use Rattle.fs_rules.proofs.Uses.{uses_push}
+use Rattle.fs_rules.proofs.Uses.{all_uses, uses_push}
 use Rattle.fs_rules.proofs.scope.Scope.assigns_uses.Goals as goal
 
 pub loop-assign-preserved : goal.loop-assign-preserved
@@ -22,3 +23,10 @@ loop-assign-preserved c =
     ∙ sym
     (ap (λ l. uses_of vs (scalars_in_assignments l) (arrays_in_assignments l) (ports_in_assignments l))
     (taken_twice over named_assignment xs i x c.loop-assign-test.true c.assign-item.is))
+
+pub returns : goal.returns
+returns c =
+    let vs = c.args.self.now.vars.items in
+    c.loop-assign.invariant
+    ∙ ap (λ xs. all_uses vs (map (assignment_over (place_or_end (names_of vs))) (map named_assignment xs)))
+    (take_all c.loop-assign.assign-index c.args.assigns.now c.loop-assign-test.false)
