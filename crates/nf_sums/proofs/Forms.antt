@@ -67,7 +67,7 @@ negation_inside (Plus m c p) = ap (λ b. narrow_monomial m && b) (negation_insid
 negated_zero : (c : ℤ) → neg_ℤ c ≡ pos 0 → c ≡ pos 0
 negated_zero c e = omega (arith, ints)
 
-pub negation_ordered : (p : Polynomial) → ordered (raw_negation p) ≡ ordered p
+negation_ordered : (p : Polynomial) → ordered (raw_negation p) ≡ ordered p
 negation_ordered Zero = refl
 negation_ordered (Plus m c p) = cc (zero_again c, rises_again p, negation_ordered p)
   where
@@ -109,8 +109,8 @@ pub same_product : (x y s p q t : Polynomial) → x ≡ p → y ≡ q → t ≡ 
 same_product x y s p q t e f g h = subst (λ a. IsOrderedProduct a q t) e (subst (λ b. IsOrderedProduct x b t) f (subst (λ c. IsOrderedProduct x y c) (sym g) h))
 
 -- the merge of p and the negation of q is the form of their difference
-pub difference_form : (x y s p q : Polynomial) {t : Polynomial} → IsNormal p → IsNormal q → x ≡ p → y ≡ q → t ≡ s → IsOrderedSum x (raw_negation y) s
+pub difference_form : (x y s p q : Polynomial) {t : Polynomial} → IsNormal p → IsNormal q → x ≡ p → y ≡ raw_negation q → t ≡ s → IsOrderedSum x y s
     → weight_of p + weight_of q ≤ weight_limit → size_of p + size_of q ≤ size_limit → IsNormalFormOf t (raw_difference p q)
 difference_form x y s p q {t} m n e f g h w k =
-    sum_form p (raw_negation q) t m (negation_normal q n) (same_sum x (raw_negation y) s p (raw_negation q) t e (ap raw_negation f) g h)
-    (omega (arith, w, negation_weight q)) (omega (arith, k, negation_size q))
+    sum_form p (raw_negation q) t m (negation_normal q n) (same_sum x y s p (raw_negation q) t e f g h) (omega (arith, w, negation_weight q))
+    (omega (arith, k, negation_size q))

@@ -1,10 +1,12 @@
 -- The turns of a merge that moves the first terms of two lists.
-use Rattle.std.proofs.Common.{◌≡◌, ◌<◌, ◌≤◌, ℤ, true, Some, None, List, [], ◌∷◌, ◌++◌, map, take, drop, length, get_or, arith, refl, ap, sym, subst, ◌∙◌}
+use Rattle.std.proofs.Common.{◌≡◌, ◌+◌, ◌<◌, ◌≤◌, ℤ, true, Some, None, List, [], ◌∷◌, ◌++◌, map, take, drop, length, get_or, arith, refl, ap, sym, subst, ◌∙◌}
 use Rattle.std.proofs.lemmas.List.{map-append}
 use Rattle.std.specs.declared.cmp.Ordering.TheVariants.{Less, Equal, Greater}
 use Rattle.std.specs.Ordering.{is_lt, ordering_reverse}
 use Rattle.nf_terms.specs.View.{term_in, monomial_in}
 use Rattle.nf_terms.specs.Order.{cmp_monomial}
+use Rattle.nf_terms.specs.Measures.{weight_of}
+use Rattle.nf_terms.specs.TermLimits.{weight_limit}
 use Rattle.nf_terms.specs.Normal.{ordered}
 use Rattle.nf_terms.specs.Comparison.{monomials_total}
 use Rattle.nf_trees.specs.declared.tree.MonoTree.{MonoTree}
@@ -43,12 +45,23 @@ begun l r out a b e f h p q =
     let m : Moved l r [] l r = record { so_far = started (map term_in l) (map term_in r) p q } in
     subst (λ o. Moved l r o a b) (sym e) (subst (λ x. Moved l r [] x b) (sym f) (subst (λ y. Moved l r [] l y) (sym h) m))
 
+-- where the first terms are of one monomial, both lists have one
+pub both_there : (a b : List (MonoTree × ℤ)) → Some Equal ≡ first_order (terms_in a) (terms_in b) → (0 < length a) × (0 < length b)
+both_there [] [] e = cc e
+both_there [] (t ∷ b) e = cc e
+both_there (s ∷ a) [] e = cc e
+both_there (s ∷ a) (t ∷ b) e = (omega arith, omega arith)
+
+pub room : (l r out a b : List (MonoTree × ℤ)) → Moved l r out a b → weight_of (terms_in l) + weight_of (terms_in r) ≤ weight_limit
+    → weight_of (terms_in a) + weight_of (terms_in b) ≤ weight_limit
+room l r out a b m h = omega (arith, m.so_far.weight, h)
+
 pub ended : (l r out a b : List (MonoTree × ℤ)) → Moved l r out a b → None ≡ first_order (terms_in a) (terms_in b)
     → IsOrderedSum (terms_in l) (terms_in r) (terms_in out)
 ended l r out [] [] m e = finished (map term_in l) (map term_in r) (map term_in out) m.so_far
-ended l r out [] (t ∷ b) m e = cc
-ended l r out (s ∷ a) [] m e = cc
-ended l r out (s ∷ a) (t ∷ b) m e = cc
+ended l r out [] (t ∷ b) m e = cc e
+ended l r out (s ∷ a) [] m e = cc e
+ended l r out (s ∷ a) (t ∷ b) m e = cc e
 
 module _ (l r out : List (MonoTree × ℤ)) where
   pushed : (s : MonoTree × ℤ) (a b out' : List (MonoTree × ℤ))
@@ -60,26 +73,26 @@ module _ (l r out : List (MonoTree × ℤ)) where
 
   pub moved_left : (a b out' a' : List (MonoTree × ℤ)) → Moved l r out a b → Some Less ≡ first_order (terms_in a) (terms_in b) → out' ≡ out ++ take 1 a
       → a' ≡ drop 1 a → Moved l r out' a' b
-  moved_left [] [] out' a' m e o d = cc
-  moved_left [] (t ∷ b) out' a' m e o d = cc
+  moved_left [] [] out' a' m e o d = cc e
+  moved_left [] (t ∷ b) out' a' m e o d = cc e
   moved_left (s ∷ a) [] out' a' m e o d =
       subst (λ x. Moved l r out' x []) (sym d)
       (pushed s a [] out' (merge_left (map term_in l) (map term_in r) (map term_in out) (term_in s) (map term_in a) [] m.so_far refl) o)
   moved_left (s ∷ a) (t ∷ b) out' a' m e o d =
-      let less : cmp_monomial (monomial_in s.0) (monomial_in t.0) ≡ Less = cc in
+      let less : cmp_monomial (monomial_in s.0) (monomial_in t.0) ≡ Less = cc e in
       subst (λ x. Moved l r out' x (t ∷ b)) (sym d)
       (pushed s a (t ∷ b) out'
       (merge_left (map term_in l) (map term_in r) (map term_in out) (term_in s) (map term_in a) (map term_in (t ∷ b)) m.so_far (ap is_lt less)) o)
 
   pub moved_right : (a b out' b' : List (MonoTree × ℤ)) → Moved l r out a b → Some Greater ≡ first_order (terms_in a) (terms_in b) → out' ≡ out ++ take 1 b
       → b' ≡ drop 1 b → Moved l r out' a b'
-  moved_right [] [] out' b' m e o d = cc
-  moved_right (s ∷ a) [] out' b' m e o d = cc
+  moved_right [] [] out' b' m e o d = cc e
+  moved_right (s ∷ a) [] out' b' m e o d = cc e
   moved_right [] (t ∷ b) out' b' m e o d =
       subst (λ y. Moved l r out' [] y) (sym d)
       (pushed t [] b out' (merge_right (map term_in l) (map term_in r) (map term_in out) (term_in t) [] (map term_in b) m.so_far refl) o)
   moved_right (s ∷ a) (t ∷ b) out' b' m e o d =
-      let greater : cmp_monomial (monomial_in s.0) (monomial_in t.0) ≡ Greater = cc in
+      let greater : cmp_monomial (monomial_in s.0) (monomial_in t.0) ≡ Greater = cc e in
       let less : cmp_monomial (monomial_in t.0) (monomial_in s.0) ≡ Less = monomials_total.antisymm (monomial_in t.0) (monomial_in s.0)
       ∙ ap ordering_reverse greater in
       subst (λ y. Moved l r out' (s ∷ a) y) (sym d)
@@ -88,11 +101,11 @@ module _ (l r out : List (MonoTree × ℤ)) where
 
   pub moved_both : (a b out' a' b' : List (MonoTree × ℤ)) → Moved l r out a b → Some Equal ≡ first_order (terms_in a) (terms_in b)
       → map term_in out' ≡ map term_in out ++ joined_firsts (terms_in a) (terms_in b) → a' ≡ drop 1 a → b' ≡ drop 1 b → Moved l r out' a' b'
-  moved_both [] [] out' a' b' m e o d f = cc
-  moved_both [] (t ∷ b) out' a' b' m e o d f = cc
-  moved_both (s ∷ a) [] out' a' b' m e o d f = cc
+  moved_both [] [] out' a' b' m e o d f = cc e
+  moved_both [] (t ∷ b) out' a' b' m e o d f = cc e
+  moved_both (s ∷ a) [] out' a' b' m e o d f = cc e
   moved_both (s ∷ a) (t ∷ b) out' a' b' m e o d f =
-      let equal : cmp_monomial (monomial_in s.0) (monomial_in t.0) ≡ Equal = cc in
+      let equal : cmp_monomial (monomial_in s.0) (monomial_in t.0) ≡ Equal = cc e in
       let k : Moved l r out' a b = record {
         so_far = merge_equal (map term_in l) (map term_in r) (map term_in out) (monomial_in s.0) (monomial_in t.0) s.1 t.1 (map term_in a) (map term_in b)
             (map term_in out') m.so_far equal o;

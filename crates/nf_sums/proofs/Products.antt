@@ -208,6 +208,25 @@ only_one [] x h k e = absurd (omega arith)
 only_one (y ∷ []) x h k e = ap (λ z. z ∷ []) (sym e)
 only_one (y ∷ z ∷ l) x h k e = absurd (omega arith)
 
+last_test : (a b : Bool) → a && b && true && true ≡ true → b ≡ true
+last_test true true e = refl
+last_test true false e = e
+last_test false b e = cc e
+
+-- the monomial of a list of one term is in order
+pub one_ordered : (l : List (MonoTree × ℤ)) (x : MonoTree × ℤ) → length l ≤ 1 → 0 < length l → x ≡ get_or l 0 x → ordered (terms_in l) ≡ true
+    → ordered_monomial (monomial_in x.0) ≡ true
+one_ordered l x a b c g =
+    last_test (not (int_eq x.1 (pos 0))) (ordered_monomial (monomial_in x.0)) (ap (λ t. ordered (terms_in t)) (sym (only_one l x a b c)) ∙ g)
+
+-- the coefficients of two lists of one term weigh what the lists do
+pub ones_narrow : (l r : List (MonoTree × ℤ)) (x y : MonoTree × ℤ) → length l ≤ 1 → 0 < length l → x ≡ get_or l 0 x → length r ≤ 1 → 0 < length r
+    → y ≡ get_or r 0 y → weight_of (terms_in l) * weight_of (terms_in r) ≤ weight_limit → unsigned_abs x.1 * unsigned_abs y.1 ≤ weight_limit
+ones_narrow l r x y a b c a' b' c' h =
+    let i : weight_of (terms_in l) ≡ unsigned_abs x.1 = omega (arith, ap (λ t. weight_of (terms_in t)) (only_one l x a b c)) in
+    let j : weight_of (terms_in r) ≡ unsigned_abs y.1 = omega (arith, ap (λ t. weight_of (terms_in t)) (only_one r y a' b' c')) in
+    subst (λ n. n * unsigned_abs y.1 ≤ weight_limit) i (subst (λ n. weight_of (terms_in l) * n ≤ weight_limit) j h)
+
 -- the product of two lists of one term
 pub single_product : (l r old out : List (MonoTree × ℤ)) (x y : MonoTree × ℤ) (k : Monomial) (e : ℤ) → length l ≤ 1 → 0 < length l → x ≡ get_or l 0 x
     → length r ≤ 1 → 0 < length r → y ≡ get_or r 0 y → ordered (terms_in l) ≡ true → ordered (terms_in r) ≡ true

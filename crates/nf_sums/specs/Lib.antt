@@ -3,4 +3,3 @@ pub mod Operations
 pub mod Accumulators
 pub mod OrderedSums
 pub mod Sameness
-pub mod Signs

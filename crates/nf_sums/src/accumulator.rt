@@ -1,6 +1,6 @@
 //! Sums that grow.
 
-ghost use Rattle.std.specs.Prelude.{◌≡◌, ◌+◌, ◌^◌, ◌≤◌, ◌<◌, ◌+ℤ◌, pos, true, map, take, drop, length, unsigned_abs, IfOk, OnOk};
+ghost use Rattle.std.specs.Prelude.{◌≡◌, ◌+◌, ◌^◌, ◌≤◌, ◌<◌, ◌+ℤ◌, pos, true, map, take, drop, length, unsigned_abs, OnOk};
 ghost use Rattle.std.specs.Prelude.{IsTrue};
 ghost use Rattle.std.specs.Ordering.{int_eq};
 ghost use Rattle.nf_terms.specs.NormalTerms.{Zero, Plus, polynomial_of};
@@ -8,7 +8,7 @@ ghost use Rattle.nf_terms.specs.View.{monomial_in, term_in};
 ghost use Rattle.nf_terms.specs.Measures.{size_of, size_of_monomial, weight_of};
 ghost use Rattle.nf_terms.specs.TermLimits.{weight_limit, size_limit};
 ghost use Rattle.nf_terms.specs.Normal.{IsNormal, ordered};
-ghost use Rattle.nf_terms.specs.RawSums.{raw_sum, IsNormalFormOf};
+ghost use Rattle.nf_terms.specs.RawSums.{raw_sum};
 ghost use Rattle.nf_terms.specs.Computed.{Answers};
 ghost use Rattle.nf_sums.specs.Operations.{normal_sum};
 ghost use Rattle.nf_sums.specs.RawSumForms.{with_term, with_terms};
@@ -287,10 +287,10 @@ impl Accumulator {
     }
 
     // The sum with a polynomial, where it is narrow and small.
-    fn add_terms(self, alloc: Global, p: &Poly) -> Result<Accumulator, NoMemory>
+    fn add_terms(self, alloc: Global, p: &Poly) -> Result<Accumulator, NfStop>
         requires narrow { weight_of self + weight_of p.now ≤ weight_limit }
         requires small { size_of self + size_of p.now ≤ size_limit }
-        ensures { IfOk result (λ s. IsNormalFormOf s (raw_sum self p.now)) }
+        ensures { Answers result (normal_sum self p.now) }
     {
         let mut sum = self.sum;
         add_all(alloc, &mut sum, p.monos())?;
@@ -308,6 +308,6 @@ impl Accumulator {
         let left = self.sum.weight;
         let right = p.weight();
         check_limits(left, right, left + right, self.sum.size + p.size())?;
-        Ok(self.add_terms(alloc, p)?)
+        self.add_terms(alloc, p)
     }
 }

@@ -14,7 +14,6 @@ pub mod copies;
 mod join;
 pub mod laws;
 mod limits;
-mod merge;
 mod negation;
 mod owned;
 mod product;

@@ -55,8 +55,7 @@ fn multiply_firsts(
         return Ok(());
     };
     let product = multiply_monomials(alloc, mono, other)?;
-    push_product(out, product, coefficient, factor)?;
-    Ok(())
+    push_product(out, product, coefficient, factor)
 }
 
 /// The product of two ordered lists of at most one term.

@@ -7,14 +7,13 @@ ghost use Rattle.nf_terms.specs.Measures.{size_of, weight_of};
 ghost use Rattle.nf_terms.specs.TermLimits.{weight_limit, size_limit};
 ghost use Rattle.nf_terms.specs.Computed.{Answers};
 ghost use Rattle.nf_terms.specs.Normal.{IsNormal, constant_part as constant_of_polynomial, is_constant as constant};
-ghost use Rattle.nf_terms.specs.RawSums.{raw_sum, raw_difference, raw_product, IsNormalFormOf};
 ghost use Rattle.nf_sums.specs.Operations.{normal_sum, normal_difference, normal_product as product_of};
 ghost use Rattle.nf_sums.specs.Operations.{normal_negation as negated_of};
 ghost use Rattle.nf_sums.specs.Operations.{number as number_of};
 
 use crate::limits::check_limits;
-use crate::merge::{Sign, merge_terms};
 use crate::negation::negate_terms;
+use crate::owned::merged_owned;
 use crate::product::multiplied;
 use nf_terms::constants::{constant_part, is_constant};
 use nf_terms::poly::Poly;
@@ -43,31 +42,44 @@ fn from_terms(monos: Vec<(MonoTree, i128)>) -> Poly
     Poly::from_normal(PolyTree { monos })
 }
 
+// A copy of the terms of a polynomial.
+fn copy_terms(alloc: Global, p: &Poly) -> Result<Vec<(MonoTree, i128)>, NoMemory>
+    ensures same { IfOk result (λ copy. polynomial_of (map term_in copy.items) ≡ p.now) }
+    ensures normal { IsNormal p.now }
+{
+    let copy = p.tree().try_clone(alloc)?;
+    Ok(copy.monos)
+}
+
 // A sum that is narrow and small.
-fn narrow_sum(alloc: Global, l: &Poly, r: &Poly) -> Result<Poly, NoMemory>
+fn narrow_sum(alloc: Global, l: &Poly, r: &Poly) -> Result<Poly, NfStop>
     requires narrow { weight_of l.now + weight_of r.now ≤ weight_limit }
     requires small { size_of l.now + size_of r.now ≤ size_limit }
-    ensures { IfOk result (λ p. IsNormalFormOf p (raw_sum l.now r.now)) }
+    ensures { Answers result (normal_sum l.now r.now) }
 {
-    let terms = merge_terms(alloc, l.monos(), r.monos(), Sign::Plus)?;
+    let left = copy_terms(alloc, l)?;
+    let right = copy_terms(alloc, r)?;
+    let terms = merged_owned(alloc, left, right)?;
     Ok(from_terms(terms))
 }
 
 // A difference that is narrow and small.
-fn narrow_difference(alloc: Global, l: &Poly, r: &Poly) -> Result<Poly, NoMemory>
+fn narrow_difference(alloc: Global, l: &Poly, r: &Poly) -> Result<Poly, NfStop>
     requires narrow { weight_of l.now + weight_of r.now ≤ weight_limit }
     requires small { size_of l.now + size_of r.now ≤ size_limit }
-    ensures { IfOk result (λ p. IsNormalFormOf p (raw_difference l.now r.now)) }
+    ensures { Answers result (normal_difference l.now r.now) }
 {
-    let terms = merge_terms(alloc, l.monos(), r.monos(), Sign::Minus)?;
+    let left = copy_terms(alloc, l)?;
+    let right = negate_terms(alloc, r.monos())?;
+    let terms = merged_owned(alloc, left, right)?;
     Ok(from_terms(terms))
 }
 
 // A product that is narrow and small.
-fn narrow_product(alloc: Global, l: &Poly, r: &Poly) -> Result<Poly, NoMemory>
+fn narrow_product(alloc: Global, l: &Poly, r: &Poly) -> Result<Poly, NfStop>
     requires narrow { weight_of l.now * weight_of r.now ≤ weight_limit }
     requires small { size_of l.now * size_of r.now ≤ size_limit }
-    ensures { IfOk result (λ p. IsNormalFormOf p (raw_product l.now r.now)) }
+    ensures { Answers result (product_of l.now r.now) }
 {
     let terms = multiplied(alloc, l.monos(), r.monos())?;
     Ok(from_terms(terms))
@@ -84,7 +96,7 @@ pub fn add(alloc: Global, l: &Poly, r: &Poly) -> Result<Poly, NfStop>
     let left = l.weight();
     let right = r.weight();
     check_limits(left, right, left + right, l.size() + r.size())?;
-    Ok(narrow_sum(alloc, l, r)?)
+    narrow_sum(alloc, l, r)
 }
 
 /// The difference: the normal form of the first raw sum and the negation of the second.
@@ -96,7 +108,7 @@ pub fn sub(alloc: Global, l: &Poly, r: &Poly) -> Result<Poly, NfStop>
     let left = l.weight();
     let right = r.weight();
     check_limits(left, right, left + right, l.size() + r.size())?;
-    Ok(narrow_difference(alloc, l, r)?)
+    narrow_difference(alloc, l, r)
 }
 
 /// The product: the normal form of all pairwise products.
@@ -110,7 +122,7 @@ pub fn mul(alloc: Global, l: &Poly, r: &Poly) -> Result<Poly, NfStop>
     let left = l.weight();
     let right = r.weight();
     check_limits(left, right, left.saturating_mul(right), l.size() * r.size())?;
-    Ok(narrow_product(alloc, l, r)?)
+    narrow_product(alloc, l, r)
 }
 
 /// The negation: each coefficient negated. The one refusal is out of memory.

@@ -1,5 +1,5 @@
 use Rattle.std.proofs.Common.{ap, sym, ◌∙◌, Some}
-use Rattle.nf_sums.proofs.Moves.{begun, ended, moved_left, moved_right, moved_both}
+use Rattle.nf_sums.proofs.Moves.{begun, ended, moved_left, moved_right, moved_both, both_there, room}
 use Rattle.nf_sums.proofs.owned.merged_owned.Goals as goal
 
 pub merge-init : goal.merge-init
@@ -21,6 +21,15 @@ merge-preserved c =
     moved_both c.args.l.items c.args.r.items c.merge.out.items c.merge.left.items c.merge.right.items c.join_firsts.new.out.items c.join_firsts.new.left.items
     c.join_firsts.new.right.items c.merge.invariant (ap Some (sym c.in-Equal.is) ∙ c.in-Some.ensures) c.in_ok-join_firsts-in-Equal.ensures.joined
     c.in_ok-join_firsts-in-Equal.ensures.left c.in_ok-join_firsts-in-Equal.ensures.right
+
+pub join_firsts-requires : goal.join_firsts-requires
+join_firsts-requires c =
+    let there = both_there c.merge.left.items c.merge.right.items (ap Some (sym c.in-Equal.is) ∙ c.in-Some.ensures) in
+    record {
+      left = there.0;
+      right = there.1;
+      narrow = room c.args.l.items c.args.r.items c.merge.out.items c.merge.left.items c.merge.right.items c.merge.invariant c.requires.narrow;
+    }
 
 pub returns : goal.returns
 returns c = ended c.args.l.items c.args.r.items c.merge.out.items c.merge.left.items c.merge.right.items c.merge.invariant c.in_default.ensures
