@@ -1,9 +1,10 @@
 -- Expressions and literals over a vector mean what they mean in the store that it means.
-use Rattle.std.proofs.Common.{◌≡◌, ℕ, ap, ap₂, sym, subst, ◌∙◌, List, [], ◌∷◌, ◌+ℤ◌, ◌-ℤ◌, ◌*ℤ◌, neg_ℤ}
+use Rattle.std.proofs.Common.{◌≡◌, ℕ, refl, ap, ap₂, sym, subst, ◌∙◌, List, [], ◌∷◌, ◌+ℤ◌, ◌-ℤ◌, ◌*ℤ◌, neg_ℤ}
 use Rattle.std.specs.Prelude.{◌&&◌}
 use Rattle.std.specs.List.{list_all}
 use Rattle.fs_model.specs.Division.{quotient, remainder}
 use Rattle.fs_model.specs.Terms.{Term, Number, Variable, Read, Sum, Difference, Product, Quotient, Remainder, Negative, Literal}
+use Rattle.fs_model.specs.Terms.{Assignment, Assign, ArrayWrite, Emit}
 use Rattle.fs_model.specs.Meaning.{value, relates, literal_holds}
 use Rattle.nf_terms.specs.NormalTerms.{Polynomial}
 use Rattle.nf_terms.specs.TermMeaning.{Valuation, value_of, contents}
@@ -24,7 +25,7 @@ use Rattle.nf_rel.specs.Literals.{NormalLiteral, is_true_in, literal}
 use Rattle.nf_rel.proofs.Values.{literal_means}
 use Rattle.sym_paths.specs.ValuationStores.{at, store_on}
 use Rattle.sym_paths.specs.Sequences.{each}
-use Rattle.sym_paths.specs.Evaluation.{evaluate, evaluate_literal}
+use Rattle.sym_paths.specs.Evaluation.{evaluate, evaluate_literal, evaluate_assignment, SetTo, PutAt, PushTo}
 
 -- what two operands give in turn
 pub record Operands (side : Side) (v : List (Pos × Nf)) (a b : Term ℕ) (f : Polynomial → Polynomial → Computed Polynomial) (r : Polynomial) : Type 0 where
@@ -85,3 +86,15 @@ module _ (w : Valuation) (side : Side) (v : List (Pos × Nf)) where
       let t = goes_done (each (λ k. evaluate_literal side v k) ls) (λ ys. Done (s.middle ∷ ys)) ns s.next in
       let k : s.middle ∷ t.middle ≡ ns = cc t.next in
       sym (ap (list_all (is_true_in w)) k) ∙ ap₂ (λ x y. x && y) (literal_evaluated l s.middle s.first) (literals_evaluated ls t.middle t.first)
+
+-- an assignment whose parts are evaluated
+module _ (side : Side) (v : List (Pos × Nf)) (a : Assignment ℕ) (x : ℕ) where
+  pub assigned : (e : Term ℕ) (p : Polynomial) → a ≡ Assign x e → evaluate side v e ≡ Done p → evaluate_assignment side v a ≡ Done (SetTo x p)
+  assigned e p is given = rw (is, given) refl
+
+  pub written : (i e : Term ℕ) (j p : Polynomial) → a ≡ ArrayWrite x i e → evaluate side v i ≡ Done j → evaluate side v e ≡ Done p
+      → evaluate_assignment side v a ≡ Done (PutAt x j p)
+  written i e j p is first given = rw (is, first, given) refl
+
+  pub emitted : (e : Term ℕ) (p : Polynomial) → a ≡ Emit x e → evaluate side v e ≡ Done p → evaluate_assignment side v a ≡ Done (PushTo x p)
+  emitted e p is given = rw (is, given) refl

@@ -1,5 +1,5 @@
 -- Expressions and assignments over a vector.
-use Rattle.std.specs.Prelude.{ℕ, List, [], ◌∷◌}
+use Rattle.std.specs.Prelude.{ℕ, pos, List, [], ◌∷◌}
 use Rattle.fs_model.specs.Terms.{Term, Number, Variable, Read, Sum, Difference, Product, Quotient, Remainder, Negative, Literal}
 use Rattle.fs_model.specs.Terms.{Assignment, Assign, ArrayWrite, Emit}
 use Rattle.nf_terms.specs.NormalTerms.{Polynomial}
@@ -16,6 +16,18 @@ use Rattle.nf_vectors.specs.Vectors.{number_at, array_form, list_at, with_form}
 use Rattle.nf_rel.specs.Literals.{NormalLiteral, literal}
 use Rattle.sym_paths.specs.ValuationStores.{at}
 use Rattle.sym_paths.specs.Sequences.{each}
+
+-- what the operator of a term makes of its operands, and 0 where it has not two
+abbrev pub combined : Term ℕ → (left right : Polynomial) → Computed Polynomial
+combined (Number n) p q = number (pos 0)
+combined (Variable x) p q = number (pos 0)
+combined (Read x i) p q = number (pos 0)
+combined (Sum a b) p q = normal_sum p q
+combined (Difference a b) p q = normal_difference p q
+combined (Product a b) p q = normal_product p q
+combined (Quotient a b) p q = quotient_of p q
+combined (Remainder a b) p q = remainder_of p q
+combined (Negative a) p q = number (pos 0)
 
 -- the left operand, the right operand, and then the operation; of a read the index; a variable is its vector's value
 abbrev pub evaluate : Side → List (Pos × Nf) → Term ℕ → Computed Polynomial

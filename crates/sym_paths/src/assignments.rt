@@ -2,7 +2,8 @@
 
 ghost use Rattle.std.specs.Prelude.{map};
 ghost use Rattle.fs_model.specs.View.{assignment_of};
-ghost use Rattle.nf_terms.specs.Computed.{Answers};
+ghost use Rattle.nf_terms.specs.Computed.{Answers, Done};
+ghost use Rattle.nf_vectors.specs.Vectors.{with_form};
 ghost use Rattle.sym_paths.specs.Sequences.{each};
 ghost use Rattle.sym_paths.specs.Evaluation.{evaluate_assignment as evaluated_assignment, change as changed};
 ghost use Rattle.sym_paths.specs.Evaluation.{change_all as changed_all, act_over as acted, PutAt, PushTo};
@@ -15,7 +16,7 @@ use nf_arrays::writes::write;
 use nf_terms::form::Nf;
 use nf_terms::poly::Poly;
 use nf_terms::stop::NfStop;
-use nf_terms::tree::Side;
+use nf_terms::tree::{Pos, Side};
 use nf_vectors::vector::Vector;
 use std::alloc::Global;
 
@@ -72,6 +73,13 @@ fn evaluate_assignments(
     Ok(out)
 }
 
+// Puts a form at a position of a vector.
+fn put_form(v: &mut Vector, position: Pos, form: Nf) -> Result<(), NfStop>
+    ensures { Answers (answer_in_data (λ _. v.new) result) (Done (with_form position form v.old)) }
+{
+    Ok(v.put(position, form)?)
+}
+
 // Writes an array of a vector.
 fn put(
     alloc: Global,
@@ -85,7 +93,7 @@ fn put(
 {
     let array = v.array(alloc, &at(side, x))?;
     let written = write(alloc, &array, index, value)?;
-    Ok(v.put(at(side, x), Nf::Arr(written))?)
+    put_form(v, at(side, x), Nf::Arr(written))
 }
 
 // Adds a number to a list of a vector.
@@ -94,7 +102,7 @@ fn emit(alloc: Global, side: Side, x: VarId, value: &Poly, v: &mut Vector) -> Re
 {
     let list = v.list(alloc, &at(side, x))?;
     let pushed = push(alloc, &list, value)?;
-    Ok(v.put(at(side, x), Nf::Seq(pushed))?)
+    put_form(v, at(side, x), Nf::Seq(pushed))
 }
 
 // Changes a vector.
@@ -102,7 +110,7 @@ fn apply(alloc: Global, side: Side, c: Change, v: &mut Vector) -> Result<(), NfS
     ensures { Answers (answer_in_data (λ _. v.new) result) (changed side (change_in c) v.old) }
 {
     match c {
-        Change::Set(x, value) => Ok(v.put(at(side, x), Nf::Num(value))?),
+        Change::Set(x, value) => put_form(v, at(side, x), Nf::Num(value)),
         Change::Put {
             array,
             index,

@@ -3,10 +3,12 @@
 ghost use Rattle.std.specs.Prelude.{◌≡◌, map};
 ghost use Rattle.fs_model.specs.View.{term_of, literal_of, shared_literal_of};
 ghost use Rattle.nf_terms.specs.Computed.{Answers};
+ghost use Rattle.nf_arrays.specs.Writes.{read_at as read_value};
+ghost use Rattle.nf_vectors.specs.Vectors.{array_form};
 ghost use Rattle.nf_rel.specs.View.{literal_in};
 ghost use Rattle.sym_paths.specs.ValuationStores.{at as position_of};
 ghost use Rattle.sym_paths.specs.Sequences.{each};
-ghost use Rattle.sym_paths.specs.Evaluation.{evaluate as evaluated, evaluate_literal as evaluated_literal};
+ghost use Rattle.sym_paths.specs.Evaluation.{evaluate as evaluated, evaluate_literal as evaluated_literal, combined};
 ghost use Rattle.sym_paths.specs.View.{answer_in_data};
 
 use fs_model::parts::{Expr, Lit, VarId};
@@ -29,6 +31,28 @@ pub(crate) fn at(side: Side, x: VarId) -> Pos
     Pos { side, var: x.0 }
 }
 
+// What the array of a position holds at an index.
+fn read_at(alloc: Global, v: &Vector, position: &Pos, index: &Poly) -> Result<Poly, NfStop>
+    ensures { Answers result (read_value (array_form v.now position.now) index.now) }
+{
+    let array = v.array(alloc, position)?;
+    read(alloc, &array, index)
+}
+
+// What the operator of an expression makes of two numbers. It is 0 where the expression has not two operands.
+fn combine(alloc: Global, e: &Expr<VarId>, left: &Poly, right: &Poly) -> Result<Poly, NfStop>
+    ensures { Answers result (combined (term_of e.now) left.now right.now) }
+{
+    match e {
+        Expr::Add(..) => add(alloc, left, right),
+        Expr::Sub(..) => sub(alloc, left, right),
+        Expr::Mul(..) => mul(alloc, left, right),
+        Expr::Div(..) => div(alloc, left, right),
+        Expr::Rem(..) => rem(alloc, left, right),
+        Expr::Num(_) | Expr::Var(_) | Expr::Read(..) | Expr::Neg(_) => number(alloc, &0),
+    }
+}
+
 /// The normal form of an expression of a side's machine, with the vector's forms in place of its variables.
 ///
 /// `Wide` and `Large` come exactly at the first operation that is not narrow, or narrow and not small, in this order: the left
@@ -41,33 +65,12 @@ pub fn evaluate(alloc: Global, side: Side, v: &Vector, e: &Expr<VarId>) -> Resul
         Expr::Var(x) => Ok(v.number(alloc, &at(side, *x))?),
         Expr::Read(x, i) => {
             let index = evaluate(alloc, side, v, i)?;
-            let array = v.array(alloc, &at(side, *x))?;
-            read(alloc, &array, &index)
+            read_at(alloc, v, &at(side, *x), &index)
         }
-        Expr::Add(a, b) => {
+        Expr::Add(a, b) | Expr::Sub(a, b) | Expr::Mul(a, b) | Expr::Div(a, b) | Expr::Rem(a, b) => {
             let left = evaluate(alloc, side, v, a)?;
             let right = evaluate(alloc, side, v, b)?;
-            add(alloc, &left, &right)
-        }
-        Expr::Sub(a, b) => {
-            let left = evaluate(alloc, side, v, a)?;
-            let right = evaluate(alloc, side, v, b)?;
-            sub(alloc, &left, &right)
-        }
-        Expr::Mul(a, b) => {
-            let left = evaluate(alloc, side, v, a)?;
-            let right = evaluate(alloc, side, v, b)?;
-            mul(alloc, &left, &right)
-        }
-        Expr::Div(a, b) => {
-            let left = evaluate(alloc, side, v, a)?;
-            let right = evaluate(alloc, side, v, b)?;
-            div(alloc, &left, &right)
-        }
-        Expr::Rem(a, b) => {
-            let left = evaluate(alloc, side, v, a)?;
-            let right = evaluate(alloc, side, v, b)?;
-            rem(alloc, &left, &right)
+            combine(alloc, e, &left, &right)
         }
         Expr::Neg(a) => {
             let value = evaluate(alloc, side, v, a)?;
