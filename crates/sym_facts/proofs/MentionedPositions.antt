@@ -34,6 +34,11 @@ pub added : (old middle new : PositionSet) (xs ys all : List (Pos × Sort)) → 
     → new ≡ with_symbols old all
 added old middle new xs ys all whole e f = f ∙ ap (λ s. with_symbols s ys) e ∙ sym (joined old xs ys) ∙ ap (with_symbols old) (sym whole)
 
+-- the positions of a first part were added, those of the others are left
+pub rest_left : (old new : PositionSet) (xs ys all : List (Pos × Sort)) {whole : PositionSet} → all ≡ xs ++ ys → new ≡ with_symbols old xs
+    → with_symbols old all ≡ whole → with_symbols new ys ≡ whole
+rest_left old new xs ys all split e so_far = ap (λ s. with_symbols s ys) e ∙ sym (joined old xs ys) ∙ ap (with_symbols old) (sym split) ∙ so_far
+
 twice : (b : Bool) → not (not b) ≡ b
 twice true = refl
 twice false = refl
