@@ -6,3 +6,4 @@ pub mod Splitting
 pub mod Without
 pub mod Needed
 mod FirstTie
+mod ConditionTurns

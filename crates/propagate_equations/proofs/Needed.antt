@@ -1,5 +1,5 @@
 -- The literals that a rebased fact keeps may be kept.
-use Rattle.std.proofs.Common.{◌≡◌, ℕ, zero, suc, Bool, true, false, cond, refl, ap, List, [], ◌∷◌, ◌++◌, map, take}
+use Rattle.std.proofs.Common.{◌≡◌, ℕ, zero, suc, Bool, true, false, refl, ap, sym, List, [], ◌∷◌, ◌++◌, map, take}
 use Rattle.std.specs.Prelude.{not}
 use Rattle.std.specs.List.{list_all, list_any}
 use Rattle.std.proofs.lemmas.Bool.{and_from}
@@ -8,8 +8,8 @@ use Rattle.nf_rel.specs.Literals.{NormalLiteral, True}
 use Rattle.nf_rel.specs.NormalLiterals.{is_normal_literal, same_literal}
 use Rattle.nf_rel.specs.View.{literal_in}
 use Rattle.nf_rel.specs.declared.literals.NLit.{NLit}
-use Rattle.sym_facts.specs.Facts.{may_be_kept, most_literals}
-use Rattle.propagate_equations.specs.Equations.{is_needless, with_needed}
+use Rattle.sym_facts.specs.Facts.{may_be_kept}
+use Rattle.propagate_equations.specs.Equations.{is_needless}
 
 pub last_passes : (test : NormalLiteral → Bool) (ls : List NormalLiteral) (l : NormalLiteral) → list_all test ls ≡ true → test l ≡ true
     → list_all test (ls ++ l ∷ []) ≡ true
@@ -22,22 +22,10 @@ taken_pass test zero ls h = refl
 taken_pass test (suc n) [] h = refl
 taken_pass test (suc n) (l ∷ ls) h = and_from _ _ (and_first (test l) (list_all test ls) h) (taken_pass test n ls (and_second (test l) (list_all test ls) h))
 
-needed_kept : (before ls : List NormalLiteral) → list_all may_be_kept before ≡ true → list_all is_normal_literal ls ≡ true
-    → list_all may_be_kept (with_needed before ls) ≡ true
-needed_kept before [] h g = h
-needed_kept before (l ∷ ls) h g =
-    needed_kept (cond (is_needless before l) before (before ++ l ∷ [])) ls (by_test (is_needless before l) refl)
-    (and_second (is_normal_literal l) (list_all is_normal_literal ls) g)
-  where
-    by_test : (b : Bool) → is_needless before l ≡ b → list_all may_be_kept (cond b before (before ++ l ∷ [])) ≡ true
-    by_test true e = h
-    by_test false e =
-        last_passes may_be_kept before l h
-        (and_from (not (same_literal l True)) (is_normal_literal l) (ap not (neither_first (same_literal l True) (list_any (same_literal l) before) e))
-        (and_first (is_normal_literal l) (list_all is_normal_literal ls) g))
-
-pub first_kept : (ls : List NormalLiteral) → list_all is_normal_literal ls ≡ true → list_all may_be_kept (take most_literals (with_needed [] ls)) ≡ true
-first_kept ls h = taken_pass may_be_kept most_literals (with_needed [] ls) (needed_kept [] ls refl h)
+pub one_kept : (before : List NormalLiteral) (l : NormalLiteral) → list_all may_be_kept before ≡ true → is_normal_literal l ≡ true
+    → false ≡ is_needless before l → list_all may_be_kept (before ++ l ∷ []) ≡ true
+one_kept before l h g e = last_passes may_be_kept before l h
+    (and_from (not (same_literal l True)) (is_normal_literal l) (ap not (neither_first (same_literal l True) (list_any (same_literal l) before) (sym e))) g)
 
 pub first_read : (n : ℕ) (xs : List NLit) → map literal_in (take n xs) ≡ take n (map literal_in xs)
 first_read zero xs = refl

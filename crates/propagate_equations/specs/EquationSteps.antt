@@ -1,5 +1,5 @@
 -- Equations and conditions as they are made: one term, one freed position, one condition after the other.
-use Rattle.std.specs.Prelude.{◌+◌, Bool, true, false, List, [], ◌∷◌, Option, Some, None, ℤ, pos, neg_ℤ, take, ◌++◌}
+use Rattle.std.specs.Prelude.{◌+◌, cond, Bool, true, false, List, [], ◌∷◌, Option, Some, None, ℤ, pos, neg_ℤ, take, ◌++◌}
 use Rattle.nf_terms.specs.NormalTerms.{Polynomial, Monomial, polynomial_of}
 use Rattle.nf_terms.specs.Computed.{Computed, Done, after}
 use Rattle.fs_model.specs.declared.sides.Pos.{Pos}
@@ -9,8 +9,10 @@ use Rattle.std.specs.Ordering.{int_eq}
 use Rattle.fs_pair.specs.declared.positions.Position.{Position}
 use Rattle.nf_terms.specs.declared.symbols.Sort.TheVariants as term
 use Rattle.sym_facts.specs.Facts.{most_literals}
+use Rattle.sym_facts.specs.Entailment.{literal_substituted}
 use Rattle.propagate_equations.specs.declared.splits.Signed.{Signed}
-use Rattle.propagate_equations.specs.Equations.{is_held, lone_symbol, Split, number_tied_to, with_needed, conditions_over}
+use Rattle.propagate_equations.specs.Equations.{is_held, lone_symbol, Split, number_tied_to, literal_held, is_needless}
+use Rattle.propagate_equations.specs.Equations.{with_needed, conditions_over}
 use Rattle.propagate_equations.specs.TieSteps.{or_later}
 
 -- ---- a symbol that is split off
@@ -45,5 +47,16 @@ rebase_tie v ms t [] = Done None
 rebase_tie v ms t (q ∷ qs) = after (number_tied_to v ms t q.sort q.pos (Done None)) (λ o. or_later o (rebase_tie v ms t qs))
 
 -- ---- the literals
+-- the conditions so far, and this one over the new meanings, where all its symbols are held and it is needed
+abbrev pub with_condition : List (Pos × Nf) → NormalLiteral → (before : List NormalLiteral) → Computed (List NormalLiteral)
+with_condition ms l before =
+    cond (literal_held ms l)
+    (after (literal_substituted ms l) (λ m. Done (cond (is_needless before m) before (before ++ m ∷ [])))) (Done before)
+
+-- the same of each condition in turn
+abbrev pub conditions_from : List (Pos × Nf) → (before : List NormalLiteral) → List NormalLiteral → Computed (List NormalLiteral)
+conditions_from ms before [] = Done before
+conditions_from ms before (l ∷ ls) = after (with_condition ms l before) (λ ks. conditions_from ms ks ls)
+
 abbrev pub conditions_kept : List (Pos × Nf) → List NormalLiteral → Computed (List NormalLiteral)
 conditions_kept ms ls = after (conditions_over ms ls) (λ ks. Done (take most_literals (with_needed [] ks)))

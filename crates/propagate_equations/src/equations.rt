@@ -6,9 +6,7 @@ ghost use Rattle.nf_terms.specs.Computed.{Answers, Done, after};
 ghost use Rattle.nf_terms.specs.declared.form.Nf.TheVariants as form;
 ghost use Rattle.nf_sums.specs.Operations.{normal_sum};
 ghost use Rattle.nf_substitution.specs.Substitution.{polynomial_substituted};
-ghost use Rattle.sym_facts.specs.Entailment.{form_substituted};
 ghost use Rattle.propagate_equations.specs.Equations.{number_held, number_tied_to, form_tied, equation_found};
-ghost use Rattle.propagate_equations.specs.Equations.{rebase_tied_equation};
 ghost use Rattle.propagate_equations.specs.EquationSteps.{rebase_tie};
 
 use crate::held_symbols::{form_held, number_held};
@@ -103,9 +101,9 @@ fn form_tied(alloc: Global, v: &Vector, form: &Nf, freed: &[Position]) -> Result
     Ok(None)
 }
 
-// A form, tied to the first position that is freed that it can be tied to.
+// The equation of a position that has this form: the form over the new meanings, where all its symbols are held, else a tie.
 #[tactic(auto, using(crate::proofs::EquationTurns::ties_in_turn))]
-fn tie_freed_form(
+fn new_equation(
     alloc: Global,
     s: &mut Subst<'_>,
     v: &Vector,
@@ -114,40 +112,15 @@ fn tie_freed_form(
     freed: &[Position],
 ) -> Result<Option<Nf>, NfStop>
     requires { s.old.vector ≡ meanings.now }
-    ensures answers { Answers result (rebase_tied_equation v.now meanings.now form.now freed.now) }
+    ensures answers { Answers result (equation_found v.now meanings.now form.now freed.now) }
     ensures vector { s.new.vector ≡ s.old.vector }
 {
+    if form_held(alloc, meanings, form)? {
+        return Ok(Some(substitute(alloc, s, form)?));
+    }
     match form {
         Nf::Num(number) => number_tied(alloc, s, v, meanings, number, freed),
         Nf::Arr(_) | Nf::Seq(_) => form_tied(alloc, v, form, freed),
-    }
-}
-
-// The value of a form, shared.
-fn shared_value(alloc: Global, s: &mut Subst<'_>, form: &Nf) -> Result<Option<SharedForm>, NfStop>
-    ensures answers { Answers result (after (form_substituted s.old.vector form.now) (λ r. Done (Some r))) }
-    ensures vector { s.new.vector ≡ s.old.vector }
-{
-    let value = substitute(alloc, s, form)?;
-    Ok(Some(SharedForm::of(alloc, value)?))
-}
-
-// The same tie, shared.
-fn shared_tie(
-    alloc: Global,
-    s: &mut Subst<'_>,
-    v: &Vector,
-    meanings: &Vector,
-    form: &Nf,
-    freed: &[Position],
-) -> Result<Option<SharedForm>, NfStop>
-    requires { s.old.vector ≡ meanings.now }
-    ensures answers { Answers result (rebase_tied_equation v.now meanings.now form.now freed.now) }
-    ensures vector { s.new.vector ≡ s.old.vector }
-{
-    match tie_freed_form(alloc, s, v, meanings, form, freed)? {
-        Some(tie) => Ok(Some(SharedForm::of(alloc, tie)?)),
-        None => Ok(None),
     }
 }
 
@@ -170,8 +143,8 @@ pub fn equation_found(
     if leaves_form(s, form.form()) {
         return Ok(Some(form.try_clone()?));
     }
-    if form_held(alloc, meanings, form.form())? {
-        return shared_value(alloc, s, form.form());
+    match new_equation(alloc, s, v, meanings, form.form(), freed)? {
+        Some(equation) => Ok(Some(SharedForm::of(alloc, equation)?)),
+        None => Ok(None),
     }
-    shared_tie(alloc, s, v, meanings, form.form(), freed)
 }

@@ -3,13 +3,11 @@
 ghost use Rattle.std.specs.Prelude.{◌≡◌, cond, map, IfOk, Some, None};
 ghost use Rattle.nf_terms.specs.NormalTerms.{polynomial_of_symbol};
 ghost use Rattle.nf_terms.specs.Order.{same_polynomial};
-ghost use Rattle.nf_terms.specs.Forms.{same_form};
 ghost use Rattle.nf_terms.specs.Computed.{Answers, Done, after};
 ghost use Rattle.nf_terms.specs.declared.form.Nf.TheVariants as form;
 ghost use Rattle.nf_sums.specs.Operations.{normal_sum, normal_difference};
 ghost use Rattle.nf_substitution.specs.Vectors.{number_at};
 ghost use Rattle.nf_substitution.specs.Substitution.{polynomial_substituted};
-ghost use Rattle.sym_facts.specs.Entailment.{form_like as like};
 ghost use Rattle.propagate_equations.specs.Ties.{symbol_like, number_tied_to, is_alike, form_tied, tied_equation};
 ghost use Rattle.propagate_equations.specs.TieSteps.{join_tie};
 ghost use Rattle.propagate_equations.specs.View.{freed_in};
@@ -75,25 +73,6 @@ fn tie_where_same(
     }
 }
 
-// The number of a position, tied to one freed number.
-fn number_tied_to(
-    alloc: Global,
-    s: &mut Subst<'_>,
-    v: &Vector,
-    p: &Pos,
-    number: &Poly,
-    q: &Pos,
-    other: &Poly,
-) -> Result<Option<Nf>, NfStop>
-    requires { s.old.vector ≡ v.now }
-    ensures answers { Answers result (number_tied_to v.now p.now number.now q.now (form.Num other.now) (Done None)) }
-    ensures vector { s.new.vector ≡ s.old.vector }
-{
-    let difference = sub(alloc, number, other)?;
-    let arriving = arriving_difference(alloc, v, p, q)?;
-    tie_where_same(alloc, s, &arriving, &difference, q)
-}
-
 // The number of a position, tied to one freed position.
 fn tied_to(
     alloc: Global,
@@ -109,7 +88,11 @@ fn tied_to(
     ensures vector { s.new.vector ≡ s.old.vector }
 {
     match other.old {
-        Nf::Num(old) => number_tied_to(alloc, s, v, p, number, &other.pos, old),
+        Nf::Num(old) => {
+            let difference = sub(alloc, number, old)?;
+            let arriving = arriving_difference(alloc, v, p, &other.pos)?;
+            tie_where_same(alloc, s, &arriving, &difference, &other.pos)
+        }
         Nf::Arr(_) | Nf::Seq(_) => Ok(None),
     }
 }
@@ -135,20 +118,6 @@ fn number_tied(
     Ok(None)
 }
 
-// Whether what arrives at a freed position is this form.
-fn arrives_alike(
-    alloc: Global,
-    v: &Vector,
-    arriving: &Nf,
-    other: &Freed<'_>,
-) -> Result<bool, NoMemory>
-    ensures { IfOk result
-        (λ b. b ≡ same_form arriving.now (like v.now (freed_in other.now).pos (freed_in other.now).old)) }
-{
-    let others = form_like(alloc, v, &other.pos, other.old)?;
-    Ok(arriving.is_same(&others))
-}
-
 // Whether a form and what arrives at its position are those of a freed position.
 fn is_alike(
     alloc: Global,
@@ -163,7 +132,8 @@ fn is_alike(
         return Ok(false);
     }
     let arriving = form_like(alloc, v, p, form)?;
-    arrives_alike(alloc, v, &arriving, other)
+    let others = form_like(alloc, v, &other.pos, other.old)?;
+    Ok(arriving.is_same(&others))
 }
 
 // The form of a position, tied to the first of the freed positions that is alike.
