@@ -49,21 +49,13 @@ impl From<NoMemory> for ModeStop {
     }
 }
 
-// The literals of a fact, and then others, which are moved. The one refusal is out of memory.
-#[tactic(auto, using(crate::proofs::Behind::literals_behind))]
-fn literals_with(alloc: Global, fact: &Fact, others: &mut Vec<NLit>) -> Result<Vec<NLit>, NoMemory>
-    ensures { IfOk result (λ ls. map literal_in ls.items ≡ fact.now.literals ++ map literal_in others.old.items) }
-{
-    let mut literals = copied_literals(alloc, fact.conds())?;
-    literals.append(others)?;
-    Ok(literals)
-}
-
 // Whether literals are refuted behind those of a fact. They are moved. The one refusal is out of memory.
+#[tactic(auto, using(crate::proofs::Behind::literals_behind))]
 fn is_refuted_behind(alloc: Global, fact: &Fact, others: &mut Vec<NLit>) -> Result<bool, NoMemory>
     ensures { IfOk result (λ b. b ≡ refuted (fact.now.literals ++ map literal_in others.old.items)) }
 {
-    let literals = literals_with(alloc, fact, others)?;
+    let mut literals = copied_literals(alloc, fact.conds())?;
+    literals.append(others)?;
     is_refuted(alloc, &literals)
 }
 
