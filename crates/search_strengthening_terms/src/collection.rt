@@ -128,24 +128,24 @@ impl<'p> Collection<'p> {
         false
     }
 
-    // Adds a form, unless it mentions what is no position.
-    fn push_form(&mut self, alloc: Global, form: Nf) -> Result<(), NoMemory> {
-        match places_in(alloc, self.positions, &form)? {
-            Some(places) => self.terms.push(Term { form, places })?,
-            None => {}
+    // The places of the positions that a form mentions; none where it is there, it is past a bound, or it mentions another.
+    fn places_if_new(&mut self, alloc: Global, form: &Nf) -> Result<Option<Vec<usize>>, NoMemory> {
+        if self.terms.len() >= TERM_LIMIT
+            || self.is_full()
+            || has_form(self.terms.as_slice(), form)
+        {
+            return Ok(None);
         }
-        Ok(())
+        places_in(alloc, self.positions, form)
     }
 
     /// Adds a form, unless it is there, it is past a bound, or it mentions what is no position. The one refusal is out of memory.
     pub fn add_form(&mut self, alloc: Global, form: Nf) -> Result<(), NoMemory> {
-        if self.terms.len() >= TERM_LIMIT
-            || self.is_full()
-            || has_form(self.terms.as_slice(), &form)
-        {
-            return Ok(());
+        match self.places_if_new(alloc, &form)? {
+            Some(places) => self.terms.push(Term { form, places })?,
+            None => {}
         }
-        self.push_form(alloc, form)
+        Ok(())
     }
 
     /// Adds a literal, unless it is there, it is true or false, or it is past a bound. The one refusal is out of memory.

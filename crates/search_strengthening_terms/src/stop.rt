@@ -39,6 +39,14 @@ pub fn unless_stopped<T: Drop>(outcome: Result<T, NfStop>) -> Result<Option<T>, 
     }
 }
 
+/// Leaves out what an operation on normal forms was to give: it is not narrow, or not small. The one refusal is out of memory.
+pub(crate) fn leave_out(stop: NfStop) -> Result<(), NoMemory> {
+    match stop {
+        NfStop::NoMemory => Err(NoMemory),
+        NfStop::Wide { .. } | NfStop::Large { .. } => Ok(()),
+    }
+}
+
 /// What an operation on normal forms gives. `Bound` comes where it is not narrow, or not small.
 pub fn within_limits<T: Drop>(outcome: Result<T, NfStop>) -> Result<T, Stop> {
     match outcome {

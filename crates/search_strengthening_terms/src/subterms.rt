@@ -1,7 +1,7 @@
 //! The terms of expressions and the literals of guards.
 
 use crate::collection::Collection;
-use crate::stop::unless_stopped;
+use crate::stop::leave_out;
 use fs_model::parts::{Expr, Lit, Rel, VarId};
 use nf_rel::clashes::negate;
 use nf_rel::kind::Kind;
@@ -10,8 +10,9 @@ use nf_rel::normalize::literal;
 use nf_sums::sums::number;
 use nf_terms::form::Nf;
 use nf_terms::poly::Poly;
-use nf_terms::stop::NoMemory;
+use nf_terms::stop::{NfStop, NoMemory};
 use nf_terms::tree::Side;
+use nf_vectors::vector::Vector;
 use std::alloc::Global;
 use std::rc::Rc;
 use sym_facts::evaluation::evaluate;
@@ -23,9 +24,9 @@ fn add_term(
     side: Side,
     e: &Expr<VarId>,
 ) -> Result<(), NoMemory> {
-    match unless_stopped(evaluate(alloc, side, all.own_symbols(), e))? {
-        Some(value) => all.add_form(alloc, Nf::Num(value)),
-        None => Ok(()),
+    match evaluate(alloc, side, all.own_symbols(), e) {
+        Ok(value) => all.add_form(alloc, Nf::Num(value)),
+        Err(stop) => leave_out(stop),
     }
 }
 
@@ -67,12 +68,13 @@ fn add_bounded(
     let Some(bound) = bound else {
         return Ok(());
     };
-    let Some(bound) = unless_stopped(number(alloc, &bound))? else {
-        return Ok(());
+    let bound = match number(alloc, &bound) {
+        Ok(bound) => bound,
+        Err(stop) => return leave_out(stop),
     };
-    match unless_stopped(literal(alloc, relation, dir, &bound))? {
-        Some(moved) => all.add_literal(moved),
-        None => Ok(()),
+    match literal(alloc, relation, dir, &bound) {
+        Ok(moved) => all.add_literal(moved),
+        Err(stop) => leave_out(stop),
     }
 }
 
@@ -95,9 +97,8 @@ fn add_near(alloc: Global, all: &mut Collection<'_>, l: NLit) -> Result<(), NoMe
 
 // Adds a literal and its negation.
 fn add_both(alloc: Global, all: &mut Collection<'_>, l: NLit) -> Result<(), NoMemory> {
-    let negation = negate(l.try_clone(alloc)?);
-    add_near(alloc, all, l)?;
-    add_near(alloc, all, negation)
+    add_near(alloc, all, l.try_clone(alloc)?)?;
+    add_near(alloc, all, negate(l))
 }
 
 // Adds the literal that two numbers are in a relation.
@@ -108,36 +109,37 @@ fn add_related(
     left: &Poly,
     right: &Poly,
 ) -> Result<(), NoMemory> {
-    match unless_stopped(literal(alloc, relation, left, right))? {
-        Some(found) => add_both(alloc, all, found),
-        None => Ok(()),
+    match literal(alloc, relation, left, right) {
+        Ok(found) => add_both(alloc, all, found),
+        Err(stop) => leave_out(stop),
     }
 }
 
-// Adds the literal of a guard whose left side has this value.
-fn add_compared(
+/// The values of two expressions.
+pub(crate) fn evaluate_both(
     alloc: Global,
-    all: &mut Collection<'_>,
     side: Side,
-    left: &Poly,
-    l: &Lit<VarId>,
-) -> Result<(), NoMemory> {
-    match unless_stopped(evaluate(alloc, side, all.own_symbols(), &l.right))? {
-        Some(right) => add_related(alloc, all, l.rel, left, &right),
-        None => Ok(()),
-    }
+    own: &Vector,
+    left: &Expr<VarId>,
+    right: &Expr<VarId>,
+) -> Result<(Poly, Poly), NfStop> {
+    let left = evaluate(alloc, side, own, left)?;
+    let right = evaluate(alloc, side, own, right)?;
+    Ok((left, right))
 }
 
-// Adds the literal of a guard.
+// Adds the terms in a literal of a guard, and the literal.
 fn add_literal(
     alloc: Global,
     all: &mut Collection<'_>,
     side: Side,
     l: &Lit<VarId>,
 ) -> Result<(), NoMemory> {
-    match unless_stopped(evaluate(alloc, side, all.own_symbols(), &l.left))? {
-        Some(left) => add_compared(alloc, all, side, &left, l),
-        None => Ok(()),
+    add_expr(alloc, all, side, &l.left)?;
+    add_expr(alloc, all, side, &l.right)?;
+    match evaluate_both(alloc, side, all.own_symbols(), &l.left, &l.right) {
+        Ok((left, right)) => add_related(alloc, all, l.rel, &left, &right),
+        Err(stop) => leave_out(stop),
     }
 }
 
@@ -149,8 +151,6 @@ pub(crate) fn add_literals(
     literals: &[Rc<Lit<VarId>>],
 ) -> Result<(), NoMemory> {
     for l in literals {
-        add_expr(alloc, all, side, &l.left)?;
-        add_expr(alloc, all, side, &l.right)?;
         add_literal(alloc, all, side, l)?;
     }
     Ok(())

@@ -1,8 +1,8 @@
 //! The terms and the literals of two machines.
 
 use crate::collection::Collection;
-use crate::stop::unless_stopped;
-use crate::subterms::{add_expr, add_literals};
+use crate::stop::leave_out;
+use crate::subterms::{add_expr, add_literals, evaluate_both};
 use fs_ast::machine::Machine;
 use fs_model::parts::{Assign, Branch, Expr, StateId, VarId};
 use fs_pair::positions::Pairing;
@@ -16,7 +16,6 @@ use nf_terms::stop::NoMemory;
 use nf_terms::tree::SeqBase;
 use nf_trees::tree::{Base, Pos, Side};
 use std::alloc::Global;
-use sym_facts::evaluation::evaluate;
 use sym_facts::fact::own_symbol;
 
 /// A term over the symbols of positions, and the places of the positions that it mentions.
@@ -60,9 +59,9 @@ fn add_write(
     value: &Poly,
 ) -> Result<(), NoMemory> {
     let array = Arr::bare(alloc, Base::Sym(base));
-    match unless_stopped(write(alloc, &array, index, value))? {
-        Some(written) => all.add_form(alloc, Nf::Arr(written)),
-        None => Ok(()),
+    match write(alloc, &array, index, value) {
+        Ok(written) => all.add_form(alloc, Nf::Arr(written)),
+        Err(stop) => leave_out(stop),
     }
 }
 
@@ -81,20 +80,6 @@ fn add_writes(
     }
 }
 
-// Adds the arrays that a write to an index with this value leaves.
-fn add_put_at(
-    alloc: Global,
-    all: &mut Collection<'_>,
-    array: Pos,
-    index: &Poly,
-    e: &Expr<VarId>,
-) -> Result<(), NoMemory> {
-    match unless_stopped(evaluate(alloc, array.side, all.own_symbols(), e))? {
-        Some(value) => add_writes(alloc, all, array, index, &value),
-        None => Ok(()),
-    }
-}
-
 // Adds the arrays that a write leaves.
 fn add_put(
     alloc: Global,
@@ -103,9 +88,9 @@ fn add_put(
     i: &Expr<VarId>,
     e: &Expr<VarId>,
 ) -> Result<(), NoMemory> {
-    match unless_stopped(evaluate(alloc, array.side, all.own_symbols(), i))? {
-        Some(index) => add_put_at(alloc, all, array, &index, e),
-        None => Ok(()),
+    match evaluate_both(alloc, array.side, all.own_symbols(), i, e) {
+        Ok((index, value)) => add_writes(alloc, all, array, &index, &value),
+        Err(stop) => leave_out(stop),
     }
 }
 
@@ -191,6 +176,8 @@ pub fn universe_of(
     p: &Pairing,
 ) -> Result<Universe, NoMemory> {
     let mut all = Collection::new(alloc, p.positions());
-    add_all(alloc, &mut all, a, b)?;
-    Ok(all.into_universe())
+    match add_all(alloc, &mut all, a, b) {
+        Ok(()) => Ok(all.into_universe()),
+        Err(refused) => Err(refused),
+    }
 }
