@@ -30,15 +30,29 @@ fn mode_by(flags: Flags, left_head: bool, right_head: bool) -> Mode {
     Mode::Both
 }
 
-// Adds what the fact of a node, with this vector, shows of its points.
+// The mode of a node with these flags: a side that is done does not move.
+fn mode_of(sides: &Sides<'_>, node: &SearchNode, flags: Flags) -> Mode {
+    match (node.left.is_done(), node.right.is_done()) {
+        (true, true) => Mode::End,
+        (true, false) => Mode::Right,
+        (false, true) => Mode::Left,
+        (false, false) => mode_by(
+            flags,
+            sides.left.order.is_head(node.left),
+            sides.right.order.is_head(node.right),
+        ),
+    }
+}
+
+// What is known of the points of a node, with what its fact, with this vector, shows of them.
 fn see_ways(
     alloc: Global,
     sides: &Sides<'_>,
     work: &mut Work,
     node: &SearchNode,
     v: &Vector,
-    flags: &mut Flags,
-) -> Result<(), Stop> {
+    mut flags: Flags,
+) -> Result<Flags, Stop> {
     let fact = &node.fact;
     if !flags.many_left {
         let (a, c) = (sides.left.machine, &sides.left.cover);
@@ -48,10 +62,10 @@ fn see_ways(
         let (b, c) = (sides.right.machine, &sides.right.cover);
         flags.many_right = has_many(alloc, work, b, c, Side::Right, fact, v, node.right)?;
     }
-    Ok(())
+    Ok(flags)
 }
 
-// What is kept of the points of a node, with what its fact shows of them.
+// What is kept of the points of a node, with what its fact shows of them where neither machine is done.
 fn flags_of(
     alloc: Global,
     sides: &Sides<'_>,
@@ -59,137 +73,85 @@ fn flags_of(
     all: &[Flags],
     node: &SearchNode,
 ) -> Result<Flags, Stop> {
-    let mut flags = flags_at(all, node.left, node.right);
+    let flags = flags_at(all, node.left, node.right);
+    if node.left.is_done() || node.right.is_done() {
+        return Ok(flags);
+    }
     let v = node.fact.vector(alloc)?;
-    see_ways(alloc, sides, work, node, &v, &mut flags)?;
-    Ok(flags)
+    see_ways(alloc, sides, work, node, &v, flags)
 }
 
-// The move of one path of each side that moves.
-fn open_move(left: Option<usize>, right: Option<usize>) -> NodeMove {
+// A move in a mode: the path of a side that does not move is left out.
+fn open_move(mode: Mode, left: usize, right: usize) -> NodeMove {
     NodeMove {
-        left,
-        right,
+        left: if mode == Mode::Right {
+            None
+        } else {
+            Some(left)
+        },
+        right: if mode == Mode::Left {
+            None
+        } else {
+            Some(right)
+        },
         settled: Settled::Open,
     }
 }
 
-// Adds the moves of a left path with each right one.
-fn push_pairs(moves: &mut Vec<NodeMove>, left: usize, rights: usize) -> Result<(), NoMemory> {
+// Adds the moves of a left path in a mode, one for each of so many right paths.
+fn add_moves(
+    moves: &mut Vec<NodeMove>,
+    mode: Mode,
+    left: usize,
+    rights: usize,
+) -> Result<(), NoMemory> {
     for right in 0..rights {
-        moves.push(open_move(Some(left), Some(right)))?;
+        moves.push(open_move(mode, left, right))?;
     }
     Ok(())
 }
 
-// The moves of each left path with each right one.
-fn pairs(alloc: Global, lefts: usize, rights: usize) -> Result<Vec<NodeMove>, NoMemory> {
-    let mut moves = Vec::new(alloc);
-    for left in 0..lefts {
-        push_pairs(&mut moves, left, rights)?;
-    }
-    Ok(moves)
-}
-
-// The moves of left paths alone.
-fn left_moves(alloc: Global, lefts: usize) -> Result<Vec<NodeMove>, NoMemory> {
-    let mut moves = Vec::new(alloc);
-    for left in 0..lefts {
-        moves.push(open_move(Some(left), None))?;
-    }
-    Ok(moves)
-}
-
-// The moves of right paths alone.
-fn right_moves(alloc: Global, rights: usize) -> Result<Vec<NodeMove>, NoMemory> {
-    let mut moves = Vec::new(alloc);
-    for right in 0..rights {
-        moves.push(open_move(None, Some(right)))?;
-    }
-    Ok(moves)
-}
-
-// The moves of two points in a mode.
-fn moves_in(
-    alloc: Global,
-    sides: &Sides<'_>,
+// Adds the moves of so many left and right paths in a mode.
+fn add_pairs(
+    moves: &mut Vec<NodeMove>,
     mode: Mode,
-    left: Point,
-    right: Point,
-) -> Result<Vec<NodeMove>, NoMemory> {
+    lefts: usize,
+    rights: usize,
+) -> Result<(), NoMemory> {
+    for left in 0..lefts {
+        add_moves(moves, mode, left, rights)?;
+    }
+    Ok(())
+}
+
+// How many left and right paths the moves of two points in a mode pair, where a side that does not move counts as one path.
+fn path_counts(sides: &Sides<'_>, mode: Mode, left: Point, right: Point) -> (usize, usize) {
     let lefts = sides.left.cover.from(left).len();
     let rights = sides.right.cover.from(right).len();
     match mode {
-        Mode::Both => pairs(alloc, lefts, rights),
-        Mode::Left => left_moves(alloc, lefts),
-        Mode::Right => right_moves(alloc, rights),
-        Mode::End => Ok(Vec::new(alloc)),
+        Mode::Both => (lefts, rights),
+        Mode::Left => (lefts, 1),
+        Mode::Right => (1, rights),
+        Mode::End => (0, 0),
     }
 }
 
-// The mode of the node at a place. Keeps what its fact shows of its points.
-fn mode_at(
-    alloc: Global,
-    sides: &Sides<'_>,
-    state: &mut State,
-    place: usize,
-) -> Result<Mode, Stop> {
-    let Some(node) = state.nodes.get(place) else {
-        return Ok(Mode::End);
+// Gives the node at a place, which has no moves, its mode and the moves of that mode.
+fn give_moves(sides: &Sides<'_>, state: &mut State, place: usize, mode: Mode) -> Result<(), Stop> {
+    let Some(node) = state.nodes.get_mut(place) else {
+        return Ok(());
     };
-    match (node.left.is_done(), node.right.is_done()) {
-        (true, true) => return Ok(Mode::End),
-        (true, false) => return Ok(Mode::Right),
-        (false, true) => return Ok(Mode::Left),
-        (false, false) => {}
-    }
-    let (left, right) = (node.left, node.right);
-    let flags = flags_of(alloc, sides, &mut state.work, state.flags.as_slice(), node)?;
-    keep(&mut state.flags, flags)?;
-    Ok(mode_by(
-        flags,
-        sides.left.order.is_head(left),
-        sides.right.order.is_head(right),
-    ))
+    node.mode = Some(mode);
+    let (lefts, rights) = path_counts(sides, mode, node.left, node.right);
+    add_pairs(&mut node.moves, mode, lefts, rights)?;
+    state.work.spend(node.moves.len() as u64)
 }
 
-// Gives the node at a place its mode and the moves of that mode.
-fn set_moves(
-    state: &mut State,
-    place: usize,
-    mode: Mode,
-    moves: Vec<NodeMove>,
-) -> Result<(), Stop> {
-    state.work.spend(moves.len() as u64)?;
-    if let Some(node) = state.nodes.get_mut(place) {
-        node.mode = Some(mode);
-        node.moves = moves;
-    }
-    Ok(())
-}
-
-// Gives the node at a place its mode, and the moves of two points in that mode.
-fn give_moves(
-    alloc: Global,
-    sides: &Sides<'_>,
-    state: &mut State,
-    place: usize,
-    mode: Mode,
-    points: (Point, Point),
-) -> Result<(), Stop> {
-    let moves = moves_in(alloc, sides, mode, points.0, points.1)?;
-    set_moves(state, place, mode, moves)
-}
-
-// Whether the points of these flags have had another mode since the table was last cleared. Keeps the mode where they had none.
-fn has_other_mode(state: &mut State, mut flags: Flags, mode: Mode) -> Result<bool, NoMemory> {
-    match flags.mode {
-        Some(old) => Ok(old != mode),
-        None => {
-            flags.mode = Some(mode);
-            keep(&mut state.flags, flags)?;
-            Ok(false)
-        }
+// Whether a mode is another one than points had, if they had one.
+fn is_other(old: Option<Mode>, mode: Mode) -> bool {
+    match old {
+        Some(old) => old != mode,
+        None => false,
     }
 }
 
@@ -201,16 +163,18 @@ pub fn see_mode(
     state: &mut State,
     place: usize,
 ) -> Result<bool, Stop> {
-    let mode = mode_at(alloc, sides, state, place)?;
     let Some(node) = state.nodes.get(place) else {
         return Ok(false);
     };
-    let (left, right) = (node.left, node.right);
-    let flags = flags_at(state.flags.as_slice(), left, right);
-    if has_other_mode(state, flags, mode)? {
+    let mut flags = flags_of(alloc, sides, &mut state.work, state.flags.as_slice(), node)?;
+    let mode = mode_of(sides, node, flags);
+    let clears = is_other(flags.mode, mode);
+    flags.mode = Some(mode);
+    keep(&mut state.flags, flags)?;
+    if clears {
         clear(state)?;
-        return Ok(true);
+    } else {
+        give_moves(sides, state, place, mode)?;
     }
-    give_moves(alloc, sides, state, place, mode, (left, right))?;
-    Ok(false)
+    Ok(clears)
 }

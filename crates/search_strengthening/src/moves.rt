@@ -89,20 +89,6 @@ fn post_by(
     within_limits(arrive(alloc, a, b, &node.fact, left, right))
 }
 
-// Adds the node of which this is claimed.
-fn add_first(
-    alloc: Global,
-    sides: &Sides<'_>,
-    state: &mut State,
-    left: Point,
-    right: Point,
-    first: FirstFact,
-) -> Result<Step, Stop> {
-    let FirstFact { claims, fact } = first;
-    let place = add(alloc, sides, state, left, right, claims, fact)?;
-    Ok(Step::Changes { place })
-}
-
 // Adds the node at which a post arrives first.
 fn add_target(
     alloc: Global,
@@ -112,28 +98,14 @@ fn add_target(
     left: Point,
     right: Point,
 ) -> Result<Step, Stop> {
-    let first = first_fact(alloc, &mut state.work, &sides.universe, sides.pairing, post)?;
-    add_first(alloc, sides, state, left, right, first)
-}
-
-// Gives the node at a place the fact that is made of its claims.
-fn give_fact(
-    alloc: Global,
-    sides: &Sides<'_>,
-    state: &mut State,
-    place: usize,
-) -> Result<Step, Stop> {
-    let Some(node) = state.nodes.get(place) else {
-        return Ok(Step::Keeps);
-    };
-    let fact = fact_of(
+    let FirstFact { claims, fact } = first_fact(
         alloc,
         &mut state.work,
         &sides.universe,
         sides.pairing,
-        &node.claims,
+        post,
     )?;
-    change_fact(state, place, fact)?;
+    let place = add(alloc, sides, state, left, right, claims, fact)?;
     Ok(Step::Changes { place })
 }
 
@@ -149,18 +121,15 @@ fn weaken(
     let Some(node) = state.nodes.get_mut(place) else {
         return Ok(Step::Keeps);
     };
-    let count = sides.pairing.positions().len();
-    if !weed(
-        alloc,
-        &mut state.work,
-        &sides.universe,
-        count,
-        &mut node.claims,
-        post,
-    )? {
+    let work = &mut state.work;
+    let (universe, p) = (&sides.universe, sides.pairing);
+    let count = p.positions().len();
+    if !weed(alloc, work, universe, count, &mut node.claims, post)? {
         return Err(Stop::Bound);
     }
-    give_fact(alloc, sides, state, place)
+    let fact = fact_of(alloc, work, universe, p, &node.claims)?;
+    change_fact(state, place, fact)?;
+    Ok(Step::Changes { place })
 }
 
 // Whether a post entails the fact of a node. `Bound` comes where an operation meets a limit.
@@ -238,6 +207,8 @@ pub fn try_move(
     let right_path = path_by(&sides.right, node.right, tried.right);
     let left = end_of(node.left, left_path);
     let right = end_of(node.right, right_path);
-    let post = post_by(alloc, sides, &mut state.work, node, left_path, right_path)?;
-    try_post(alloc, sides, state, &post, (place, number), left, right)
+    match post_by(alloc, sides, &mut state.work, node, left_path, right_path) {
+        Ok(post) => try_post(alloc, sides, state, &post, (place, number), left, right),
+        Err(stop) => Err(stop),
+    }
 }

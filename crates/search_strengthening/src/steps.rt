@@ -63,30 +63,18 @@ fn first_step(alloc: Global, sides: &Sides<'_>, state: &mut State) -> Result<Ste
     Ok(Step::Keeps)
 }
 
-// Whether both machines are done at a node, and an output has another form than the right variable of its name.
-fn differs_at_end(alloc: Global, sides: &Sides<'_>, node: &SearchNode) -> Result<bool, NoMemory> {
-    if !node.left.is_done() || !node.right.is_done() {
-        return Ok(false);
-    }
-    outputs_differ(alloc, sides.left.machine, sides.right.machine, &node.fact)
-}
-
-// Gives up where outputs differ at the node at a place.
-fn check_outputs(
+// Whether both machines are done at the node at a place, and an output has another form than the right variable of its name.
+fn differs_at_end(
     alloc: Global,
     sides: &Sides<'_>,
-    state: &State,
+    nodes: &[SearchNode],
     place: usize,
-) -> Result<(), Stop> {
-    match state.nodes.get(place) {
-        Some(node) => {
-            if differs_at_end(alloc, sides, node)? {
-                Err(Stop::Bound)
-            } else {
-                Ok(())
-            }
+) -> Result<bool, NoMemory> {
+    match nodes.get(place) {
+        Some(node) if node.left.is_done() && node.right.is_done() => {
+            outputs_differ(alloc, sides.left.machine, sides.right.machine, &node.fact)
         }
-        None => Ok(()),
+        _ => Ok(false),
     }
 }
 
@@ -95,7 +83,11 @@ pub fn make_steps(alloc: Global, sides: &Sides<'_>, state: &mut State) -> Result
     for _ in 0..CHANGE_LIMIT + CLEARING_LIMIT {
         match first_step(alloc, sides, state)? {
             Step::Keeps => return Ok(()),
-            Step::Changes { place } => check_outputs(alloc, sides, state, place)?,
+            Step::Changes { place } => {
+                if differs_at_end(alloc, sides, state.nodes.as_slice(), place)? {
+                    return Err(Stop::Bound);
+                }
+            }
             Step::Clears => {}
         }
     }

@@ -14,27 +14,45 @@ use fs_pair::positions::Pairing;
 use nf_terms::stop::NoMemory;
 use search_strengthening_tables::assembling::assemble;
 use search_strengthening_tables::ranks::ranks_of;
-use search_strengthening_tables::sides::{Sides, sides_of};
+use search_strengthening_tables::sides::sides_of;
 use search_strengthening_tables::state::{State, begin};
 use search_strengthening_terms::stop::Stop;
 use std::alloc::Global;
 
-// The closed table of two machines that are seen so. `Bound` comes where none is found.
-fn table_of(alloc: Global, sides: &Sides<'_>) -> Result<State, Stop> {
-    let mut state = begin(alloc, sides.pairing)?;
-    make_steps(alloc, sides, &mut state)?;
-    Ok(state)
+// Closes the table of two machines. `Bound` comes where a bound is reached or outputs differ.
+fn close(
+    alloc: Global,
+    a: &Machine,
+    b: &Machine,
+    p: &Pairing,
+    state: &mut State,
+) -> Result<(), Stop> {
+    let sides = sides_of(alloc, a, b, p)?;
+    make_steps(alloc, &sides, state)
 }
 
-// The closed table of two machines. `Bound` comes where none is found.
-fn closed_table<'a>(
+// Closes the table of two machines, and makes a certificate of its nodes, if that can be done.
+fn certificate_of(
     alloc: Global,
-    a: &'a Machine,
-    b: &'a Machine,
-    p: &'a Pairing,
-) -> Result<State, Stop> {
-    let sides = sides_of(alloc, a, b, p)?;
-    table_of(alloc, &sides)
+    a: &Machine,
+    b: &Machine,
+    p: &Pairing,
+    state: &mut State,
+) -> Result<Option<Cert>, NoMemory>
+    requires paired { p.now ≡ positions a.now b.now }
+    ensures lawful { IfOk result (λ found. IfSome found (λ c. IsLawful a.now b.now (map node_of c.nodes.items))) }
+    ensures small { IfOk result (λ found. IfSome found (λ c. units_of (map node_of c.nodes.items) ≤ 4000000)) }
+{
+    match close(alloc, a, b, p, state) {
+        Ok(()) => {}
+        Err(Stop::Bound) => return Ok(None),
+        Err(Stop::NoMemory) => return Err(NoMemory),
+    }
+    let nodes = state.nodes.as_slice();
+    match ranks_of(alloc, nodes)? {
+        Some(ranks) => assemble(alloc, a, b, p, nodes, ranks.as_slice()),
+        None => Ok(None),
+    }
 }
 
 /// Searches a second time for a certificate that two machines with the same interface have the same behaviour: for each pair of
@@ -53,14 +71,6 @@ pub fn strengthen(
     ensures lawful { IfOk result (λ found. IfSome found (λ c. IsLawful a.now b.now (map node_of c.nodes.items))) }
     ensures small { IfOk result (λ found. IfSome found (λ c. units_of (map node_of c.nodes.items) ≤ 4000000)) }
 {
-    let state = match closed_table(alloc, a, b, p) {
-        Ok(state) => state,
-        Err(Stop::Bound) => return Ok(None),
-        Err(Stop::NoMemory) => return Err(NoMemory),
-    };
-    let nodes = state.nodes.as_slice();
-    match ranks_of(alloc, nodes)? {
-        Some(ranks) => assemble(alloc, a, b, p, nodes, ranks.as_slice()),
-        None => Ok(None),
-    }
+    let mut state = begin(alloc, p)?;
+    certificate_of(alloc, a, b, p, &mut state)
 }
