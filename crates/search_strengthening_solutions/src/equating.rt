@@ -77,12 +77,8 @@ fn solve_at(
         return Ok(None);
     };
     match (value_at(values, first), value_at(values, place)) {
-        (Some(left), Some(right)) => {
-            if left.is_same(right) {
-                Ok(None)
-            } else {
-                solve(alloc, positions, solution, left, right)
-            }
+        (Some(left), Some(right)) if !left.is_same(right) => {
+            solve(alloc, positions, solution, left, right)
         }
         _ => Ok(None),
     }
@@ -147,19 +143,6 @@ fn lone_value(alloc: Global, solved: Solved) -> Result<Vector, NoMemory> {
     Ok(only)
 }
 
-// Puts the values of positions, where these are put in the places of positions.
-fn put_replaced_by(
-    alloc: Global,
-    work: &mut Work,
-    positions: &[Position],
-    solution: &Solution,
-    only: &Vector,
-    values: &mut Vector,
-) -> Result<(), Stop> {
-    let mut s = Subst::new(alloc, only);
-    put_replaced(alloc, work, positions, solution, &mut s, values)
-}
-
 // Puts the values of positions over the positions that stay free, where what one is equal to is put in its place.
 fn put_solved(
     alloc: Global,
@@ -170,20 +153,8 @@ fn put_solved(
     values: &mut Vector,
 ) -> Result<(), Stop> {
     let only = lone_value(alloc, solved)?;
-    put_replaced_by(alloc, work, positions, solution, &only, values)
-}
-
-// The values of positions over the positions that stay free.
-fn all_replaced(
-    alloc: Global,
-    work: &mut Work,
-    positions: &[Position],
-    solution: &Solution,
-    solved: Solved,
-) -> Result<Vector, Stop> {
-    let mut values = Vector::new(alloc);
-    put_solved(alloc, work, positions, solution, solved, &mut values)?;
-    Ok(values)
+    let mut s = Subst::new(alloc, &only);
+    put_replaced(alloc, work, positions, solution, &mut s, values)
 }
 
 // Puts what a free position is equal to in its place.
@@ -195,7 +166,8 @@ fn replace(
     solved: Solved,
 ) -> Result<(), Stop> {
     let pos = solved.pos;
-    let values = all_replaced(alloc, work, positions, solution, solved)?;
+    let mut values = Vector::new(alloc);
+    put_solved(alloc, work, positions, solution, solved, &mut values)?;
     solution.values = values;
     solution.free.retain(|other| *other != pos);
     Ok(())

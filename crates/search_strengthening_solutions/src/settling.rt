@@ -45,26 +45,23 @@ fn all_known(solution: &Solution, places: &[usize]) -> bool {
     true
 }
 
-// Whether an extra is there and mentions nothing.
-fn mentions_nothing(alloc: Global, extra: Option<&Nf>) -> Result<bool, NoMemory> {
-    match extra {
-        Some(extra) => Ok(symbols_of_nf(alloc, extra)?.is_empty()),
-        None => Ok(false),
-    }
-}
-
-// Whether a term makes its class known: all that it mentions is known, and an extra mentions nothing.
-fn is_telling(
+// The form of a term, where it makes the term's class known: all that a term of the universe mentions is known, and an extra
+// mentions nothing.
+fn telling_form<'t>(
     alloc: Global,
-    universe: &Universe,
-    claims: &Claims,
+    universe: &'t Universe,
+    claims: &'t Claims,
     solution: &Solution,
     place: usize,
-) -> Result<bool, NoMemory> {
-    match universe.terms.get(place) {
-        Some(term) => Ok(all_known(solution, term.places.as_slice())),
-        None => mentions_nothing(alloc, form_at(universe, claims, place)),
-    }
+) -> Result<Option<&'t Nf>, NoMemory> {
+    let Some(form) = form_at(universe, claims, place) else {
+        return Ok(None);
+    };
+    let tells = match universe.terms.get(place) {
+        Some(term) => all_known(solution, term.places.as_slice()),
+        None => symbols_of_nf(alloc, form)?.is_empty(),
+    };
+    Ok(if tells { Some(form) } else { None })
 }
 
 // The class of a term, where it has positions and none of them is known.
@@ -82,17 +79,6 @@ fn unknown_class(
     }
 }
 
-// The value of a form over free positions, or none where it meets a limit.
-fn value_over(
-    alloc: Global,
-    work: &mut Work,
-    values: &Vector,
-    form: &Nf,
-) -> Result<Option<Nf>, Stop> {
-    let mut s = Subst::new(alloc, values);
-    value_of(alloc, work, &mut s, form)
-}
-
 // The value that a term tells of its class, if it tells one.
 fn told_value(
     alloc: Global,
@@ -102,30 +88,12 @@ fn told_value(
     solution: &Solution,
     place: usize,
 ) -> Result<Option<Nf>, Stop> {
-    if !is_telling(alloc, universe, claims, solution, place)? {
-        return Ok(None);
-    }
-    match form_at(universe, claims, place) {
-        Some(form) => value_over(alloc, work, &solution.values, form),
-        None => Ok(None),
-    }
-}
-
-// Gives all positions of a class the value that is told of it, if one is. Answers whether it did.
-fn give_told(
-    alloc: Global,
-    positions: &[Position],
-    claims: &Claims,
-    class: usize,
-    told: Option<Nf>,
-    solution: &mut Solution,
-) -> Result<bool, Stop> {
-    match told {
-        Some(value) => {
-            give_value(alloc, positions, claims, class, &value, solution)?;
-            Ok(true)
+    match telling_form(alloc, universe, claims, solution, place)? {
+        Some(form) => {
+            let mut s = Subst::new(alloc, &solution.values);
+            value_of(alloc, work, &mut s, form)
         }
-        None => Ok(false),
+        None => Ok(None),
     }
 }
 
@@ -142,8 +110,13 @@ fn tell(
     let Some(class) = unknown_class(positions, claims, solution, place) else {
         return Ok(false);
     };
-    let told = told_value(alloc, work, universe, claims, solution, place)?;
-    give_told(alloc, positions, claims, class, told, solution)
+    match told_value(alloc, work, universe, claims, solution, place)? {
+        Some(value) => {
+            give_value(alloc, positions, claims, class, &value, solution)?;
+            Ok(true)
+        }
+        None => Ok(false),
+    }
 }
 
 // Goes over all terms that are no positions once. Answers whether a class became known.
@@ -182,21 +155,15 @@ fn tell_all(
     Ok(())
 }
 
-// Whether a class has a position of a side.
-fn has_side(positions: &[Position], claims: &Claims, class: Option<usize>, side: Side) -> bool {
-    for (place, position) in positions.iter().enumerate() {
-        if position.pos.side == side && class_at(claims, place) == class {
+// Whether the class of the position at a place has a position of the other side.
+fn is_shared(positions: &[Position], claims: &Claims, place: usize, side: Side) -> bool {
+    let class = class_at(claims, place);
+    for (other, position) in positions.iter().enumerate() {
+        if position.pos.side != side && class_at(claims, other) == class {
             return true;
         }
     }
     false
-}
-
-fn other_side(side: Side) -> Side {
-    match side {
-        Side::Left => Side::Right,
-        Side::Right => Side::Left,
-    }
 }
 
 // Which positions are freed first.
@@ -217,38 +184,37 @@ fn is_of(
 ) -> bool {
     match choice {
         Choice::LeftInputs => p.role == Role::Input && p.pos.side == Side::Left,
-        Choice::Shared => has_side(
-            positions,
-            claims,
-            class_at(claims, place),
-            other_side(p.pos.side),
-        ),
+        Choice::Shared => is_shared(positions, claims, place, p.pos.side),
         Choice::Any => true,
     }
 }
 
-// The first unknown position of a choice.
-fn first_unknown(
+// The first unknown position of a choice, with its place.
+fn first_unknown<'p>(
     choice: Choice,
-    positions: &[Position],
+    positions: &'p [Position],
     claims: &Claims,
     solution: &Solution,
-) -> Option<usize> {
+) -> Option<(usize, &'p Position)> {
     for (place, position) in positions.iter().enumerate() {
         if !solution.is_known(place) && is_of(choice, positions, claims, place, position) {
-            return Some(place);
+            return Some((place, position));
         }
     }
     None
 }
 
-// The unknown position that is freed next.
-fn next_free(positions: &[Position], claims: &Claims, solution: &Solution) -> Option<usize> {
-    if let Some(place) = first_unknown(Choice::LeftInputs, positions, claims, solution) {
-        return Some(place);
+// The unknown position that is freed next, with its place.
+fn next_free<'p>(
+    positions: &'p [Position],
+    claims: &Claims,
+    solution: &Solution,
+) -> Option<(usize, &'p Position)> {
+    if let Some(found) = first_unknown(Choice::LeftInputs, positions, claims, solution) {
+        return Some(found);
     }
-    if let Some(place) = first_unknown(Choice::Shared, positions, claims, solution) {
-        return Some(place);
+    if let Some(found) = first_unknown(Choice::Shared, positions, claims, solution) {
+        return Some(found);
     }
     first_unknown(Choice::Any, positions, claims, solution)
 }
@@ -260,10 +226,8 @@ fn free(
     claims: &Claims,
     solution: &mut Solution,
     place: usize,
+    position: &Position,
 ) -> Result<(), NoMemory> {
-    let Some(position) = positions.get(place) else {
-        return Ok(());
-    };
     solution.free.push(position.pos)?;
     solution.note_known(place);
     let symbol = own_symbol(alloc, position.sort, position.pos)?;
@@ -285,7 +249,9 @@ fn settle_all(
     for _ in positions {
         tell_all(alloc, work, universe, positions, claims, solution)?;
         match next_free(positions, claims, solution) {
-            Some(place) => free(alloc, positions, claims, solution, place)?,
+            Some((place, position)) => {
+                free(alloc, positions, claims, solution, place, position)?;
+            }
             None => return Ok(()),
         }
     }

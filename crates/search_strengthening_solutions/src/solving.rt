@@ -3,11 +3,9 @@
 use crate::solution::Solution;
 use fs_model::parts::Role;
 use fs_pair::positions::Position;
-use nf_sums::sums::{add, neg, sub};
-use nf_terms::arr::Arr;
+use nf_sums::sums::{add, sub};
 use nf_terms::form::Nf;
 use nf_terms::poly::Poly;
-use nf_terms::seq::Seq;
 use nf_terms::stop::NoMemory;
 use nf_terms::tree::SeqBase;
 use nf_trees::tree::{Atom, Base, MonoTree, Pos};
@@ -47,8 +45,8 @@ fn unit_symbol(mono: &MonoTree, coefficient: &i128) -> Option<Pos> {
     }
 }
 
-// A number without a symbol that stands in it with this coefficient, or none where it meets a limit.
-fn without_symbol(
+// What a symbol is equal to where a number is 0, in which it stands with this coefficient, or none where it meets a limit.
+fn symbol_value(
     alloc: Global,
     number: &Poly,
     pos: Pos,
@@ -56,34 +54,26 @@ fn without_symbol(
 ) -> Result<Option<Poly>, NoMemory> {
     let symbol = Poly::symbol(alloc, pos)?;
     if *coefficient == 1 {
-        unless_stopped(sub(alloc, number, &symbol))
+        unless_stopped(sub(alloc, &symbol, number))
     } else {
         unless_stopped(add(alloc, number, &symbol))
     }
 }
 
-// What a symbol with this coefficient is equal to where the rest of a number that is 0 is this one.
-fn solved_for(alloc: Global, rest: Poly, coefficient: &i128) -> Result<Poly, NoMemory> {
-    if *coefficient == 1 {
-        neg(alloc, &rest)
-    } else {
-        Ok(rest)
-    }
-}
-
 // What a symbol is equal to where a number is 0, in which it stands with this coefficient and nowhere else.
-fn isolated(
+fn solve_for(
     alloc: Global,
     number: &Poly,
     pos: Pos,
     coefficient: &i128,
-) -> Result<Option<Poly>, NoMemory> {
-    match without_symbol(alloc, number, pos, coefficient)? {
-        Some(rest) => {
-            if rest.mentions(pos) {
+) -> Result<Option<Solved>, NoMemory> {
+    match symbol_value(alloc, number, pos, coefficient)? {
+        Some(value) => {
+            if value.mentions(pos) {
                 Ok(None)
             } else {
-                Ok(Some(solved_for(alloc, rest, coefficient)?))
+                let form = Nf::Num(value);
+                Ok(Some(Solved { pos, form }))
             }
         }
         None => Ok(None),
@@ -100,11 +90,8 @@ fn solved_number(
     for (mono, coefficient) in number.monos() {
         if let Some(pos) = unit_symbol(mono, coefficient) {
             if is_unknown(positions, solution, pos) {
-                if let Some(rest) = isolated(alloc, number, pos, coefficient)? {
-                    return Ok(Some(Solved {
-                        pos,
-                        form: Nf::Num(rest),
-                    }));
+                if let Some(solved) = solve_for(alloc, number, pos, coefficient)? {
+                    return Ok(Some(solved));
                 }
             }
         }
@@ -112,40 +99,18 @@ fn solved_number(
     Ok(None)
 }
 
-// The symbol that an array is.
-fn array_symbol(array: &Arr) -> Option<Pos> {
-    match array.base() {
-        Base::Sym(p) => {
-            if array.writes().is_empty() {
-                Some(p)
-            } else {
-                None
-            }
-        }
-        Base::Zero => None,
-    }
-}
-
-// The symbol that a list is.
-fn list_symbol(list: &Seq) -> Option<Pos> {
-    match list.base() {
-        SeqBase::Sym(p) => {
-            if list.items().is_empty() {
-                Some(p)
-            } else {
-                None
-            }
-        }
-        SeqBase::Empty => None,
-    }
-}
-
 // The symbol that an array or a list is.
 fn whole_symbol(form: &Nf) -> Option<Pos> {
     match form {
         Nf::Num(_) => None,
-        Nf::Arr(array) => array_symbol(array),
-        Nf::Seq(list) => list_symbol(list),
+        Nf::Arr(array) => match array.base() {
+            Base::Sym(p) if array.writes().is_empty() => Some(p),
+            _ => None,
+        },
+        Nf::Seq(list) => match list.base() {
+            SeqBase::Sym(p) if list.items().is_empty() => Some(p),
+            _ => None,
+        },
     }
 }
 
@@ -158,17 +123,11 @@ fn solved_symbol(
     other: &Nf,
 ) -> Result<Option<Solved>, NoMemory> {
     match whole_symbol(form) {
-        Some(pos) => {
-            if is_unknown(positions, solution, pos) && !other.mentions(pos) {
-                Ok(Some(Solved {
-                    pos,
-                    form: other.try_clone(alloc)?,
-                }))
-            } else {
-                Ok(None)
-            }
+        Some(pos) if is_unknown(positions, solution, pos) && !other.mentions(pos) => {
+            let form = other.try_clone(alloc)?;
+            Ok(Some(Solved { pos, form }))
         }
-        None => Ok(None),
+        _ => Ok(None),
     }
 }
 
