@@ -25,7 +25,7 @@ use Rattle.search_places.specs.Moves.{paths_at}
 use Rattle.search_worklist.specs.Trials.{Tries, TriesAt}
 use Rattle.search_worklist.specs.Turns.{IsTurned, IsMoveAt, NoMoveAt}
 use Rattle.search_worklist.specs.Waiting.{IsEntailed, Arrives, IsSettledMove, IsWaiting}
-use Rattle.search_worklist.specs.States.{lines, Ready, IsReady, line_weight, work_of}
+use Rattle.search_worklist.specs.States.{lines, table, Ready, IsReady, line_weight, work_of}
 use Rattle.search_places.proofs.Moved.{again}
 use Rattle.search_worklist.proofs.Keeping.{Lists, lists_none, lists_one, lists_this, move_done}
 use Rattle.search_worklist.proofs.Found.{weight_set, apart}
@@ -191,6 +191,10 @@ entailed_within m s at k a =
     let x = paths_at m n at in
     let t = a.tries in
     omega (arith, target_within (lines s) (end_of n.left x.left) (end_of n.right x.right) t.0 k t.2.1, length-map s.entries.entries record_of_node)
+
+-- a table has as many nodes as its map has entries
+pub as_many : (s : State) (n : ℕ) → n ≡ length s.entries.entries → n ≡ length (table s)
+as_many s n e = e ∙ sym (length-map s.entries.entries record_of_node) ∙ sym (length-map (lines s) (λ (l : NodeRecord). l.node))
 
 -- a turn that ends an item
 pub place_before : (n : ℕ) → n ≢ 0 → (p : ℕ) × (n ≡ suc p)

@@ -172,6 +172,11 @@ pub tells_change : (T : Table) (P Q : Point) (post : Post) (e : MoveEffect) (r :
 tells_change T P Q post e (Ok t) h = gives_change T P Q post e e t refl h
 tells_change T P Q post e (Err s) h = h
 
+-- what is told of a post that is not refuted
+pub open_tries : (ps : List Position) (T : Table) (P Q : Point) (post : Post) (r : Result Trial NfStop) → is_refuted post.conditions ≡ false
+    → TellsTrial T P Q post (effect_there ps T P Q post) r → TellsTrial T P Q post (effect_of_arrival ps T P Q (Done post)) r
+open_tries ps T P Q post r o h = subst (λ e. TellsTrial T P Q post e r) (sym (ap (λ b. cond b Keeps (effect_there ps T P Q post)) o)) h
+
 -- ---- moves
 module _ (m : MachinePair) (T : Table) (n : SearchNode) (x : PathPair) where
   effect_is : (c : Computed Post) → arrival m n x ≡ c → effect m T n x ≡ effect_of_arrival (positions_of m) T (end_of n.left x.left) (end_of n.right x.right) c
@@ -182,21 +187,21 @@ module _ (m : MachinePair) (T : Table) (n : SearchNode) (x : PathPair) where
   arrive_stops (stop.Large u d) e = effect_is (Large u d) e
   arrive_stops stop.NoMemory e = tt
 
-  abbrev looked : Point → Point → Post → MoveEffect
-  looked P Q post = look_up_target (positions_of m) T P Q post (node_target T P Q)
+  abbrev arrived : Point → Point → Post → MoveEffect
+  arrived P Q post = effect_of_arrival (positions_of m) T P Q (Done post)
 
-  pub arrival_tries : (P Q : Point) (post : Post) (r : Result Trial NfStop) → arrival m n x ≡ Done post → is_refuted post.conditions ≡ false
-      → P ≡ end_of n.left x.left → Q ≡ end_of n.right x.right → TellsTrial T P Q post (looked P Q post) r → Tries m T n x r
-  arrival_tries P Q post r e o p q h =
+  pub arrival_tries : (P Q : Point) (post : Post) (r : Result Trial NfStop) → arrival m n x ≡ Done post → P ≡ end_of n.left x.left
+      → Q ≡ end_of n.right x.right → TellsTrial T P Q post (arrived P Q post) r → Tries m T n x r
+  arrival_tries P Q post r e p q h =
       by_answer r
-      (subst (λ A. TellsTrial T A (end_of n.right x.right) post (looked A (end_of n.right x.right) post) r) p
-      (subst (λ B. TellsTrial T P B post (looked P B post) r) q h))
+      (subst (λ A. TellsTrial T A (end_of n.right x.right) post (arrived A (end_of n.right x.right) post) r) p
+      (subst (λ B. TellsTrial T P B post (arrived P B post) r) q h))
     where
-      same : looked (end_of n.left x.left) (end_of n.right x.right) post ≡ effect m T n x
-      same = sym (effect_is (Done post) e ∙ ap (λ b. cond b Keeps (looked (end_of n.left x.left) (end_of n.right x.right) post)) o)
+      same : arrived (end_of n.left x.left) (end_of n.right x.right) post ≡ effect m T n x
+      same = sym (effect_is (Done post) e)
 
       by_answer : (r : Result Trial NfStop) → TellsTrial T (end_of n.left x.left)
-          (end_of n.right x.right) post (looked (end_of n.left x.left) (end_of n.right x.right) post) r → Tries m T n x r
+          (end_of n.right x.right) post (arrived (end_of n.left x.left) (end_of n.right x.right) post) r → Tries m T n x r
       by_answer (Ok t) h = (post, e, subst (λ d. GivesTrial T (end_of n.left x.left) (end_of n.right x.right) post d t) same h)
       by_answer (Err s) h = subst (IsMet s) same h
 

@@ -63,13 +63,13 @@ pub fn begin(alloc: Global, m: &Sides<'_>) -> Result<State, NoMemory>
     ensures ready { IfOk result (IsReady (machines_in m.now)) }
     ensures table { IfOk result (λ s. table s ≡ first_table (machines_in m.now)) }
 {
+    let fact = start_fact(alloc, m.pairing)?;
+    let units = fact.size();
     let mut state = State {
         entries: IndexMap::new(alloc),
         waiting: BTreeSet::new(alloc),
         units: 0,
     };
-    let fact = start_fact(alloc, m.pairing)?;
-    let units = fact.size();
     make(
         alloc,
         &mut state,

@@ -2,6 +2,7 @@
 
 ghost use Rattle.std.specs.Prelude.{◌≡◌, ◌+◌, ◌<◌, nat_le, cond, false, length, option_map, Some, None};
 ghost use Rattle.fs_cut.specs.View.{point_of, path_of};
+ghost use Rattle.nf_terms.specs.Computed.{Done};
 ghost use Rattle.nf_rel.specs.Literals.{is_refuted as refuted};
 ghost use Rattle.sym_paths.specs.Execution.{end_of as end};
 ghost use Rattle.sym_paths.specs.View.{post_in};
@@ -9,7 +10,7 @@ ghost use Rattle.sym_facts.specs.Facts.{size_of_fact};
 ghost use Rattle.sym_facts.specs.Entailment.{is_nothing as nothing};
 ghost use Rattle.sym_facts.specs.View.{missing_in};
 ghost use Rattle.search_tables.specs.SearchTables.{Table, units, most_units, within_units, node_target, look_up_target};
-ghost use Rattle.search_tables.specs.SearchTables.{positions_of};
+ghost use Rattle.search_tables.specs.SearchTables.{positions_of, effect_of_arrival};
 ghost use Rattle.search_places.specs.NodeChanges.{StandsAt};
 ghost use Rattle.search_worklist.specs.NodeUpdates.{put_fact};
 ghost use Rattle.search_worklist.specs.Trials.{GivesChange, TellsChange, TellsTrial, TriesAt};
@@ -131,13 +132,15 @@ fn try_arrival(
     right: Point,
     post: &Post,
 ) -> Result<Trial, NfStop>
-    requires is_open { refuted (post_in post.now).conditions ≡ false }
     requires sized { state.now.units ≡ units (table state.now) }
     requires made { IsMade (machines_in m.now) (table state.now) }
     ensures { TellsTrial (table state.now) (point_of left) (point_of right) (post_in post.now)
-        (look_up_target (positions_of (machines_in m.now)) (table state.now) (point_of left) (point_of right) (post_in post.now)
-        (node_target (table state.now) (point_of left) (point_of right))) result }
+        (effect_of_arrival (positions_of (machines_in m.now)) (table state.now) (point_of left) (point_of right)
+        (Done (post_in post.now))) result }
 {
+    if is_refuted(alloc, post.conds.as_slice())? {
+        return Ok(Trial::Refuted);
+    }
     match find(&state.entries, left, right) {
         Some(number) => try_known(alloc, m, state, left, right, number, post),
         None => try_new(alloc, m, state, left, right, post),
@@ -168,9 +171,6 @@ pub fn try_move(alloc: Global, m: &Sides<'_>, state: &State, at: Move) -> Result
     let left = path_by(left_paths(m, from.points.left), at.left);
     let right = path_by(right_paths(m, from.points.right), at.right);
     let post = arrive(alloc, m.left, m.right, &from.entry.fact, left, right)?;
-    if is_refuted(alloc, post.conds.as_slice())? {
-        return Ok(Trial::Refuted);
-    }
     let left = end_of(from.points.left, left);
     let right = end_of(from.points.right, right);
     try_arrival(alloc, m, state, left, right, &post)

@@ -1,8 +1,6 @@
-use Rattle.std.proofs.Common.{◌≡◌, ap, map, true, false, sym, ◌∙◌}
+use Rattle.std.proofs.Common.{ap, ◌∙◌}
 use Rattle.fs_cut.specs.View.{point_of}
 use Rattle.nf_terms.specs.Computed.{Done}
-use Rattle.nf_rel.specs.Literals.{is_refuted}
-use Rattle.nf_rel.specs.View.{literal_in}
 use Rattle.sym_paths.specs.Execution.{end_of}
 use Rattle.sym_paths.specs.View.{post_in}
 use Rattle.search_places.specs.View.{standing_in}
@@ -21,20 +19,6 @@ pub right_paths-requires : goal.right_paths-requires
 right_paths-requires c = right_point (machines_in c.args.m.now) (lines c.args.state.now) c.requires.made c.args.at.node
     (standing_in c.node_at-from.result) c.node_at-from.ensures
 
-pub returns-then-branch : goal.returns-then-branch
-returns-then-branch c =
-    let l = standing_in c.node_at-from.result in
-    let left = c.path_by-left.ensures ∙ ap (λ ps. path_in ps c.args.at.left) c.left_paths.ensures.paths in
-    let right = c.path_by-right.ensures ∙ ap (λ ps. path_in ps c.args.at.right) c.right_paths.ensures.paths in
-    let post = post_in c.in_ok-post.post in
-    let refuted : is_refuted post.conditions ≡ true = sym (ap (λ ls. is_refuted (map literal_in ls)) c.as_slice.ensures.value) ∙ sym c.in_ok-is_refuted.ensures
-    ∙ c.if-branch.true in
-    record {
-      line = l;
-      is_in = c.node_at-from.ensures;
-      tries = (post, arrives_by (machines_in c.args.m.now) l.node c.args.at _ _ (Done post) left right c.in_ok-post.ensures, refuted);
-    }
-
 pub returns : goal.returns
 returns c =
     let m = machines_in c.args.m.now in
@@ -42,13 +26,11 @@ returns c =
     let left = c.path_by-left.ensures ∙ ap (λ ps. path_in ps c.args.at.left) c.left_paths.ensures.paths in
     let right = c.path_by-right.ensures ∙ ap (λ ps. path_in ps c.args.at.right) c.right_paths.ensures.paths in
     let post = post_in c.in_ok-post.post in
-    let is_open : is_refuted post.conditions ≡ false = sym (ap (λ ls. is_refuted (map literal_in ls)) c.as_slice.ensures.value) ∙ sym c.in_ok-is_refuted.ensures
-    ∙ c.if-branch.false in
     record {
       line = l;
       is_in = c.node_at-from.ensures;
       tries = arrival_tries m (table c.args.state.now) l.node (paths_at m l.node c.args.at) (point_of c.end_of-left.result)
           (point_of c.end_of-right.result) post c.try_arrival.result
-          (arrives_by m l.node c.args.at _ _ (Done post) left right c.in_ok-post.ensures) is_open (c.end_of-left.ensures ∙ ap (end_of l.node.left) left)
+          (arrives_by m l.node c.args.at _ _ (Done post) left right c.in_ok-post.ensures) (c.end_of-left.ensures ∙ ap (end_of l.node.left) left)
           (c.end_of-right.ensures ∙ ap (end_of l.node.right) right) c.try_arrival.ensures;
     }
