@@ -1,6 +1,6 @@
 //! Answers to the links of chains.
 
-ghost use Rattle.std.specs.Prelude.{◌≡◌, ◌≢◌, IfOk, None, Some, map};
+ghost use Rattle.std.specs.Prelude.{◌≡◌, ◌≢◌, List, IfOk, None, Some, map};
 ghost use Rattle.std.specs.Result.{OnOk, IfErr};
 ghost use Rattle.fsmd_words.specs.AskedWords.{asked_of_ask};
 ghost use Rattle.fs_pair.specs.Interfaces.{interface_fault};
@@ -8,18 +8,20 @@ ghost use Rattle.fs_pair.specs.Positions.{positions};
 ghost use Rattle.cert_model.specs.Lawful.{IsLawful};
 ghost use Rattle.cert_model.specs.Obligations.{Yes, verdict_on};
 ghost use Rattle.cert_model.specs.View.{node_of};
-ghost use Rattle.cert_check.specs.View.{verdict_in};
+ghost use Rattle.cert_bisimulation.specs.Tables.{Node};
+ghost use Rattle.sym_facts.specs.Facts.{Fact};
+ghost use Rattle.hls_shrink.specs.ChainStops.{IsStopOf};
 ghost use Rattle.fsmd_replies.specs.declared.answer.Answer.TheVariants.{Link};
 ghost use Rattle.fsmd_answers.specs.declared.refused.Refused.TheVariants.{Answered};
 ghost use Rattle.fsmd_replies.specs.Statuses.{status_of};
-ghost use Rattle.fsmd_pair_answers.specs.Verdicts.{answer_to, IsJudged};
+ghost use Rattle.fsmd_pair_answers.specs.Verdicts.{IsJudged};
 ghost use Rattle.fsmd_answers.specs.Links.{link_lines, AtLink, IsOfChain};
 ghost use Rattle.fsmd_answers.specs.Refusing.{WhereAnswered};
 
 use crate::refused::Refused;
-use cert_check::verdict::Verdict;
 use cert_model::cert::Cert;
 use fs_ast::machine::Machine;
+use fs_model::name::NoMemory;
 use fs_pair::positions::Pairing;
 use fsmd_pair_answers::judge::answer_to;
 use fsmd_replies::answer::{Answer, Lines};
@@ -28,18 +30,28 @@ use fsmd_words::asking::Ask;
 use hls_shrink::{Chain, ChainStop};
 use std::alloc::{AllocError, Global};
 
-// An answer, told as that of the link of this number, from 1.
-fn told_at(alloc: Global, ask: &Ask, link: u32, stop: &Answer) -> Result<Answer, AllocError>
-    ensures { IfOk result
-        (λ answer. answer ≡ Link (status_of stop.now) (link_lines (Some (asked_of_ask ask.now)) link stop.now)) }
+// The lines of an answer, told as those of the link of this number, from 1.
+fn link_lines(alloc: Global, ask: &Ask, link: u32, stop: &Answer) -> Result<Vec<u8>, AllocError>
+    ensures { IfOk result (λ bytes. bytes.items ≡ link_lines (Some (asked_of_ask ask.now)) link stop.now) }
 {
     let mut bytes = format!(in alloc; "link {link}: ")?.into_bytes();
     let mut stop_lines = lines(alloc, stop, ask)?;
     bytes.append(&mut stop_lines)?;
-    Ok(Answer::Link {
-        status: stop.status(),
-        lines: Lines::of(bytes),
-    })
+    Ok(bytes)
+}
+
+// The refusal by an answer, told as that of the link of this number, from 1.
+fn told_at(alloc: Global, ask: &Ask, link: u32, stop: &Answer) -> Refused
+    ensures { WhereAnswered
+        (λ answer. answer ≡ Link (status_of stop.now) (link_lines (Some (asked_of_ask ask.now)) link stop.now)) result }
+{
+    match link_lines(alloc, ask, link, stop) {
+        Ok(bytes) => Refused::Answered(Answer::Link {
+            status: stop.status(),
+            lines: Lines::of(bytes),
+        }),
+        Err(_) => Refused::NoMemory,
+    }
 }
 
 /// A refusal, told as that of the link of this number, from 1: its lines behind `link K: `, with its status.
@@ -47,40 +59,43 @@ pub fn at_link(alloc: Global, ask: &Ask, link: u32, refused: Refused) -> Refused
     ensures { WhereAnswered (AtLink (Some (asked_of_ask ask.now)) link (λ stop. refused ≡ Answered stop)) result }
 {
     match refused {
-        Refused::Answered(stop) => match told_at(alloc, ask, link, &stop) {
-            Ok(answer) => Refused::Answered(answer),
-            Err(_) => Refused::NoMemory,
-        },
+        Refused::Answered(stop) => told_at(alloc, ask, link, &stop),
         Refused::NoMemory => Refused::NoMemory,
     }
 }
 
-// A copy of a machine. The one refusal is out of memory.
-fn copied(alloc: Global, machine: &Machine) -> Result<Machine, AllocError>
-    ensures { IfOk result (λ copy. copy ≡ machine.now) }
+// Copies of two machines. The one refusal is out of memory.
+fn copies(alloc: Global, a: &Machine, b: &Machine) -> Result<(Machine, Machine), NoMemory>
+    ensures left { IfOk result (λ copies. copies.0 ≡ a.now) }
+    ensures right { IfOk result (λ copies. copies.1 ≡ b.now) }
 {
-    match machine.try_clone(alloc) {
-        Ok(copy) => Ok(copy),
-        Err(_) => Err(AllocError),
-    }
+    let left = a.try_clone(alloc)?;
+    let right = b.try_clone(alloc)?;
+    Ok((left, right))
 }
 
-// The answer that a verdict gets, told as that of a link.
-fn verdict_at(
+// The refusal of the link of this number, from 1, between two machines at which a chain stops.
+fn refused_link(
     alloc: Global,
     ask: &Ask,
     link: u32,
     last: &Machine,
     next: &Machine,
     pairing: &Pairing,
-    verdict: Verdict,
-) -> Result<Answer, AllocError>
+    stop: ChainStop,
+) -> Refused
     requires { pairing.now ≡ positions last.now next.now }
-    ensures { IfOk result
-        (AtLink (Some (asked_of_ask ask.now)) link (λ stop. stop ≡ answer_to last.now next.now (verdict_in verdict))) }
+    ensures { (nodes : List (Node Fact)) → IsStopOf (verdict_on last.now next.now nodes) stop → WhereAnswered (λ answer.
+        (verdict_on last.now next.now nodes ≢ Yes)
+        × AtLink (Some (asked_of_ask ask.now)) link (IsJudged last.now next.now nodes) answer) result }
 {
-    let stop = answer_to(alloc, last, next, pairing, verdict)?;
-    told_at(alloc, ask, link, &stop)
+    match stop {
+        ChainStop::Verdict(verdict) => match answer_to(alloc, last, next, pairing, verdict) {
+            Ok(answer) => at_link(alloc, ask, link, Refused::Answered(answer)),
+            Err(_) => Refused::NoMemory,
+        },
+        ChainStop::NoMemory => Refused::NoMemory,
+    }
 }
 
 /// A chain with one machine more, where all obligations of a lawful certificate of its last machine and the next hold. Else the
@@ -104,15 +119,12 @@ pub fn add_link(
         (verdict_on chain.last next (map node_of cert.now.nodes.items) ≢ Yes)
         × AtLink (Some (asked_of_ask ask.now)) link (IsJudged chain.last next (map node_of cert.now.nodes.items)) answer)) }
 {
-    let last = copied(alloc, chain.last())?;
-    let copy = copied(alloc, &next)?;
+    let Ok((last, copy)) = copies(alloc, chain.last(), &next) else {
+        return Err(Refused::NoMemory);
+    };
     match chain.add(alloc, next, pairing, cert) {
         Ok(longer) => Ok(longer),
-        Err(ChainStop::Verdict(verdict)) => {
-            let answer = verdict_at(alloc, ask, link, &last, &copy, pairing, verdict)?;
-            Err(Refused::Answered(answer))
-        }
-        Err(ChainStop::NoMemory) => Err(Refused::NoMemory),
+        Err(stop) => Err(refused_link(alloc, ask, link, &last, &copy, pairing, stop)),
     }
 }
 
