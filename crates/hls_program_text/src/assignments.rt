@@ -12,6 +12,7 @@ ghost use Rattle.hls_program_parts.specs.ProgramGrammar.{after_prog, at_declarat
 ghost use Rattle.hls_program_text.specs.Fronts.{IsNoKeyword, destination};
 
 use crate::expressions::sum;
+use crate::parts::join;
 use fs_grammar::fault::ReadError;
 use fs_grammar::token::{Token, TokenKind, accept, front, refuse};
 use fs_model::name::Name;
@@ -64,8 +65,7 @@ fn index(alloc: Global, tokens: &[Token]) -> Result<(Expr<Name>, &[Token]), Read
     ensures shorter { IfOk result (λ y. length y.1.now < length tokens.now) }
 {
     let (index, rest) = sum(alloc, tokens)?;
-    let rest = index_end(rest)?;
-    Ok((index, rest))
+    join(index, index_end(rest))
 }
 
 // The index of a destination, if it has one, after its name, up to the value.
@@ -97,17 +97,16 @@ fn optional_index(
 fn before_value(
     alloc: Global,
     tokens: &[Token],
-) -> Result<(Name, Option<Expr<Name>>, &[Token]), ReadError>
+) -> Result<(Name, (Option<Expr<Name>>, &[Token])), ReadError>
     requires { IsNoKeyword (kind_at tokens.now) }
     ensures goes { (o : Open) (b : Named)
         → ParsesOn result (program_reading tokens.now (at_statement o b))
-        (λ y. program_reading y.2.now
-        (inside (for_value o b (line_at tokens.now) (destination y.0 (option_map named_term y.1))) (at_sum sum_alone))) }
-    ensures shorter { IfOk result (λ y. length y.2.now < length tokens.now) }
+        (λ y. program_reading y.1.1.now
+        (inside (for_value o b (line_at tokens.now) (destination y.0 (option_map named_term y.1.0))) (at_sum sum_alone))) }
+    ensures shorter { IfOk result (λ y. length y.1.1.now < length tokens.now) }
 {
     let (name, rest) = name(alloc, tokens)?;
-    let (index, rest) = optional_index(alloc, rest)?;
-    Ok((name, index, rest))
+    join(name, optional_index(alloc, rest))
 }
 
 /// The semicolon behind the word `prog`, or the one that ends an assignment.
@@ -133,8 +132,7 @@ fn value(alloc: Global, tokens: &[Token]) -> Result<(Expr<Name>, &[Token]), Read
     ensures shorter { IfOk result (λ y. length y.1.now < length tokens.now) }
 {
     let (value, rest) = sum(alloc, tokens)?;
-    let rest = semicolon(rest)?;
-    Ok((value, rest))
+    join(value, semicolon(rest))
 }
 
 fn assign(name: Name, index: Option<Expr<Name>>, value: Expr<Name>) -> Assign<Name>
@@ -155,7 +153,7 @@ pub fn assignment(alloc: Global, tokens: &[Token]) -> Result<(Assign<Name>, &[To
         (λ y. program_reading y.1.now (at_statement o (join_blocks b (Do (line_at tokens.now) (named_assignment y.0) End)))) }
     ensures shorter { IfOk result (λ y. length y.1.now < length tokens.now) }
 {
-    let (name, index, rest) = before_value(alloc, tokens)?;
-    let (value, rest) = value(alloc, rest)?;
-    Ok((assign(name, index, value), rest))
+    let (name, (index, rest)) = before_value(alloc, tokens)?;
+    let (target, (place, (value, rest))) = join(name, join(index, value(alloc, rest)))?;
+    Ok((assign(target, place, value), rest))
 }

@@ -17,6 +17,7 @@ ghost use Rattle.hls_program_text.specs.Fronts.{ends_block, IsNoKeyword, nested_
 
 use crate::assignments::assignment;
 use crate::expressions::guard;
+use crate::parts::join;
 use fs_grammar::fault::{ReadError, TextFault, TextKind};
 use fs_grammar::token::{Token, TokenKind, accept, front, line_of, refuse};
 use fs_model::memory::push_value;
@@ -162,8 +163,7 @@ fn statements(
         push_value(&mut all, one)?;
         rest = after;
     }
-    let rest = close_brace(rest)?;
-    Ok((all, rest))
+    join(all, close_brace(rest))
 }
 
 #[cycle(blocks)]
@@ -205,8 +205,8 @@ fn choice(alloc: Global, depth: u32, tokens: &[Token]) -> Result<(Stmt, &[Token]
     ensures shorter { IfOk result (λ x. length x.1.now < length tokens.now) }
 {
     let line = line_of(tokens);
-    let (guard, rest) = if_guard(alloc, tokens)?;
-    let (yes, no, rest) = both_blocks(alloc, depth, rest)?;
+    let (test, rest) = if_guard(alloc, tokens)?;
+    let (guard, (yes, (no, rest))) = join(test, both_blocks(alloc, depth, rest))?;
     Ok((chosen(line, guard, yes, no), rest))
 }
 
@@ -216,17 +216,16 @@ fn both_blocks(
     alloc: Global,
     depth: u32,
     tokens: &[Token],
-) -> Result<(Vec<Stmt>, Vec<Stmt>, &[Token]), ReadError>
+) -> Result<(Vec<Stmt>, (Vec<Stmt>, &[Token])), ReadError>
     requires { depth ≤ most_depth }
     ensures goes { (o : Open) (b : Named) (n : ℕ) (g : terms.Guard (List ℕ)) → depth_of o ≡ depth
         → ParsesOn result (program_reading tokens.now (after (for_if o b n) (whole_guard g)))
-        (λ x. program_reading x.2.now
-        (at_statement o (join_blocks b (If n g (block_of x.0.items) (block_of x.1.items) End)))) }
-    ensures shorter { IfOk result (λ x. length x.2.now < length tokens.now) }
+        (λ x. program_reading x.1.1.now
+        (at_statement o (join_blocks b (If n g (block_of x.0.items) (block_of x.1.0.items) End)))) }
+    ensures shorter { IfOk result (λ x. length x.1.1.now < length tokens.now) }
 {
     let (yes, rest) = block(alloc, depth + 1, tokens)?;
-    let (no, rest) = otherwise(alloc, depth, rest)?;
-    Ok((yes, no, rest))
+    join(yes, otherwise(alloc, depth, rest))
 }
 
 // The second block of a choice: the one behind `else`, or none.
@@ -262,7 +261,7 @@ fn repetition(alloc: Global, depth: u32, tokens: &[Token]) -> Result<(Stmt, &[To
     ensures shorter { IfOk result (λ x. length x.1.now < length tokens.now) }
 {
     let line = line_of(tokens);
-    let (guard, rest) = while_guard(alloc, tokens)?;
-    let (body, rest) = block(alloc, depth + 1, rest)?;
+    let (test, rest) = while_guard(alloc, tokens)?;
+    let (guard, (body, rest)) = join(test, block(alloc, depth + 1, rest))?;
     Ok((repeated(line, guard, body), rest))
 }

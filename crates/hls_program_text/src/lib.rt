@@ -12,6 +12,7 @@ mod expressions;
 pub mod fault;
 mod marks;
 mod parse;
+mod parts;
 mod read;
 
 pub use read::read_program;
