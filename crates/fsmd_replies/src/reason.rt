@@ -14,8 +14,8 @@ use fs_pair::positions::{Pairing, Position};
 use nf_terms::tree::{Pos, Side};
 use std::alloc::{AllocError, Global};
 
-// A text and a name.
-fn with_name(alloc: Global, before: &str, name: &[u8]) -> Result<Vec<u8>, AllocError>
+/// A text and a name. The one refusal is out of memory.
+pub(crate) fn with_name(alloc: Global, before: &str, name: &[u8]) -> Result<Vec<u8>, AllocError>
     ensures { IfOk result (λ bytes. bytes.items ≡ before.now ++ name.now) }
 {
     let mut bytes = before.as_bytes().to_vec(alloc)?;

@@ -50,18 +50,16 @@ pub fn lines(alloc: Global, answer: &Answer, ask: &Ask) -> Result<Vec<u8>, Alloc
         Answer::Over { file, state, unit } => {
             return over(alloc, word_of(ask, *file), state.bytes(), *unit);
         }
-        Answer::Usage => String::from_str(alloc, USAGE)?,
-        Answer::Equivalent { nodes, .. } => equivalent(alloc, *nodes)?,
-        Answer::TextRefused { file, fault } => { text_refused(alloc, word_of(ask, *file), fault)? }
-        Answer::CheckRefused { file, fault } => {
-            check_refused(alloc, word_of(ask, *file), fault)?
-        }
-        Answer::NotJson { file } => not_json(alloc, word_of(ask, *file))?,
-        Answer::CertRefused { file, error } => cert_refused(alloc, word_of(ask, *file), *error)?,
-        Answer::TooLong { file, limit } => too_long(alloc, word_of(ask, *file), *limit)?,
-        Answer::CannotRead { file } => cannot_read(alloc, word_of(ask, *file))?,
+        Answer::Usage => String::from_str(alloc, USAGE),
+        Answer::Equivalent { nodes, .. } => equivalent(alloc, *nodes),
+        Answer::TextRefused { file, fault } => text_refused(alloc, word_of(ask, *file), fault),
+        Answer::CheckRefused { file, fault } => check_refused(alloc, word_of(ask, *file), fault),
+        Answer::NotJson { file } => not_json(alloc, word_of(ask, *file)),
+        Answer::CertRefused { file, error } => cert_refused(alloc, word_of(ask, *file), *error),
+        Answer::TooLong { file, limit } => too_long(alloc, word_of(ask, *file), *limit),
+        Answer::CannotRead { file } => cannot_read(alloc, word_of(ask, *file)),
     };
-    Ok(text.into_bytes())
+    Ok(text?.into_bytes())
 }
 
 // The line with which each reply to what is asked begins, if it begins with one.

@@ -8,14 +8,17 @@ ghost use Rattle.search_tables.specs.SearchTables.{machines};
 ghost use Rattle.fsmd_replies.specs.ObstacleTexts.{text_of_lookup, both_sides, branch_text, side_text, move_text};
 ghost use Rattle.fsmd_replies.specs.ObstacleTexts.{last_move_text, node_points_text, first_node_text, output_text};
 
+use crate::reason::with_name;
+use crate::variables::variable_name;
 use fs_ast::machine::Machine;
 use fs_cut::cover::{Path, Point};
 use fs_cut::make_cover::point_paths;
 use fs_cut::path_text::{point_text, write_named_path};
+use fs_model::parts::VarId;
 use nf_terms::stop::NoMemory;
 use search_tables::moves::Move;
 use search_tables::nodes::NodePoints;
-use std::alloc::Global;
+use std::alloc::{AllocError, Global};
 
 fn path_text(
     alloc: Global,
@@ -138,12 +141,9 @@ pub fn first_node_text(
 }
 
 /// `output ` with the name of an output. The one refusal is out of memory.
-pub fn output_text(alloc: Global, a: &Machine, output: u32) -> Result<Vec<u8>, NoMemory>
+#[tactic(auto, using(crate::proofs::Names::name_found))]
+pub fn output_text(alloc: Global, a: &Machine, output: u32) -> Result<Vec<u8>, AllocError>
     ensures { IfOk result (λ text. text.items ≡ output_text a.now output) }
 {
-    let mut text = b"output ".to_vec(alloc)?;
-    if let Some(variable) = a.vars().get(output as usize) {
-        text.extend_from_slice(variable.name.bytes())?;
-    }
-    Ok(text)
+    with_name(alloc, "output ", variable_name(a.vars(), VarId(output)))
 }

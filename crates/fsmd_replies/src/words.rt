@@ -13,32 +13,44 @@ pub fn word_of(ask: &Ask, file: Operand) -> &str
 {
     let number = file.0;
     match ask {
-        Ask::Check { left, right, .. } => word_at(&[left.as_str(), right.as_str()], number),
-        Ask::Verify { left, right, cert } => {
-            word_at(&[left.as_str(), right.as_str(), cert.as_str()], number)
-        }
-        Ask::Run {
-            machine,
-            inputs,
+        Ask::Fmt { machine: only } | Ask::Cuts { machine: only } | Ask::Compile { program: only } =>
+            word_at(&[only.as_str()], number),
+        Ask::Check {
+            left: first,
+            right: second,
             ..
-        } => word_at(&[machine.as_str(), inputs.as_str()], number),
-        Ask::Replay {
+        }
+        | Ask::Run {
+            machine: first,
+            inputs: second,
+            ..
+        }
+        | Ask::Schedule {
+            machine: first,
+            units: second,
+        }
+        | Ask::Bind {
+            machine: first,
+            binding: second,
+        } => word_at(&[first.as_str(), second.as_str()], number),
+        Ask::Verify {
             left,
             right,
-            inputs,
+            cert: third,
+        }
+        | Ask::Replay {
+            left,
+            right,
+            inputs: third,
             ..
         }
         | Ask::Shrink {
             left,
             right,
-            inputs,
+            inputs: third,
             ..
-        } => word_at(&[left.as_str(), right.as_str(), inputs.as_str()], number),
-        Ask::Fmt { machine } | Ask::Cuts { machine } => word_at(&[machine.as_str()], number),
+        } => word_at(&[left.as_str(), right.as_str(), third.as_str()], number),
         Ask::Generate { .. } => "",
-        Ask::Compile { program } => word_at(&[program.as_str()], number),
-        Ask::Schedule { machine, units } => word_at(&[machine.as_str(), units.as_str()], number),
-        Ask::Bind { machine, binding } => word_at(&[machine.as_str(), binding.as_str()], number),
         Ask::Chain { files } => chain_word(files.as_slice(), number),
     }
 }
