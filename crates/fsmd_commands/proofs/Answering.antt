@@ -2,6 +2,7 @@
 use Rattle.std.proofs.Common.{◌≡◌, ◌∙◌, ℕ, ◌+◌, ◌*◌, ◌≤◌, Bool, List, [], ◌∷◌, length, Option, Some, None, refl, sym, subst, arith}
 use Rattle.std.specs.Prelude.{Result, is_some, option_map}
 use Rattle.fsmd_words.specs.AskedWords.{Asked, Check, Generate, Chain}
+use Rattle.fs_model.specs.Machines.{Fsmd}
 use Rattle.fs_base.specs.Outside.{FilesTold}
 use Rattle.fsmd_replies.specs.declared.answer.Answer.{Answer}
 use Rattle.fsmd_replies.specs.AskedFiles.{in_links, files_of}
@@ -9,8 +10,10 @@ use Rattle.fsmd_machine_commands.specs.MadeAnswers.{Refusal}
 use Rattle.fsmd_machine_commands.specs.ComparisonAnswers.{IsOfPair, IsOfLoops}
 use Rattle.fsmd_machine_commands.specs.Links.{links_in, links_of}
 use Rattle.fsmd_machine_commands.specs.Follows.{Ends, OpensMachine, OpensPair, OpensLinks, FollowsFrom}
-use Rattle.fsmd_machine_commands.specs.Calls.{Call, call, IsCorrectInOrder, AnswersBy}
+use Rattle.fsmd_machine_commands.specs.Calls.{Call, call, LoadsAtMost, IsCorrectInOrder, AnswersBy}
 use Rattle.fsmd_machine_commands.proofs.InOrder.{ended_in_order}
+use Rattle.fsmd_commands.specs.declared.pair_command.PairCommand.{PairCommand}
+use Rattle.fsmd_commands.specs.PairCommands.{FollowsFor, files_behind}
 
 -- what is answered to what is asked, where that is this
 pub answers_as : (o : Option Asked) (g : Call) (r : Result Answer Refusal) → g.asked ≡ o → AnswersBy (IsCorrectInOrder (FollowsFrom o) 0 g) r
@@ -28,6 +31,15 @@ pub check_answers : {A : Type 0} (left right : List ℕ) (f : A → List ℕ) (c
 check_answers left right f cert steps keeps g r e k h =
     answers_as (Some (Check left right (option_map f cert) steps)) g r e
     (subst (λ b. AnswersBy (IsCorrectInOrder (OpensPair (λ v w. Ends (IsOfPair steps b v w))) 0 g) r) (k ∙ is_some_of f cert) h)
+
+-- what is answered for a command on two machines, and how many files are loaded for it, where the command is this
+pub answers_for : {k : PairCommand} (w : PairCommand) (a b : Fsmd) (g : Call) (r : Result Answer Refusal) → k ≡ w
+    → AnswersBy (IsCorrectInOrder (FollowsFor w a b) 2 g) r → AnswersBy (IsCorrectInOrder (FollowsFor k a b) 2 g) r
+answers_for w a b g r e h = subst (λ v. AnswersBy (IsCorrectInOrder (FollowsFor v a b) 2 g) r) (sym e) h
+
+pub at_most_for : {k : PairCommand} (w : PairCommand) (o : Option Asked) (old new : FilesTold) → k ≡ w → LoadsAtMost o 2 (files_behind w) old new
+    → LoadsAtMost o 2 (files_behind k) old new
+at_most_for w o old new e h = subst (λ v. LoadsAtMost o 2 (files_behind v) old new) (sym e) h
 
 -- what is answered to generated machines
 pub of_loops : (o : Option Asked) (t : FilesTold) (loops : ℕ) (x : Answer) → o ≡ Some (Generate loops) → IsOfLoops loops x

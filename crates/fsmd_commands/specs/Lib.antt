@@ -1,4 +1,5 @@
 pub mod HoldingLinks
+pub mod PairCommands
 pub use Rattle.fsmd_machine_commands.specs.Calls
 pub use Rattle.fsmd_machine_commands.specs.Loading
 pub use Rattle.fsmd_machine_commands.specs.Alike

@@ -1,15 +1,18 @@
 //! What the commands of two machines answer, from their files.
 
-ghost use Rattle.std.specs.Prelude.{◌≡◌, None, ◌≤◌, Some};
+ghost use Rattle.std.specs.Prelude.{◌≡◌, None, ◌+◌, ◌≤◌, Some, IsTrue};
 ghost use Rattle.fsmd_words.specs.AskedWords.{asked_of_ask};
 ghost use Rattle.fs_pair.specs.Interfaces.{interface_fault};
 ghost use Rattle.fs_pair.specs.Positions.{positions};
-ghost use Rattle.fsmd_machine_commands.specs.ComparisonAnswers.{IsOfPair};
+ghost use Rattle.hls_shrink.specs.Given.{has_no_input_port};
 ghost use Rattle.fsmd_machine_commands.specs.Verdicts.{IsJudged};
 ghost use Rattle.fsmd_machine_commands.specs.Replays.{IsOfReplay};
+ghost use Rattle.fsmd_machine_commands.specs.Shrinks.{IsOfShrink};
 ghost use Rattle.fsmd_machine_commands.specs.Follows.{Ends, OpensPair, OpensInputs, OpensCertificate};
 ghost use Rattle.fsmd_machine_commands.specs.Calls.{call, OnlyRead, LoadsAtMost, IsCorrectInOrder, AnswersBy};
+ghost use Rattle.fsmd_commands.specs.PairCommands.{FollowsFor, files_behind, MayStep};
 
+use crate::pair_command::PairCommand;
 use fs_ast::machine::Machine;
 use fs_base::outside::Files;
 use fs_pair::positions::Pairing;
@@ -20,37 +23,10 @@ use fsmd_machine_commands::memory::made_answer;
 use fsmd_machine_commands::pair::{Pair, load_pair};
 use fsmd_machine_commands::refused::Refused;
 use fsmd_machine_commands::runs::replay_machines;
+use fsmd_machine_commands::shrinks::shrink_inputs;
 use fsmd_replies::answer::{Answer, Operand};
 use fsmd_words::asking::Ask;
 use std::alloc::Global;
-
-/// What `check` answers: what two machines get, of runs of at most so many steps, with the text of the certificate where `keeps`
-/// says so.
-pub fn check<F: Files>(
-    alloc: Global,
-    ask: &Ask,
-    steps: u64,
-    keeps: bool,
-    files: &mut F,
-) -> Result<Answer, Refused>
-    requires { 1 ≤ steps }
-    ensures answers { AnswersBy (IsCorrectInOrder (OpensPair (λ a b. Ends (IsOfPair steps keeps a b))) 0
-        (call (Some (asked_of_ask ask.now)) (F.told files.old) (F.told files.new))) result }
-    ensures only_read { OnlyRead (F.told files.old) (F.told files.new) }
-    ensures at_most { LoadsAtMost (Some (asked_of_ask ask.now)) 0 2 (F.told files.old) (F.told files.new) }
-{
-    match load_pair(alloc, ask, files) {
-        Ok(pair) => {
-            let Pair {
-                left,
-                right,
-                pairing,
-            } = &pair;
-            made_answer(compare(alloc, left, right, pairing, steps, keeps))
-        }
-        Err(refused) => Err(refused),
-    }
-}
 
 // What a certificate of two machines answers to the file that spells it.
 fn verify_from<F: Files>(
@@ -71,19 +47,6 @@ fn verify_from<F: Files>(
 {
     match load_certificate(alloc, Operand(2), ask, left, right, pairing, files) {
         Ok(cert) => made_answer(judge(alloc, left, right, pairing, &cert)),
-        Err(refused) => Err(refused),
-    }
-}
-
-/// What `verify` answers: whether a certificate shows that two machines have the same behaviour.
-pub fn verify_files<F: Files>(alloc: Global, ask: &Ask, files: &mut F) -> Result<Answer, Refused>
-    ensures answers { AnswersBy (IsCorrectInOrder (OpensPair (λ a b. OpensCertificate a b (λ nodes. Ends (IsJudged a b nodes)))) 0
-        (call (Some (asked_of_ask ask.now)) (F.told files.old) (F.told files.new))) result }
-    ensures only_read { OnlyRead (F.told files.old) (F.told files.new) }
-    ensures at_most { LoadsAtMost (Some (asked_of_ask ask.now)) 0 3 (F.told files.old) (F.told files.new) }
-{
-    match load_pair(alloc, ask, files) {
-        Ok(pair) => verify_from(alloc, ask, &pair.left, &pair.right, &pair.pairing, files),
         Err(refused) => Err(refused),
     }
 }
@@ -110,21 +73,81 @@ fn replay_from<F: Files>(
     }
 }
 
-/// What `replay` answers: the ends of two machines' runs of at most so many steps from the same inputs.
-pub fn replay_files<F: Files>(
+// What two machines with the same interface answer to the file of inputs that are to be made small.
+fn shrink_from<F: Files>(
     alloc: Global,
     ask: &Ask,
+    pair: &Pair,
     steps: u64,
     files: &mut F,
 ) -> Result<Answer, Refused>
-    requires { 1 ≤ steps }
-    ensures answers { AnswersBy (IsCorrectInOrder (OpensPair (λ a b. OpensInputs a (λ ins. Ends (IsOfReplay steps a b ins)))) 0
+    requires ports { IsTrue (has_no_input_port pair.now.left) }
+    requires alike { interface_fault pair.now.left pair.now.right ≡ None }
+    requires steps { 1 ≤ steps }
+    ensures answers { AnswersBy (IsCorrectInOrder
+        (OpensInputs pair.now.left (λ ins. Ends (IsOfShrink steps pair.now.left pair.now.right ins))) 2
         (call (Some (asked_of_ask ask.now)) (F.told files.old) (F.told files.new))) result }
     ensures only_read { OnlyRead (F.told files.old) (F.told files.new) }
-    ensures at_most { LoadsAtMost (Some (asked_of_ask ask.now)) 0 3 (F.told files.old) (F.told files.new) }
+    ensures at_most { LoadsAtMost (Some (asked_of_ask ask.now)) 2 1 (F.told files.old) (F.told files.new) }
+{
+    let Pair {
+        left,
+        right,
+        pairing,
+    } = pair;
+    match load_inputs(alloc, Operand(2), ask, left, files) {
+        Ok(inputs) => made_answer(shrink_inputs(alloc, left, right, pairing, &inputs, steps)),
+        Err(refused) => Err(refused),
+    }
+}
+
+// What a command answers to two machines with the same inputs and outputs, from the files behind theirs.
+fn answer_pair<F: Files>(
+    alloc: Global,
+    ask: &Ask,
+    command: PairCommand,
+    pair: &Pair,
+    files: &mut F,
+) -> Result<Answer, Refused>
+    requires steps { MayStep command }
+    requires paired { pair.now.pairing ≡ positions pair.now.left pair.now.right }
+    requires alike { interface_fault pair.now.left pair.now.right ≡ None }
+    requires ports { IsTrue (has_no_input_port pair.now.left) }
+    ensures answers { AnswersBy (IsCorrectInOrder (FollowsFor command pair.now.left pair.now.right) 2
+        (call (Some (asked_of_ask ask.now)) (F.told files.old) (F.told files.new))) result }
+    ensures only_read { OnlyRead (F.told files.old) (F.told files.new) }
+    ensures at_most { LoadsAtMost (Some (asked_of_ask ask.now)) 2 (files_behind command) (F.told files.old) (F.told files.new) }
+{
+    let Pair {
+        left,
+        right,
+        pairing,
+    } = pair;
+    match command {
+        PairCommand::Check { steps, keeps } => made_answer(compare(
+            alloc, left, right, pairing, steps, keeps,
+        )),
+        PairCommand::Verify => verify_from(alloc, ask, left, right, pairing, files),
+        PairCommand::Replay { steps } => replay_from(alloc, ask, left, right, steps, files),
+        PairCommand::Shrink { steps } => shrink_from(alloc, ask, pair, steps, files),
+    }
+}
+
+/// What a command on two machines answers: of their files, which are loaded first, and of the one behind them, where it has one.
+pub fn pair_files<F: Files>(
+    alloc: Global,
+    ask: &Ask,
+    command: PairCommand,
+    files: &mut F,
+) -> Result<Answer, Refused>
+    requires { MayStep command }
+    ensures answers { AnswersBy (IsCorrectInOrder (OpensPair (FollowsFor command)) 0
+        (call (Some (asked_of_ask ask.now)) (F.told files.old) (F.told files.new))) result }
+    ensures only_read { OnlyRead (F.told files.old) (F.told files.new) }
+    ensures at_most { LoadsAtMost (Some (asked_of_ask ask.now)) 0 (2 + files_behind command) (F.told files.old) (F.told files.new) }
 {
     match load_pair(alloc, ask, files) {
-        Ok(pair) => replay_from(alloc, ask, &pair.left, &pair.right, steps, files),
+        Ok(pair) => answer_pair(alloc, ask, command, &pair, files),
         Err(refused) => Err(refused),
     }
 }

@@ -35,8 +35,7 @@ use std::alloc::{AllocError, Global};
 // both.
 #[derive(Drop)]
 struct Link {
-    machine: Machine,
-    pairing: Pairing,
+    next: Next,
     cert: Cert,
 }
 
@@ -51,33 +50,33 @@ fn load_link<F: Files>(
     requires { file < 128 }
     ensures spells { IfOk result
         (λ l. MayHold ((F.told files.old).holds (file_word_of (Some (asked_of_ask ask.now)) (operand file)))
-        (SpellsMachine l.machine)) }
-    ensures alike { IfOk result (λ l. interface_fault last.now l.machine ≡ None) }
-    ensures paired { IfOk result (λ l. l.pairing ≡ positions last.now l.machine) }
+        (SpellsMachine l.next.machine)) }
+    ensures alike { IfOk result (λ l. interface_fault last.now l.next.machine ≡ None) }
+    ensures paired { IfOk result (λ l. l.next.pairing ≡ positions last.now l.next.machine) }
     ensures certificate { IfOk result (λ l. MayHold
         ((F.told files.old).holds (file_word_of (Some (asked_of_ask ask.now)) (operand (file + 1))))
-        (SpellsCertificate last.now l.machine (map node_of l.cert.nodes.items))) }
+        (SpellsCertificate last.now l.next.machine (map node_of l.cert.nodes.items))) }
     ensures refused { IfErr result (WhereAnswered (IsCorrectInOrder (RefusesLink last.now) file
         (call (Some (asked_of_ask ask.now)) (F.told files.old) (F.told files.new)))) }
     ensures only_read { OnlyRead (F.told files.old) (F.told files.new) }
     ensures loads { OnOk result (LoadsFrom (Some (asked_of_ask ask.now)) file 2 (F.told files.old) (F.told files.new)) }
     ensures at_most { LoadsAtMost (Some (asked_of_ask ask.now)) file 2 (F.told files.old) (F.told files.new) }
 {
-    let Next { machine, pairing } = load_next(alloc, Operand(file), ask, last, files)?;
-    let cert = load_certificate(
-        alloc,
-        Operand(file + 1),
-        ask,
-        last,
-        &machine,
-        &pairing,
-        files,
-    )?;
-    Ok(Link {
-        machine,
-        pairing,
-        cert,
-    })
+    match load_next(alloc, Operand(file), ask, last, files) {
+        Ok(next) => match load_certificate(
+            alloc,
+            Operand(file + 1),
+            ask,
+            last,
+            &next.machine,
+            &next.pairing,
+            files,
+        ) {
+            Ok(cert) => Ok(Link { next, cert }),
+            Err(refused) => Err(refused),
+        },
+        Err(refused) => Err(refused),
+    }
 }
 
 // A chain of which so many links hold, with the next one, or the answer to this one: the first refusal, or the verdict that is
@@ -102,11 +101,8 @@ fn add_next<F: Files>(
 {
     match load_link(alloc, 2 * held + 1, ask, chain.last(), files) {
         Ok(link) => {
-            let Link {
-                machine,
-                pairing,
-                cert,
-            } = link;
+            let Link { next, cert } = link;
+            let Next { machine, pairing } = next;
             add_link(alloc, ask, held + 1, chain, machine, &pairing, &cert)
         }
         Err(refused) => Err(at_link(alloc, ask, held + 1, refused)),

@@ -5,9 +5,9 @@ ghost use Rattle.fsmd_words.specs.AskedWords.{IsWithinLimits, asked_of_ask};
 ghost use Rattle.fsmd_machine_commands.specs.Follows.{FollowsFrom};
 ghost use Rattle.fsmd_machine_commands.specs.Calls.{call, OnlyRead, LoadsNamed, IsCorrectInOrder, AnswersBy};
 
-use crate::answers::{check, replay_files, verify_files};
+use crate::answers::pair_files;
 use crate::chain::chain_files;
-use crate::shrink::shrink_files;
+use crate::pair_command::PairCommand;
 use fs_base::outside::Files;
 use fsmd_machine_commands::generated::compare_generated;
 use fsmd_machine_commands::machine::{cut_paths, format_text, run_files};
@@ -31,17 +31,33 @@ pub fn answer_command<F: Files>(alloc: Global, ask: &Ask, files: &mut F) -> Resu
     ensures loads { LoadsNamed (call (Some (asked_of_ask ask.now)) (F.told files.old) (F.told files.new)) }
 {
     match ask {
-        Ask::Check { cert, steps, .. } => check(alloc, ask, *steps, cert.is_some(), files),
-        Ask::Verify { .. } => verify_files(alloc, ask, files),
+        Ask::Check { cert, steps, .. } => {
+            let command = PairCommand::Check {
+                steps: *steps,
+                keeps: cert.is_some(),
+            };
+            pair_files(alloc, ask, command, files)
+        }
+        Ask::Verify { .. } => pair_files(alloc, ask, PairCommand::Verify, files),
         Ask::Run { steps, .. } => run_files(alloc, ask, *steps, files),
-        Ask::Replay { steps, .. } => replay_files(alloc, ask, *steps, files),
+        Ask::Replay { steps, .. } => pair_files(
+            alloc,
+            ask,
+            PairCommand::Replay { steps: *steps },
+            files,
+        ),
         Ask::Fmt { .. } => format_text(alloc, ask, files),
         Ask::Cuts { .. } => cut_paths(alloc, ask, files),
         Ask::Generate { n } => made_answer(compare_generated(alloc, *n)),
         Ask::Compile { .. } => compile_file(alloc, ask, files),
         Ask::Schedule { .. } => schedule_files(alloc, ask, files),
         Ask::Bind { .. } => bind_files(alloc, ask, files),
-        Ask::Shrink { steps, .. } => shrink_files(alloc, ask, *steps, files),
+        Ask::Shrink { steps, .. } => pair_files(
+            alloc,
+            ask,
+            PairCommand::Shrink { steps: *steps },
+            files,
+        ),
         Ask::Chain { files: words } => chain_files(alloc, ask, words.as_slice(), files),
     }
 }

@@ -2,12 +2,12 @@
 //!
 //! Promises: `answer_command`: a correct answer, and just the files that it follows from were loaded, in order.
 //!
-//! Rules: `specs/HoldingLinks`.
+//! Rules: `specs/HoldingLinks`, `specs/PairCommands`.
 #![tactic(auto)]
 
 mod answers;
 mod chain;
 pub mod commands;
-mod shrink;
+mod pair_command;
 
 pub use fsmd_machine_commands::{compare, judge, load, pair, refused};

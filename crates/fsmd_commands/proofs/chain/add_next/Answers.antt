@@ -23,12 +23,12 @@ add_link-requires-clause-lawful g c = rw c.last.ensures.last at c.in-Ok.ensures.
 
 pub returns-in-Ok-clause-holds : goal.returns-in-Ok-clause-holds
 returns-in-Ok-clause-holds g c =
-    link_made (2 * c.args.held + 1) _ c.args.chain.last c.last.result.now c.in-Ok.link.machine (map node_of c.in-Ok.link.cert.nodes.items)
+    link_made (2 * c.args.held + 1) _ c.args.chain.last c.last.result.now c.in-Ok.link.next.machine (map node_of c.in-Ok.link.cert.nodes.items)
     c.last.ensures.last c.in-Ok.ensures.spells c.in-Ok.ensures.alike c.in-Ok.ensures.certificate
     c.add_link.result c.add_link.ensures.holds c.add_link.ensures.last
 
 pub returns-in-Ok-clause-refused : goal.returns-in-Ok-clause-refused
 returns-in-Ok-clause-refused g c =
-    link_unmade (Some (asked_of_ask c.args.ask.now)) (c.args.held + 1) (2 * c.args.held + 1) _ c.args.chain.last c.last.result.now c.in-Ok.link.machine
+    link_unmade (Some (asked_of_ask c.args.ask.now)) (c.args.held + 1) (2 * c.args.held + 1) _ c.args.chain.last c.last.result.now c.in-Ok.link.next.machine
     (map node_of c.in-Ok.link.cert.nodes.items) c.last.ensures.last c.in-Ok.ensures.spells c.in-Ok.ensures.alike c.in-Ok.ensures.certificate
     c.in-Ok.ensures.loads c.add_link.result c.add_link.ensures.fails

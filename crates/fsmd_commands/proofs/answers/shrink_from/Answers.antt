@@ -4,7 +4,7 @@ use Rattle.fsmd_machine_commands.specs.InputFiles.{RefusesInputs, SpellsInputs}
 use Rattle.fsmd_machine_commands.specs.Shrinks.{IsOfShrink}
 use Rattle.fsmd_machine_commands.specs.Follows.{Ends}
 use Rattle.fsmd_machine_commands.proofs.InOrder.{refused_in_order, made_last}
-use Rattle.fsmd_commands.proofs.shrink.shrink_from.Goals as goal
+use Rattle.fsmd_commands.proofs.answers.shrink_from.Goals as goal
 
 pub returns-in-Err-clause-answers : goal.returns-in-Err-clause-answers
 returns-in-Err-clause-answers g c =
