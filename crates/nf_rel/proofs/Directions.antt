@@ -19,7 +19,7 @@ use Rattle.nf_terms.specs.Normal.{constant_sum}
 use Rattle.nf_terms.specs.TermLimits.{weight_limit}
 use Rattle.nf_rel.specs.Gcd.{gcd}
 use Rattle.nf_rel.specs.Literals.{common_divisor, divide_coefficients, signed_number, begins_positive, Form, form_holds, truth, bounded_literal, bounded_by}
-use Rattle.nf_rel.specs.Literals.{literal_form}
+use Rattle.nf_rel.specs.Literals.{NormalLiteral, literal_form}
 use Rattle.nf_rel.proofs.CommonDivisors.{gcd_is, AllMultiples, all_multiples, exact}
 
 -- the weight is shared
@@ -105,11 +105,27 @@ by_divisor : (f : Form) (q : Polynomial) (g : ℕ) (c : ℤ) → g ≢ 0
 by_divisor f q zero c h = absurd (h refl)
 by_divisor f q (suc n) c h = refl
 
-pub some_by : (f : Form) (p : Polynomial) → common_divisor (part_with_atoms p) ≢ 0
+some_by : (f : Form) (p : Polynomial) → common_divisor (part_with_atoms p) ≢ 0
     → literal_form f p ≡ bounded_literal f (begins_positive (part_with_atoms p))
     (divide_coefficients (part_with_atoms p) (signed_number (begins_positive (part_with_atoms p)) (pos (common_divisor (part_with_atoms p)))))
     (common_divisor (part_with_atoms p)) (constant_sum p)
 some_by f p h = by_divisor f (part_with_atoms p) (common_divisor (part_with_atoms p)) (constant_sum p) h
+
+-- the same of what calls answer: the test b of the terms t, the direction d, the divisor g and the constant c
+pub by_parts : (f : Form) (p t d : Polynomial) (b : Bool) (g c : ℤ) (l : NormalLiteral) → t ≡ p → common_divisor (part_with_atoms p) ≢ 0
+    → b ≡ begins_positive (part_with_atoms t)
+    → d ≡ divide_coefficients (part_with_atoms p) (signed_number b (pos (common_divisor (part_with_atoms p)))) → g ≡ pos (common_divisor (part_with_atoms p))
+    → c ≡ constant_sum p → l ≡ bounded_literal f b d (unsigned_abs g) c → l ≡ literal_form f p
+by_parts f p t d b g c l same some test direction divisor constant is =
+    let positive : b ≡ begins_positive (part_with_atoms p) = test ∙ ap (λ x. begins_positive (part_with_atoms x)) same in
+    let n = common_divisor (part_with_atoms p) in
+    is ∙ ap (λ x. bounded_literal f b x (unsigned_abs g) c) direction
+    ∙ ap (λ x. bounded_literal f x (divide_coefficients (part_with_atoms p) (signed_number x (pos n))) (unsigned_abs g) c) positive
+    ∙ ap (λ x. bounded_literal f (begins_positive (part_with_atoms p)) (divide_coefficients (part_with_atoms p) (signed_number
+    (begins_positive (part_with_atoms p)) (pos n))) (unsigned_abs x) c) divisor
+    ∙ ap (bounded_literal f (begins_positive (part_with_atoms p)) (divide_coefficients (part_with_atoms p) (signed_number (begins_positive (part_with_atoms p))
+    (pos n))) n) constant
+    ∙ sym (some_by f p some)
 
 -- the same of what a call answers, for the polynomial t of its terms
 pub terms_normal : (p t r : Polynomial) (b : Bool) (g : ℤ) (by : ℤ) → IsNormal p → t ≡ p → g ≡ pos (common_divisor (part_with_atoms p))

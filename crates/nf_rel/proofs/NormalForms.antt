@@ -1,7 +1,7 @@
 -- What `literal` gives is in normal form.
 use Rattle.std.proofs.Common.{◌≡◌, ℕ, zero, suc, ◌+◌, ◌*◌, ◌/◌, ◌%◌, ◌-◌, ◌^◌, ◌==◌, ◌≤◌, ℤ, pos, negsuc, neg_ℤ, cond, Bool, true, false, ◌&&◌, not, arith}
 use Rattle.std.proofs.Common.{refl, ap, sym, subst, ◌∙◌}
-use Rattle.std.specs.Prelude.{int_div, int_lt, unsigned_abs, nat_le}
+use Rattle.std.specs.Prelude.{◌≢◌, int_div, int_lt, unsigned_abs, nat_le}
 use Rattle.std.specs.Int.{◌∣◌, int_div_euclid, int_rem_euclid}
 use Rattle.std.specs.Ordering.{int_eq}
 use Rattle.std.specs.Cmp.{signed_Decides}
@@ -20,7 +20,8 @@ use Rattle.nf_sums.proofs.Partings.{ordered_term}
 use Rattle.nf_sums.proofs.Reducing.{part_normal}
 use Rattle.nf_rel.specs.Literals.{NormalLiteral, True, False, Is, truth, common_divisor, divide_coefficients, begins_positive, signed_number, Form, AtLeastZero}
 use Rattle.nf_rel.specs.Literals.{IsZero, IsNotZero, form_holds, bounded_literal, bounded_by, literal_form}
-use Rattle.nf_rel.specs.NormalLiterals.{is_normal, lacks_constant, is_primitive, is_inner_number, IsNormalLiteral}
+use Rattle.nf_rel.specs.NormalLiterals.{is_normal, lacks_constant, is_primitive, is_inner_number, is_normal_literal, IsNormalLiteral}
+use Rattle.nf_rel.specs.Bounds.{in_range}
 use Rattle.nf_rel.proofs.Floors.{lt_true, is_lt, not_lt}
 use Rattle.nf_rel.proofs.CommonDivisors.{gcd_is, AllMultiples, all_multiples}
 use Rattle.nf_rel.proofs.Directions.{still_nonzero, direction_normal, floor_small, constant_small}
@@ -31,6 +32,26 @@ normal_is p n =
     (and_from (ordered p && nat_le (size_of p) size_limit) (nat_le (depth_of p) depth_limit)
     (and_from (ordered p) (nat_le (size_of p) size_limit) n.ordered (le-leb (size_of p) size_limit n.small)) (le-leb (depth_of p) depth_limit n.shallow))
     n.narrow
+
+-- whether a literal is in normal form, where its direction is normal and it is told whether its bound is within
+all_three : (n p i : Bool) → n ≡ true → i ≡ true → p ≡ n && p && i
+all_three true true true e f = refl
+all_three true false true e f = refl
+all_three true p false e f = absurd (cc f)
+all_three false p i e f = absurd (cc e)
+
+not_the_last : (n p i : Bool) → i ≡ false → false ≡ n && p && i
+not_the_last true true false e = refl
+not_the_last true false false e = refl
+not_the_last false p false e = refl
+not_the_last n p true e = absurd (cc e)
+
+pub normal_with : (l : NormalLiteral) (d : Polynomial) (k : Kind) (b : ℤ) → l ≡ Is d k b → is_normal d ≡ true → is_inner_number b ≡ true
+    → is_primitive d ≡ is_normal_literal l
+normal_with l d k b e n i = all_three (is_normal d) (is_primitive d) (is_inner_number b) n i ∙ ap is_normal_literal (sym e)
+
+pub not_normal_with : (l : NormalLiteral) (d : Polynomial) (k : Kind) (b : ℤ) → l ≡ Is d k b → is_inner_number b ≡ false → false ≡ is_normal_literal l
+not_normal_with l d k b e i = not_the_last (is_normal d) (is_primitive d) (is_inner_number b) i ∙ ap is_normal_literal (sym e)
 
 -- ---- directions
 part_lacks : (p : Polynomial) → lacks_constant (part_with_atoms p) ≡ true
@@ -106,6 +127,48 @@ direction_primitive p n h e =
 inner_is : (z : ℤ) → unsigned_abs z + 1 ≤ weight_limit → is_inner_number z ≡ true
 inner_is z h =
     and_from _ _ (ap not (not_lt z (negsuc (2 ^ 127 - 3)) (omega (arith, ints)))) (ap not (not_lt (pos (2 ^ 127 - 2)) z (omega (arith, ints))))
+
+-- a number with one to spare below the limit is in range for each kind
+in_range_of : (k : Kind) (z : ℤ) → unsigned_abs z + 1 ≤ weight_limit → in_range k z ≡ true
+in_range_of Ge z h =
+    and_from _ _ (ap not (not_lt z (negsuc (2 ^ 127 - 3)) (omega (arith, ints)))) (ap not (not_lt (pos (2 ^ 127 - 1)) z (omega (arith, ints))))
+in_range_of Le z h =
+    and_from _ _ (ap not (not_lt z (negsuc (2 ^ 127 - 2)) (omega (arith, ints)))) (ap not (not_lt (pos (2 ^ 127 - 2)) z (omega (arith, ints))))
+in_range_of Eq z h = inner_is z h
+in_range_of Ne z h = inner_is z h
+
+-- the bound of a direction is so
+bound_small : (b : Bool) (g : ℕ) (c r : ℤ) → g ≢ 0 → unsigned_abs c + 1 ≤ weight_limit → r ≡ signed_number b (neg_ℤ (int_div_euclid c (pos g)))
+    → unsigned_abs r + 1 ≤ weight_limit
+bound_small b zero c r some h e = absurd (some refl)
+bound_small true (suc n) c r some h e =
+    let f = int_div_euclid c (pos (suc n)) in
+    subst (λ z. unsigned_abs z + 1 ≤ weight_limit) (sym e) (omega (arith, unsigned_abs-neg f, floor_small c n, h))
+bound_small false (suc n) c r some h e =
+    let f = int_div_euclid c (pos (suc n)) in
+    subst (λ z. unsigned_abs z + 1 ≤ weight_limit) (sym e) (omega (arith, unsigned_abs-neg f, unsigned_abs-neg (neg_ℤ f), floor_small c n, h))
+
+pub bound_in_range : (k : Kind) (b : Bool) (g : ℕ) (c s r : ℤ) → s ≡ r → g ≢ 0 → unsigned_abs c + 1 ≤ weight_limit
+    → r ≡ signed_number b (neg_ℤ (int_div_euclid c (pos g))) → in_range k s ≡ true
+bound_in_range k b g c s r same some small e = in_range_of k s (bound_small b g c s some small (same ∙ e))
+
+-- minus the negation of a floor is the floor
+twice_negated : (z : ℤ) → neg_ℤ (neg_ℤ z) ≡ z
+twice_negated z = omega (arith, ints)
+
+pub at_least : (form : Form) (b : Bool) (d : Polynomial) (g : ℕ) (c r : ℤ) → form ≡ AtLeastZero → b ≡ true
+    → r ≡ signed_number b (neg_ℤ (int_div_euclid c (pos g))) → Is d Ge r ≡ bounded_literal form b d g c
+at_least AtLeastZero true d g c r f t e = ap (Is d Ge) e
+at_least AtLeastZero false d g c r f t e = absurd (cc t)
+at_least IsZero b d g c r f t e = absurd (cc f)
+at_least IsNotZero b d g c r f t e = absurd (cc f)
+
+pub at_most : (form : Form) (b : Bool) (d : Polynomial) (g : ℕ) (c r : ℤ) → form ≡ AtLeastZero → b ≡ false
+    → r ≡ signed_number b (neg_ℤ (int_div_euclid c (pos g))) → Is d Le r ≡ bounded_literal form b d g c
+at_most AtLeastZero true d g c r f t e = absurd (cc t)
+at_most AtLeastZero false d g c r f t e = ap (Is d Le) (e ∙ twice_negated (int_div_euclid c (pos g)))
+at_most IsZero b d g c r f t e = absurd (cc f)
+at_most IsNotZero b d g c r f t e = absurd (cc f)
 
 signed_small : (b : Bool) (z : ℤ) → unsigned_abs z + 1 ≤ weight_limit → is_inner_number (signed_number b (neg_ℤ z)) ≡ true
 signed_small true z h = inner_is (neg_ℤ z) (omega (arith, unsigned_abs-neg z))

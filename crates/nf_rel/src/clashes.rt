@@ -54,16 +54,12 @@ fn bounds_clash(k: Kind, a: &i128, j: Kind, b: &i128) -> bool
 {
     match k {
         Kind::Ge => match j {
-            Kind::Ge => false,
-            Kind::Le => *b < *a,
-            Kind::Eq => *b < *a,
-            Kind::Ne => false,
+            Kind::Le | Kind::Eq => *b < *a,
+            Kind::Ge | Kind::Ne => false,
         },
         Kind::Le => match j {
-            Kind::Ge => *a < *b,
-            Kind::Le => false,
-            Kind::Eq => *a < *b,
-            Kind::Ne => false,
+            Kind::Ge | Kind::Eq => *a < *b,
+            Kind::Le | Kind::Ne => false,
         },
         Kind::Eq => match j {
             Kind::Ge => *a < *b,
@@ -72,10 +68,8 @@ fn bounds_clash(k: Kind, a: &i128, j: Kind, b: &i128) -> bool
             Kind::Ne => *a == *b,
         },
         Kind::Ne => match j {
-            Kind::Ge => false,
-            Kind::Le => false,
             Kind::Eq => *a == *b,
-            Kind::Ne => false,
+            Kind::Ge | Kind::Le | Kind::Ne => false,
         },
     }
 }
@@ -86,9 +80,8 @@ pub fn clash(l: &NLit, m: &NLit) -> bool
 {
     match l {
         NLit::True => match m {
-            NLit::True => false,
             NLit::False => true,
-            NLit::Is(_) => false,
+            NLit::True | NLit::Is(_) => false,
         },
         NLit::False => true,
         NLit::Is(b) => match m {

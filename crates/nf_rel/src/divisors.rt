@@ -1,10 +1,10 @@
 //! The common divisor of coefficients.
 
-ghost use Rattle.std.specs.Prelude.{◌≡◌, ◌≢◌, ◌≤◌, map, pos, IfOk, OnOk, ◌++◌, ◌∷◌, [], int_div, unsigned_abs};
+ghost use Rattle.std.specs.Prelude.{◌≡◌, ◌≢◌, ◌≤◌, map, pos, cond, IfOk, OnOk, ◌++◌, ◌∷◌, [], int_div, unsigned_abs};
 ghost use Rattle.nf_terms.specs.NormalTerms.{polynomial_of};
 ghost use Rattle.nf_terms.specs.View.{monomial_in, term_in};
 ghost use Rattle.nf_terms.specs.Measures.{weight_of};
-ghost use Rattle.nf_terms.specs.Normal.{part_with_atoms};
+ghost use Rattle.nf_terms.specs.Normal.{has_atoms, part_with_atoms};
 ghost use Rattle.nf_terms.specs.TermLimits.{weight_limit};
 ghost use Rattle.nf_rel.specs.Gcd.{gcd};
 ghost use Rattle.nf_rel.specs.Literals.{common_divisor, divide_coefficients};
@@ -45,7 +45,7 @@ pub fn divisor(terms: &[(MonoTree, i128)]) -> u128
     divisor
 }
 
-// Adds a copy of a monomial with its coefficient divided.
+// Adds a copy of a monomial with its coefficient divided, where the monomial has an atom.
 fn push_divided(
     alloc: Global,
     out: &mut Vec<(MonoTree, i128)>,
@@ -56,14 +56,17 @@ fn push_divided(
     requires nonzero { by.now ≢ pos 0 }
     requires small { unsigned_abs coefficient.now ≤ weight_limit }
     ensures { OnOk result
-        (map term_in out.new.items ≡ map term_in out.old.items ++ (monomial_in mono.now, int_div coefficient.now by.now) ∷ []) }
+        (map term_in out.new.items ≡ map term_in out.old.items
+        ++ cond (has_atoms (monomial_in mono.now)) ((monomial_in mono.now, int_div coefficient.now by.now) ∷ []) []) }
 {
+    if !has_atoms(mono) {
+        return Ok(());
+    }
     let quotient = *coefficient / *by;
     push_term_copy(alloc, out, mono, &quotient)
 }
 
 /// The monomials with atoms, each coefficient divided.
-#[tactic(auto, using(crate::proofs::Divided::weights))]
 pub fn divide_monomials(
     alloc: Global,
     terms: &[(MonoTree, i128)],
@@ -77,9 +80,7 @@ pub fn divide_monomials(
 {
     let mut out = Vec::new(alloc);
     for (mono, coefficient) in terms {
-        if has_atoms(mono) {
-            push_divided(alloc, &mut out, mono, coefficient, by)?;
-        }
+        push_divided(alloc, &mut out, mono, coefficient, by)?;
     }
     Ok(out)
 }

@@ -1,6 +1,7 @@
 //! The literal of a relation between two polynomials.
 
-ghost use Rattle.std.specs.Prelude.{◌≡◌, ◌≢◌, ◌≤◌, ◌+◌, map, pos, IfOk, unsigned_abs};
+ghost use Rattle.std.specs.Prelude.{◌≡◌, ◌≢◌, ◌≤◌, ◌+◌, map, pos, neg_ℤ, IfOk, unsigned_abs};
+ghost use Rattle.std.specs.Int.{int_div_euclid};
 ghost use Rattle.nf_terms.specs.NormalTerms.{polynomial_of};
 ghost use Rattle.nf_terms.specs.View.{term_in};
 ghost use Rattle.nf_terms.specs.Normal.{IsNormal, part_with_atoms, constant_sum};
@@ -53,6 +54,17 @@ fn signed(positive: bool, number: &i128) -> i128
     if positive { *number } else { -*number }
 }
 
+// The bound of a direction: minus the floor of the constant over the divisor, negated where the direction is.
+fn bound_of(positive: bool, divisor: &i128, constant: &i128) -> i128
+    requires some { unsigned_abs divisor.now ≢ 0 }
+    requires natural { divisor.now ≡ pos (unsigned_abs divisor.now) }
+    requires small { unsigned_abs constant.now + 1 ≤ weight_limit }
+    ensures { result ≡ signed_number positive (neg_ℤ (int_div_euclid constant.now (pos (unsigned_abs divisor.now)))) }
+{
+    let floor = constant.div_euclid(*divisor);
+    signed(positive, &-floor)
+}
+
 // A direction with its bound.
 fn bound_direction(form: Form, positive: bool, dir: Poly, divisor: &i128, constant: &i128) -> NLit
     requires some { unsigned_abs divisor.now ≢ 0 }
@@ -60,7 +72,7 @@ fn bound_direction(form: Form, positive: bool, dir: Poly, divisor: &i128, consta
     requires small { unsigned_abs constant.now + 1 ≤ weight_limit }
     ensures { literal_in result ≡ bounded_literal (form_in form) positive dir (unsigned_abs divisor.now) constant.now }
 {
-    let floor = constant.div_euclid(*divisor);
+    let bound = bound_of(positive, divisor, constant);
     let rest = constant.rem_euclid(*divisor);
     match form {
         Form::AtLeastZero => {
@@ -68,13 +80,13 @@ fn bound_direction(form: Form, positive: bool, dir: Poly, divisor: &i128, consta
                 NLit::Is(Bound {
                     dir,
                     kind: Kind::Ge,
-                    bound: -floor,
+                    bound,
                 })
             } else {
                 NLit::Is(Bound {
                     dir,
                     kind: Kind::Le,
-                    bound: floor,
+                    bound,
                 })
             }
         }
@@ -83,7 +95,7 @@ fn bound_direction(form: Form, positive: bool, dir: Poly, divisor: &i128, consta
                 NLit::Is(Bound {
                     dir,
                     kind: Kind::Eq,
-                    bound: signed(positive, &-floor),
+                    bound,
                 })
             } else {
                 NLit::False
@@ -94,7 +106,7 @@ fn bound_direction(form: Form, positive: bool, dir: Poly, divisor: &i128, consta
                 NLit::Is(Bound {
                     dir,
                     kind: Kind::Ne,
-                    bound: signed(positive, &-floor),
+                    bound,
                 })
             } else {
                 NLit::True
@@ -114,12 +126,10 @@ fn divisor_of(p: &Poly) -> i128
 }
 
 // The constant part, which is below the limit where there is a divisor.
-#[tactic(auto, using(nf_sums::proofs::Constants::constant_is, crate::proofs::Directions::constant_small))]
 fn constant_in(p: &Poly) -> i128
     ensures sum { result ≡ constant_sum p.now }
     ensures small { common_divisor (part_with_atoms p.now) ≢ 0 → unsigned_abs result + 1 ≤ weight_limit }
 {
-    let _ = p.size();
     constant_part(p.tree())
 }
 
@@ -146,7 +156,7 @@ fn direction(alloc: Global, p: &Poly, positive: bool, divisor: &i128) -> Result<
 }
 
 // The literal of a polynomial that is compared with 0.
-#[tactic(auto, using(crate::proofs::Directions::none_by, crate::proofs::Directions::some_by))]
+#[tactic(auto, using(crate::proofs::Directions::none_by))]
 fn by_divisor(alloc: Global, form: Form, p: &Poly) -> Result<NLit, NoMemory>
     ensures { IfOk result (λ l. literal_in l ≡ literal_form (form_in form) p.now) }
 {
