@@ -1,8 +1,9 @@
 //! The top call: from words to a status.
 
-ghost use Rattle.std.specs.Prelude.{◌≡◌, ◌≤◌, IfOk};
+ghost use Rattle.std.specs.Prelude.{◌≡◌, ◌≤◌, IfOk, Some};
 ghost use Rattle.std.specs.Result.{OnErr};
 ghost use Rattle.fs_base.specs.Outside.{NoneFell};
+ghost use Rattle.fsmd_words.specs.AskedWords.{IsWithinLimits, asked_of_ask};
 ghost use Rattle.fsmd_replies.specs.declared.answer.Status.TheVariants.{Fine, Differ, Undecided, Fault};
 ghost use Rattle.fsmd_tool.specs.Asking.{asked_by_words, AskToCompare, AskToVerify, AskToCompile, AskToSchedule, AskToBind};
 ghost use Rattle.fsmd_tool.specs.Asking.{AskToShrink, AskToChain};
@@ -20,9 +21,33 @@ use fs_base::outside::{Files, Sink};
 use fsmd_commands::commands::answer_command;
 use fsmd_commands::refused::answer_of;
 use fsmd_replies::answer::Status;
-use fsmd_words::asking::AskError;
+use fsmd_words::asking::{Ask, AskError};
 use fsmd_words::words::ask;
 use std::alloc::{AllocError, Global};
+
+// Puts the reply to what is asked.
+fn put_reply_to<F: Files, S: Sink>(
+    alloc: Global,
+    ask: &Ask,
+    files: &mut F,
+    out: &mut S,
+) -> Result<Status, AllocError>
+    requires { IsWithinLimits (asked_of_ask ask.now) }
+    ensures answered { IfOk result
+        (λ status. Answered (call (Some (asked_of_ask ask.now)) (F.told files.old) (F.told files.new))
+        (put_between status (S.told out.old) (S.told out.new))) }
+    ensures err { OnErr result ((S.told out.new).got ≡ (S.told out.old).got) }
+    ensures unwritten { OnErr result
+        (IsUnwritten (Some (asked_of_ask ask.now)) (file_change (F.told files.old) (F.told files.new))) }
+    ensures counts { NoneFell (F.told files.old).faults (F.told files.new).faults }
+    ensures store_counts { NoneFell (F.told files.old).store_faults (F.told files.new).store_faults }
+    ensures sink_counts { (S.told out.old).faults ≤ (S.told out.new).faults }
+    ensures unchanged { KeepsFiles (call (Some (asked_of_ask ask.now)) (F.told files.old) (F.told files.new)) }
+    ensures loads { LoadsNamed (call (Some (asked_of_ask ask.now)) (F.told files.old) (F.told files.new)) }
+{
+    let answer = answer_of(answer_command(alloc, ask, files))?;
+    put_answer(alloc, &answer, ask, files, out)
+}
 
 // Puts the reply to words.
 fn put_reply<F: Files, S: Sink>(
@@ -44,10 +69,7 @@ fn put_reply<F: Files, S: Sink>(
     ensures loads { LoadsNamed (call (asked_by_words words.now) (F.told files.old) (F.told files.new)) }
 {
     match ask(alloc, words) {
-        Ok(ask) => {
-            let answer = answer_of(answer_command(alloc, &ask, files))?;
-            put_answer(alloc, &answer, &ask, files, out)
-        }
+        Ok(ask) => put_reply_to(alloc, &ask, files, out),
         Err(AskError::Usage) => put_usage(out),
         Err(AskError::NoMemory) => Err(AllocError),
     }
