@@ -1,6 +1,7 @@
 mod Turns
 pub mod FirstNames
 pub mod TrimLaws
+mod Members
 mod ListLaws
 mod Others
 mod ObjectLaws

@@ -38,9 +38,9 @@ pub fn empty_object<'a>(alloc: Global) -> ShortObject<'a>
     }
 }
 
-// Puts a member in, over the value of its name where there is one. The one refusal is out of memory.
+// Puts a member in, over the value of its name where there is one.
 #[inline(always)]
-fn put_member<'a>(
+fn insert_member<'a>(
     found: &mut Map<&'a str, Value<'a>>,
     name: &'a str,
     member: Value<'a>,
@@ -49,6 +49,37 @@ fn put_member<'a>(
 {
     drop(found.insert(name, member)?);
     Ok(())
+}
+
+// Whether a name comes behind all that are there, as most do in a file whose names ascend.
+#[inline(always)]
+fn is_last(found: &Map<&str, Value<'_>>, name: &str) -> bool {
+    match found.last_key_value() {
+        Some((last, _)) => name.cmp(*last) == Ordering::Greater,
+        None => true,
+    }
+}
+
+// Puts a member in, over the value of its name where there is one: a name that may be there is looked for, so that its value is
+// written in place. The one refusal is out of memory.
+#[inline(always)]
+fn put_member<'a>(
+    found: &mut Map<&'a str, Value<'a>>,
+    name: &'a str,
+    member: Value<'a>,
+) -> Result<(), AllocError>
+    ensures { OnOk result (members_view found.new.entries ≡ put name.now (view member.entry) (members_view found.old.entries)) }
+{
+    if is_last(found, name) {
+        return insert_member(found, name, member);
+    }
+    match found.get_mut(name) {
+        Some(place) => {
+            *place = member;
+            Ok(())
+        }
+        None => insert_member(found, name, member),
+    }
 }
 
 // Whether a name comes behind as many as are kept.
