@@ -18,7 +18,8 @@ use Rattle.std.proofs.lemmas.List.Folds.{list_all-append, list_any-append}
 use Rattle.fs_model.proofs.Booleans.{and_swap, not_or}
 use Rattle.fs_model.proofs.Lists.{map_drop_next, slice_get-none}
 use Rattle.fs_model.specs.declared.parts.VarInfo.{VarInfo}
-use Rattle.fs_rules.specs.SoundParts.{has_sort, other_sort_at, scalars_in_assignment, arrays_in_assignment, port_in, scalars_in_assignments, arrays_in_assignments}
+use Rattle.fs_rules.specs.SoundParts.{has_sort, other_sort_at, scalars_in_assignment, arrays_in_assignment, port_in, scalars_in_assignments}
+use Rattle.fs_rules.specs.SoundParts.{arrays_in_assignments}
 use Rattle.fs_rules.specs.SoundParts.{scalars_in_condition, arrays_in_condition}
 use Rattle.fs_rules.specs.SoundParts.{ports_in_assignments, emits_of, emit_count, occurs, assigned_in, all_differ}
 use Rattle.fs_rules.specs.Rules.{is_known}

@@ -144,7 +144,8 @@ pub fn pair_files<F: Files>(
     ensures answers { AnswersBy (IsCorrectInOrder (OpensPair (FollowsFor command)) 0
         (call (Some (asked_of_ask ask.now)) (F.told files.old) (F.told files.new))) result }
     ensures only_read { OnlyRead (F.told files.old) (F.told files.new) }
-    ensures at_most { LoadsAtMost (Some (asked_of_ask ask.now)) 0 (2 + files_behind command) (F.told files.old) (F.told files.new) }
+    ensures at_most { LoadsAtMost (Some (asked_of_ask ask.now)) 0 (2 + files_behind command)
+        (F.told files.old) (F.told files.new) }
 {
     match load_pair(alloc, ask, files) {
         Ok(pair) => answer_pair(alloc, ask, command, &pair, files),

@@ -1,6 +1,6 @@
 -- Walks along the positions of a fact.
-use Rattle.std.proofs.Common.{◌≡◌, ℕ, ◌+◌, ◌<◌, ◌≤◌, List, [], ◌∷◌, ◌++◌, append-nil, append_assoc, length, map, drop, refl, ap, ap₂, sym, ◌∙◌, arith, Bool, true}
-use Rattle.std.proofs.Common.{false, cond, Option, Some}
+use Rattle.std.proofs.Common.{◌≡◌, ℕ, ◌+◌, ◌<◌, ◌≤◌, List, [], ◌∷◌, ◌++◌, append-nil, append_assoc, length, map, drop, refl, ap, ap₂, sym, ◌∙◌, arith, Bool}
+use Rattle.std.proofs.Common.{true, false, cond, Option, Some}
 use Rattle.std.proofs.lemmas.List.{drop_all}
 use Rattle.std.specs.List.{position_from, slice_index_or}
 use Rattle.fs_model.proofs.Lists.{drop_next}

@@ -12,7 +12,8 @@ loop-state-preserved c =
     let x = c.state-item.result in
     c.in_ok-add_name.ensures
     ∙ ap (λ r. r ++ (x.line, x.name) ∷ []) c.loop-state.invariant
-    ∙ sym (taken_twice (λ (s : SourceState). (s.line, s.name)) source_state_of c.args.states.now c.loop-state.state-index x c.loop-state-test.true c.state-item.is)
+    ∙ sym (taken_twice (λ (s : SourceState). (s.line, s.name)) source_state_of c.args.states.now c.loop-state.state-index x
+    c.loop-state-test.true c.state-item.is)
 
 pub returns : goal.returns
 returns c =

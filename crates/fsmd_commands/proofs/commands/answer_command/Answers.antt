@@ -12,7 +12,8 @@ use Rattle.fsmd_commands.proofs.commands.answer_command.Goals as goal
 
 pub returns-in-Check-clause-answers : goal.returns-in-Check-clause-answers
 returns-in-Check-clause-answers g c =
-    check_answers _ _ string_bytes c.in-Check.cert c.in-Check.steps c.is_some.result _ c.pair_files.result (ap (λ (k : Ask). Some (asked_of_ask k)) c.in-Check.is)
+    check_answers _ _ string_bytes c.in-Check.cert c.in-Check.steps c.is_some.result _ c.pair_files.result
+    (ap (λ (k : Ask). Some (asked_of_ask k)) c.in-Check.is)
     c.is_some.ensures c.pair_files.ensures.answers
 
 pub returns-in-Generate-clause-answers : goal.returns-in-Generate-clause-answers
@@ -65,13 +66,15 @@ pub returns-in-Check-clause-loads : goal.returns-in-Check-clause-loads
 returns-in-Check-clause-loads g c = loads_named _ _ 2 _ _ (ap (λ (k : Ask). Some (asked_of_ask k)) c.in-Check.is) (omega arith) c.pair_files.ensures.at_most
 
 pub returns-in-Verify-clause-loads : goal.returns-in-Verify-clause-loads
-returns-in-Verify-clause-loads g c = loads_named _ _ 3 _ _ (ap (λ (k : Ask). Some (asked_of_ask k)) c.in-Verify.is) (omega arith) c.pair_files-in-Verify.ensures.at_most
+returns-in-Verify-clause-loads g c = loads_named _ _ 3 _ _ (ap (λ (k : Ask). Some (asked_of_ask k)) c.in-Verify.is) (omega arith)
+    c.pair_files-in-Verify.ensures.at_most
 
 pub returns-in-Run-clause-loads : goal.returns-in-Run-clause-loads
 returns-in-Run-clause-loads g c = loads_named _ _ 2 _ _ (ap (λ (k : Ask). Some (asked_of_ask k)) c.in-Run.is) (omega arith) c.run_files.ensures.at_most
 
 pub returns-in-Replay-clause-loads : goal.returns-in-Replay-clause-loads
-returns-in-Replay-clause-loads g c = loads_named _ _ 3 _ _ (ap (λ (k : Ask). Some (asked_of_ask k)) c.in-Replay.is) (omega arith) c.pair_files-in-Replay.ensures.at_most
+returns-in-Replay-clause-loads g c = loads_named _ _ 3 _ _ (ap (λ (k : Ask). Some (asked_of_ask k)) c.in-Replay.is) (omega arith)
+    c.pair_files-in-Replay.ensures.at_most
 
 pub returns-in-Fmt-clause-loads : goal.returns-in-Fmt-clause-loads
 returns-in-Fmt-clause-loads g c = loads_named _ _ 1 _ _ (ap (λ (k : Ask). Some (asked_of_ask k)) c.in-Fmt.is) (omega arith) c.format_text.ensures.at_most
@@ -91,7 +94,8 @@ pub returns-in-Bind-clause-loads : goal.returns-in-Bind-clause-loads
 returns-in-Bind-clause-loads g c = loads_named _ _ 2 _ _ (ap (λ (k : Ask). Some (asked_of_ask k)) c.in-Bind.is) (omega arith) c.bind_files.ensures.at_most
 
 pub returns-in-Shrink-clause-loads : goal.returns-in-Shrink-clause-loads
-returns-in-Shrink-clause-loads g c = loads_named _ _ 3 _ _ (ap (λ (k : Ask). Some (asked_of_ask k)) c.in-Shrink.is) (omega arith) c.pair_files-in-Shrink.ensures.at_most
+returns-in-Shrink-clause-loads g c = loads_named _ _ 3 _ _ (ap (λ (k : Ask). Some (asked_of_ask k)) c.in-Shrink.is) (omega arith)
+    c.pair_files-in-Shrink.ensures.at_most
 
 pub returns-in-Generate-clause-loads : goal.returns-in-Generate-clause-loads
 returns-in-Generate-clause-loads g c = at_most_none _ 0 _ _

@@ -84,7 +84,8 @@ add_arr-returns t c =
     let arr = out-ArrTree c.args.arr.now in
     let base = set_in c.add_base.new.mentioned in
     added (set_in c.args.mentioned.now) base (set_in c.loop-index.mentioned) (symbols_of_base arr.base)
-    (symbols_of_writes (writes_of (map write_in arr.writes.items))) (symbols_of_array (array_in c.args.arr.now)) (ap symbols_of_array (array_in-is c.args.arr.now))
+    (symbols_of_writes (writes_of (map write_in arr.writes.items))) (symbols_of_array (array_in c.args.arr.now))
+    (ap symbols_of_array (array_in-is c.args.arr.now))
     c.add_base.ensures
     (sym (at_drop_all (λ ys. with_symbols (set_in c.loop-index.mentioned) (symbols_of_writes (writes_of (map write_in ys))))
     c.deref-index-items.result.now c.loop-index.index-index c.loop-index-test.false)

@@ -21,6 +21,7 @@ pub returns : goal.returns
 returns c =
     sym
     (at_drop_all
-    (λ ls. earliest c.loop-line.faults.first (transitions_faults c.args.self.now.vars.items (names_stated c.args.self.now.states.now) (map source_transition_of ls)))
+    (λ ls. earliest c.loop-line.faults.first (transitions_faults c.args.self.now.vars.items (names_stated c.args.self.now.states.now)
+    (map source_transition_of ls)))
     c.args.lines.now c.loop-line.line-index c.loop-line-test.false)
     ∙ c.loop-line.invariant

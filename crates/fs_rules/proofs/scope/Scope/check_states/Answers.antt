@@ -18,6 +18,7 @@ pub returns : goal.returns
 returns c =
     sym
     (at_drop_all
-    (λ ss. earliest c.loop-state.faults.first (flat_map (state_faults c.args.self.now.vars.items (names_stated c.args.self.now.states.now)) (map source_state_of ss)))
+    (λ ss. earliest c.loop-state.faults.first (flat_map (state_faults c.args.self.now.vars.items (names_stated c.args.self.now.states.now))
+    (map source_state_of ss)))
     c.args.states.now c.loop-state.state-index c.loop-state-test.false)
     ∙ c.loop-state.invariant
