@@ -7,6 +7,9 @@ pub mod FirstBroken
 pub mod Opens
 pub mod Lifted
 pub mod OneBranch
+pub mod Repeats
+pub mod Faultless
+pub mod KeptRules
 pub use Rattle.fs_branches.proofs.Leaves
 pub use Rattle.fs_rules.proofs.FirstFaults
 pub use Rattle.fs_rules.proofs.Rounds

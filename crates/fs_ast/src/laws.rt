@@ -1,8 +1,11 @@
-//! What the branches of a machine mean. The functions do nothing.
+//! What the branches of a machine mean, and which parts keep the rules. The functions do nothing.
 
 ghost use Rattle.std.specs.Prelude.{◌≡◌, ℕ, ◌<◌, Some, length, slice_get};
 ghost use Rattle.fs_model.specs.Machines.{Fsmd, transitions_of};
+ghost use Rattle.fs_model.specs.Source.{Source};
 ghost use Rattle.fs_model.specs.Stores.{Store};
+ghost use Rattle.fs_rules.specs.MachineOfParts.{machine_of};
+ghost use Rattle.fs_rules.specs.Rules.{BreaksNoRule};
 ghost use Rattle.fs_rules.specs.SoundParts.{IsSound};
 ghost use Rattle.fs_model.specs.Trees.{Branch, branches_of};
 ghost use Rattle.fs_ast.specs.OpenBranches.{TakesOneBranch};
@@ -19,4 +22,9 @@ pub fn one_branch_is_taken()
 pub fn branches_are_sound()
     ensures { (m : Fsmd) (q k : ℕ) (b : Branch) → IsSound m → slice_get (branches_of (transitions_of m q)) k ≡ Some b
         → IsSoundBranch m.variables (length m.states) b }
+{}
+
+/// Parts that spell a sound machine are lawful.
+pub fn parts_of_a_sound_machine_are_lawful()
+    ensures { (p : Source) → IsSound (machine_of p) → BreaksNoRule p }
 {}

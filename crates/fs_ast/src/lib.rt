@@ -2,13 +2,16 @@
 //!
 //! The rules that parts keep stand in `fs_rules`; its definitions are passed on by `specs/`.
 //!
-//! Promises: `Machine::build` gives the machine that well-formed parts spell, and what is sound.
+//! Promises: `Machine::build` gives the machine that well-formed parts spell, and what is sound; `build_lawful`: the machine
+//! of parts that break no rule; `lawful_where`: parts keep all rules where the machine that they spell does and is nowhere
+//! endless.
 //!
-//! Rules: `specs/Shapes`, `specs/Branches`, `src/laws`.
+//! Rules: `specs/Shapes`, `specs/Branches`, `src/laws`, `proofs/KeptRules`.
 #![tactic(auto)]
 
 pub mod build;
 mod constants;
+pub mod lawful_machines;
 pub mod laws;
 pub mod machine;
 mod shape_rules;

@@ -18,7 +18,7 @@ use Rattle.fs_model.specs.Source.{SourceTransition, SourceState, Source}
 use Rattle.fs_model.specs.Machines.{State, Fsmd, transitions_of}
 use Rattle.fs_ast.specs.MachineOfParts.{place_or_end, variables_of, state_names, transition_spelled, state_spelled, machine_of}
 use Rattle.fs_ast.specs.SoundParts.{IsSound, names_differ}
-use Rattle.fs_ast_laws.proofs.Repeats.{is_listed}
+use Rattle.fs_ast.proofs.Repeats.{is_listed}
 use Rattle.hls_line_filling.specs.Items.{Item}
 use Rattle.hls_line_filling.specs.StraightLines.{all_states, is_straight}
 use Rattle.hls_line_filling.specs.RowMachines.{Move, MoveOver, all_moves, move_transition, transitions_by, state_at, machine_with_rows}

@@ -1,5 +1,5 @@
 use Rattle.fs_model.specs.View.{source_of}
-use Rattle.fs_ast_laws.proofs.lawful_machines.build_lawful.Goals as goal
+use Rattle.fs_ast.proofs.lawful_machines.build_lawful.Goals as goal
 use Rattle.fs_rules.proofs.Unbroken.{unbroken}
 
 pub unreachable-requires : goal.unreachable-requires

@@ -7,8 +7,8 @@ ghost use Rattle.fs_rules.specs.MachineOfParts.{machine_of};
 ghost use Rattle.fs_rules.specs.Rules.{BreaksNoRule};
 ghost use Rattle.fs_rules.specs.SoundParts.{IsSound};
 
-use fs_ast::build::BuildError;
-use fs_ast::machine::Machine;
+use crate::build::BuildError;
+use crate::machine::Machine;
 use fs_model::name::NoMemory;
 use fs_model::parts::Parts;
 use std::alloc::Global;

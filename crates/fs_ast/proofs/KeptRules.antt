@@ -20,8 +20,8 @@ use Rattle.fs_rules.proofs.Naming.{names_declared, names_of_declared}
 use Rattle.fs_rules.proofs.Unbroken.{none_past}
 use Rattle.fs_ast.proofs.Leaves.{length_leaves}
 use Rattle.fs_ast.proofs.Kept.{lines_some, not_endless}
-use Rattle.fs_ast_laws.proofs.Repeats.{never_again}
-use Rattle.fs_ast_laws.proofs.Faultless.{none_broken, nil_both, none_flat, IsFaultless, of_sound, none_at_line, has_else, else_last}
+use Rattle.fs_ast.proofs.Repeats.{never_again}
+use Rattle.fs_ast.proofs.Faultless.{none_broken, nil_both, none_flat, IsFaultless, of_sound, none_at_line, has_else, else_last}
 
 -- what a machine keeps, so that parts that spell it break no rule where no state is endless
 pub record KeepsRules (m : Fsmd) : Type 0 where
