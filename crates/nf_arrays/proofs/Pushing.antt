@@ -1,5 +1,7 @@
 -- Lists with one more item.
-use Rattle.std.proofs.Common.{◌≡◌, ◌+◌, max, List, [], ◌∷◌, ◌++◌, map, append_assoc, arith, refl, ap, sym, ◌∙◌}
+use Rattle.std.proofs.Common.{◌≡◌, ℕ, ◌+◌, ◌<◌, ◌≤◌, max, List, [], ◌∷◌, ◌++◌, map, drop, length, get_or, append_assoc, arith, refl, ap, sym, ◌∙◌}
+use Rattle.std.proofs.lemmas.List.{append-nil, at_drop_all}
+use Rattle.base_laws.proofs.Lists.{drop_next}
 use Rattle.nf_terms.specs.NormalTerms.{Polynomial}
 use Rattle.nf_terms.specs.Measures.{size_of, depth_of}
 use Rattle.nf_terms.specs.TermMeaning.{Valuation, value_of, items_of_base, items_in}
@@ -8,6 +10,22 @@ use Rattle.nf_terms.specs.Computed.{Done}
 use Rattle.nf_terms.proofs.Items.{pushed_normal}
 use Rattle.nf_sums.proofs.Values.{small_is}
 use Rattle.nf_arrays.specs.Pushes.{with_last_item, list_with_item}
+
+-- a copy of an item behind those of the items in front of it
+pub one_more : (ps old new : List Polynomial) (i : ℕ) (p q : Polynomial) → i < length ps → p ≡ get_or ps i p → new ≡ old ++ q ∷ [] → q ≡ p
+    → old ++ drop i ps ≡ ps → new ++ drop (i + 1) ps ≡ ps
+one_more ps old new i p q h at n e so_far =
+    ap (λ l. l ++ drop (i + 1) ps) (n ∙ ap (λ y. old ++ y ∷ []) e)
+    ∙ append_assoc old (p ∷ []) (drop (i + 1) ps)
+    ∙ ap (λ l. old ++ l) (sym (drop_next ps i p h at))
+    ∙ so_far
+
+-- one more item behind the copies of all items
+pub last_one : (ps old new : List Polynomial) (i : ℕ) (p q : Polynomial) → length ps ≤ i → new ≡ old ++ q ∷ [] → q ≡ p → old ++ drop i ps ≡ ps
+    → new ≡ ps ++ p ∷ []
+last_one ps old new i p q h n e so_far =
+    n ∙ ap (λ y. old ++ y ∷ []) e
+    ∙ ap (λ l. l ++ p ∷ []) (sym (at_drop_all (λ ys. old ++ ys) ps i h ∙ append-nil old) ∙ so_far)
 
 pub size-more : (ps : List Polynomial) (p : Polynomial) → size_of_items (ps ++ p ∷ []) ≡ size_of_items ps + 1 + size_of p
 size-more [] p = omega arith

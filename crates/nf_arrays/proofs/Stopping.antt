@@ -1,6 +1,6 @@
 -- Reads that pass over writes.
 use Rattle.std.proofs.Common.{◌≡◌, ◌+◌, ◌≤◌, ◌&&◌, not, arith, subst, Bool, true, false, cond, List, [], ◌∷◌, ◌++◌, map, refl, ap, sym, ◌∙◌}
-use Rattle.std.proofs.Common.{append_assoc}
+use Rattle.std.proofs.Common.{append_assoc, length}
 use Rattle.std.proofs.lemmas.List.{append-nil}
 use Rattle.nf_terms.specs.NormalTerms.{Polynomial, ArrayTerm, Writes, base_of, writes_over, Read, Over, NoWrites, Write, writes_of}
 use Rattle.nf_terms.specs.Order.{same_polynomial}
@@ -29,6 +29,10 @@ pub writes_in-last : (l : List (PolyTree × PolyTree)) (x : PolyTree × PolyTree
     → writes_in (l ++ x ∷ []) ≡ written_last (writes_in l) (write_in x).0 (write_in x).1
 writes_in-last [] x = refl
 writes_in-last (y ∷ l) x = ap (Write (write_in y).0 (write_in y).1) (writes_in-last l x)
+
+pub no_writes : (l : List (PolyTree × PolyTree)) → length l ≡ 0 → l ≡ []
+no_writes [] e = refl
+no_writes (x ∷ l) e = absurd (omega (arith, e))
 
 stop_before : (i k w : Polynomial) (ws : Writes) (j v : Polynomial) → stop_at i k w (written_last ws j v) ≡ Write k w (written_last ws j v)
 stop_before i k w NoWrites j v = refl

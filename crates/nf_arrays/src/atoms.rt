@@ -1,7 +1,7 @@
 //! Atoms alone.
 
-ghost use Rattle.std.specs.Prelude.{◌≡◌, pos, IfOk};
-ghost use Rattle.nf_terms.specs.NormalTerms.{One, Times, Zero, Plus};
+ghost use Rattle.std.specs.Prelude.{◌≡◌, IfOk};
+ghost use Rattle.nf_terms.specs.NormalTerms.{One, Times};
 ghost use Rattle.nf_terms.specs.View.{atom_in, monomial_in, polynomial_in};
 ghost use Rattle.nf_terms.specs.Computed.{Answers};
 ghost use Rattle.nf_arrays.specs.NewAtoms.{new_atom as new_atom_of, polynomial_of_atom, IsNewAtom};
@@ -23,20 +23,14 @@ fn lone_factor(alloc: Global, atom: Atom) -> Result<MonoTree, NoMemory>
     Ok(MonoTree { atoms })
 }
 
-// The tree of a monomial alone.
-fn lone_term(alloc: Global, mono: MonoTree) -> Result<PolyTree, NoMemory>
-    ensures { IfOk result (λ tree. polynomial_in tree ≡ Plus (monomial_in mono) (pos 1) Zero) }
-{
-    let mut monos = Vec::new(alloc);
-    push_term(&mut monos, mono, &1)?;
-    Ok(PolyTree { monos })
-}
-
 // The tree of an atom alone.
 fn atom_tree(alloc: Global, atom: Atom) -> Result<PolyTree, NoMemory>
     ensures { IfOk result (λ tree. polynomial_in tree ≡ polynomial_of_atom (atom_in atom)) }
 {
-    lone_term(alloc, lone_factor(alloc, atom)?)
+    let mono = lone_factor(alloc, atom)?;
+    let mut monos = Vec::new(alloc);
+    push_term(&mut monos, mono, &1)?;
+    Ok(PolyTree { monos })
 }
 
 /// An atom alone.

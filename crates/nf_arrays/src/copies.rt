@@ -10,6 +10,19 @@ use nf_terms::stop::NoMemory;
 use nf_trees::tree::{ArrTree, Atom, Base, PolyTree};
 use std::alloc::Global;
 
+/// Copies of two trees. The one refusal is out of memory.
+pub(crate) fn copy_both(
+    alloc: Global,
+    l: &PolyTree,
+    r: &PolyTree,
+) -> Result<(PolyTree, PolyTree), NoMemory>
+    ensures left { IfOk result (λ p. polynomial_in p.0 ≡ polynomial_in l.now) }
+    ensures right { IfOk result (λ p. polynomial_in p.1 ≡ polynomial_in r.now) }
+{
+    let left = l.try_clone(alloc)?;
+    Ok((left, r.try_clone(alloc)?))
+}
+
 /// Adds a copy of a write. The one refusal is out of memory.
 pub(crate) fn push_write_copy(
     alloc: Global,
@@ -20,8 +33,8 @@ pub(crate) fn push_write_copy(
     ensures { OnOk result
         (map write_in out.new.items ≡ map write_in out.old.items ++ (polynomial_in index.now, polynomial_in value.now) ∷ []) }
 {
-    let index = index.try_clone(alloc)?;
-    push_write(out, index, value.try_clone(alloc)?)
+    let (index, value) = copy_both(alloc, index, value)?;
+    push_write(out, index, value)
 }
 
 // A copy of writes.

@@ -1,21 +1,20 @@
 //! Quotients and remainders.
 
-ghost use Rattle.std.specs.Prelude.{◌≡◌, ◌^◌, ◌<◌, ◌&&◌, true, false, unsigned_abs, IfOk, MatchOption};
+ghost use Rattle.std.specs.Prelude.{◌≡◌, ◌^◌, ◌<◌, ◌&&◌, true, false, unsigned_abs, MatchOption};
 ghost use Rattle.base_laws.specs.Division.{quotient as quotient_in, remainder as remainder_in};
 ghost use Rattle.nf_terms.specs.NormalTerms.{Quotient, Remainder, polynomial_of_number};
-ghost use Rattle.nf_terms.specs.View.{atom_in, polynomial_in};
 ghost use Rattle.nf_terms.specs.Normal.{is_constant};
 ghost use Rattle.nf_terms.specs.Computed.{Answers, Done};
 ghost use Rattle.nf_terms.specs.Normal.{constant_sum};
 ghost use Rattle.nf_arrays.specs.NewAtoms.{new_atom as new_atom_of, quotient_of, remainder_of};
 
 use crate::atoms::new_atom;
+use crate::copies::copy_both;
 use base_laws::{quotient, remainder};
 use nf_sums::sums::constant_of;
 use nf_terms::atoms::{make_quotient, make_remainder};
 use nf_terms::poly::Poly;
-use nf_terms::stop::{NfStop, NoMemory};
-use nf_trees::tree::{Atom, PolyTree};
+use nf_terms::stop::NfStop;
 use std::alloc::Global;
 
 // The number that a polynomial is, which is not the least `i128`.
@@ -39,20 +38,13 @@ fn folded_quotient(alloc: Global, c: &i128, d: &i128) -> Result<Poly, NfStop>
     }
 }
 
-// The quotient of two copies as an atom.
-fn copy_quotient(alloc: Global, l: &PolyTree, r: &PolyTree) -> Result<Atom, NoMemory>
-    ensures { IfOk result (λ a. atom_in a ≡ Quotient (polynomial_in l.now) (polynomial_in r.now)) }
-{
-    let left = l.try_clone(alloc)?;
-    make_quotient(alloc, left, r.try_clone(alloc)?)
-}
-
 // The quotient of two polynomials that are not both numbers.
 fn new_quotient(alloc: Global, l: &Poly, r: &Poly) -> Result<Poly, NfStop>
     requires { is_constant l.now && is_constant r.now ≡ false }
     ensures { Answers result (new_atom_of (Quotient l.now r.now)) }
 {
-    let atom = copy_quotient(alloc, l.tree(), r.tree())?;
+    let (left, right) = copy_both(alloc, l.tree(), r.tree())?;
+    let atom = make_quotient(alloc, left, right)?;
     new_atom(alloc, atom)
 }
 
@@ -79,20 +71,13 @@ fn folded_remainder(alloc: Global, c: &i128, d: &i128) -> Result<Poly, NfStop>
     Ok(Poly::number(alloc, remainder(*c, *d))?)
 }
 
-// The remainder of two copies as an atom.
-fn copy_remainder(alloc: Global, l: &PolyTree, r: &PolyTree) -> Result<Atom, NoMemory>
-    ensures { IfOk result (λ a. atom_in a ≡ Remainder (polynomial_in l.now) (polynomial_in r.now)) }
-{
-    let left = l.try_clone(alloc)?;
-    make_remainder(alloc, left, r.try_clone(alloc)?)
-}
-
 // The remainder of two polynomials that are not both numbers.
 fn new_remainder(alloc: Global, l: &Poly, r: &Poly) -> Result<Poly, NfStop>
     requires { is_constant l.now && is_constant r.now ≡ false }
     ensures { Answers result (new_atom_of (Remainder l.now r.now)) }
 {
-    let atom = copy_remainder(alloc, l.tree(), r.tree())?;
+    let (left, right) = copy_both(alloc, l.tree(), r.tree())?;
+    let atom = make_remainder(alloc, left, right)?;
     new_atom(alloc, atom)
 }
 

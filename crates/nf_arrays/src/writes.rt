@@ -8,7 +8,7 @@ ghost use Rattle.nf_terms.specs.Computed.{Answers};
 ghost use Rattle.nf_terms.specs.Tidied.{goes_after, with_write, rising_stretches, last_writes, tidy_array};
 ghost use Rattle.nf_arrays.specs.Writes.{written_last, with_last_write, indices_ordered, write_array};
 
-use crate::copies::{array_of, push_write_copy};
+use crate::copies::{array_of, copy_both, push_write_copy};
 use crate::reads::is_same;
 use nf_terms::arr::Arr;
 use nf_terms::constants::{constant_part, differs_by_constant};
@@ -60,8 +60,7 @@ fn place_write(
         (writes_of (map write_in out.old.items))) }
 {
     let place = place_of(out, index);
-    let copy = (index.try_clone(alloc)?, value.try_clone(alloc)?);
-    out.insert(place, copy)?;
+    out.insert(place, copy_both(alloc, index, value)?)?;
     Ok(())
 }
 
