@@ -1,12 +1,14 @@
 //! Makes the moves of a search.
 
-ghost use Rattle.std.specs.Prelude.{◌≡◌, ◌<◌, None, IfOk};
+ghost use Rattle.std.specs.Prelude.{◌≡◌, [], None, IfOk, OnOk};
 ghost use Rattle.fs_cut.specs.Covers.{cover_of};
 ghost use Rattle.fs_pair.specs.Interfaces.{interface_fault};
 ghost use Rattle.fs_pair.specs.Positions.{positions};
+ghost use Rattle.search_tables.specs.SearchTables.{first_table};
+ghost use Rattle.search_tables.specs.Legal.{Makes};
 ghost use Rattle.search_worklist.specs.Endings.{IsEndedWith};
-ghost use Rattle.search_worklist.specs.SearchEnds.{IsEnded};
-ghost use Rattle.search_worklist.specs.States.{table as table_now};
+ghost use Rattle.search_worklist.specs.SearchEnds.{IsEnded, EndsSo};
+ghost use Rattle.search_worklist.specs.States.{table as table_now, IsReady};
 ghost use Rattle.search_worklist.specs.View.{machines_in};
 
 use fs_ast::machine::Machine;
@@ -33,25 +35,32 @@ fn ended(alloc: Global, state: State, moves: Vec<Move>, end: End) -> Result<Ende
     })
 }
 
-// Makes moves, each the one that is next, until one ends the search.
-fn make_moves(alloc: Global, m: &Sides<'_>) -> Result<Ended, NoMemory>
-    ensures { IfOk result (IsEnded (machines_in m.now)) }
+// Makes moves from the start node, each the one that is next, until one ends the search.
+fn make_moves(
+    alloc: Global,
+    m: &Sides<'_>,
+    state: &mut State,
+    moves: &mut Vec<Move>,
+) -> Result<End, NoMemory>
+    requires ready { IsReady (machines_in m.now) state.old }
+    requires start { table_now state.old ≡ first_table (machines_in m.now) }
+    requires none { moves.old.items ≡ [] }
+    ensures makes { OnOk result (Makes (machines_in m.now) moves.new.items (table_now state.new)) }
+    ensures ends { IfOk result (EndsSo (machines_in m.now) (table_now state.new)) }
 {
     let _left = m.left.vars(); // These two calls tell the proof that both machines are sound.
     let _right = m.right.vars();
-    let mut state = begin(alloc, m)?;
-    let mut moves = Vec::new(alloc);
     let mut changed = 0;
     'moves: loop {
         match output_at(alloc, m, &state.entries, changed)? {
             Some(var) => {
                 let node = changed as u32;
-                return ended(alloc, state, moves, End::Stuck { node, var });
+                return Ok(End::Stuck { node, var });
             }
-            None => match next(alloc, m, &mut state)? {
-                Step::Ends(end) => return ended(alloc, state, moves, end),
+            None => match next(alloc, m, state)? {
+                Step::Ends(end) => return Ok(end),
                 Step::Changes { at, change } => {
-                    changed = make(alloc, &mut state, change)?;
+                    changed = make(alloc, state, change)?;
                     moves.push(at)?;
                 }
             },
@@ -80,7 +89,10 @@ fn run_sides<'a>(
         left_cover: ca,
         right_cover: cb,
     };
-    make_moves(alloc, &sides)
+    let mut state = begin(alloc, &sides)?;
+    let mut moves = Vec::new(alloc);
+    let end = make_moves(alloc, &sides, &mut state, &mut moves)?;
+    ended(alloc, state, moves, end)
 }
 
 /// Makes a table from the start node by the moves that are next, up to the first obstacle or until nothing is next. The one

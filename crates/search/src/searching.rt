@@ -10,7 +10,6 @@ ghost use Rattle.search_tables.specs.Next.{IsClosed};
 ghost use Rattle.search_tables.specs.Legal.{Makes, stuck};
 ghost use Rattle.search_tables.specs.View.{table_in, points_in, points_at};
 ghost use Rattle.cert_bisimulation.specs.Alike.{WhereAlike};
-ghost use Rattle.search_worklist.specs.SearchEnds.{IsEnded};
 ghost use Rattle.search_tables.specs.SearchTables.{machines};
 ghost use Rattle.search.specs.SearchOutcomes.{IsSearchOutcome, ClosesOrMeetsLimit};
 
@@ -79,23 +78,24 @@ fn close_table(
     }
 }
 
-// How a search ends where its moves end so. The one refusal is out of memory.
-fn conclude(
+// As `search`, by the covers of both machines. The one refusal is out of memory.
+fn search_by_covers(
     alloc: Global,
     a: &Machine,
     b: &Machine,
+    p: &Pairing,
     ca: &Cover,
     cb: &Cover,
-    ended: Ended,
 ) -> Result<Outcome, NoMemory>
+    requires paired { p.now ≡ positions a.now b.now }
     requires interface { interface_fault a.now b.now ≡ None }
     requires left_cover { ca.now ≡ cover_of a.now }
     requires right_cover { cb.now ≡ cover_of b.now }
-    requires ended { IsEnded (machines a.now b.now) ended }
     ensures { IfOk result (IsSearchOutcome (machines a.now b.now)) }
 {
     let _left = a.vars(); // These two calls tell the proof that both machines are sound.
     let _right = b.vars();
+    let ended = run(alloc, a, b, p, ca, cb)?;
     let Ended { nodes, moves, end } = ended;
     let points = points_of(alloc, nodes.as_slice())?;
     match end {
@@ -134,6 +134,5 @@ pub fn search(alloc: Global, a: &Machine, b: &Machine, p: &Pairing) -> Result<Ou
 {
     let ca = cover_of(alloc, a)?;
     let cb = cover_of(alloc, b)?;
-    let ended = run(alloc, a, b, p, &ca, &cb)?;
-    conclude(alloc, a, b, &ca, &cb, ended)
+    search_by_covers(alloc, a, b, p, &ca, &cb)
 }

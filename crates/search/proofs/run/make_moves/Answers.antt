@@ -11,14 +11,14 @@ use Rattle.search_worklist.specs.States.{table}
 use Rattle.search_worklist.specs.Turns.{IsNext}
 use Rattle.search_worklist.specs.View.{machines_in}
 use Rattle.search_worklist.proofs.Differing.{DiffersAlone, start_differs, put_differs, none_differs, one_differs}
-use Rattle.search_worklist.proofs.Legal.{makes_none, makes_more, made, fewer_left, number_in, ends_with, if_ok}
+use Rattle.search_worklist.proofs.Legal.{makes_none, makes_more, made, fewer_left, number_in}
 use Rattle.search.proofs.run.make_moves.Goals as goal
 
 pub moves-init : goal.moves-init
 moves-init c = record {
-  ready = c.in_ok-state.ensures.ready;
-  makes = makes_none (machines_in c.args.m.now) c.new-moves.result.items (table c.in_ok-state.state) c.new-moves.ensures.items c.in_ok-state.ensures.table;
-  differs = start_differs (machines_in c.args.m.now) (table c.in_ok-state.state) c.in_ok-state.ensures.table;
+  ready = c.requires.ready;
+  makes = makes_none (machines_in c.args.m.now) c.args.moves.now.items (table c.args.state.now) c.requires.none c.requires.start;
+  differs = start_differs (machines_in c.args.m.now) (table c.args.state.now) c.requires.start;
 }
 
 pub output_at-requires : goal.output_at-requires
@@ -32,12 +32,14 @@ overflow_cast-node c =
     let small : c.moves.changed < 4096 = omega (arith, lt, w.few) in
     omega (arith, small)
 
-pub returns-in-Some : goal.returns-in-Some
-returns-in-Some c =
+pub returns-in-Some-clause-makes : goal.returns-in-Some-clause-makes
+returns-in-Some-clause-makes c = c.moves.invariant.makes
+
+pub returns-in-Some-clause-ends : goal.returns-in-Some-clause-ends
+returns-in-Some-clause-ends c =
     let m = machines_in c.args.m.now in
     let T = table c.moves.state in
-    let d = one_differs m T c.moves.changed c.in-Some.var c.moves.invariant.differs (subst (OutputAt m T c.moves.changed) c.in-Some.is c.in_ok-var.ensures) in
-    if_ok c.ended.result (λ e h. ends_with m T c.moves.moves _ e c.moves.invariant.makes d h) c.ended.ensures
+    one_differs m T c.moves.changed c.in-Some.var c.moves.invariant.differs (subst (OutputAt m T c.moves.changed) c.in-Some.is c.in_ok-var.ensures)
 
 pub next-requires-clause-made : goal.next-requires-clause-made
 next-requires-clause-made c =
@@ -46,14 +48,15 @@ next-requires-clause-made c =
     made m c.moves.moves.items T c.vars-left.ensures.sound c.vars-right.ensures.sound c.moves.invariant.makes
     (none_differs m T c.moves.changed c.moves.invariant.differs (subst (OutputAt m T c.moves.changed) c.in-None.is c.in_ok-var.ensures))
 
-pub returns-in-Ends : goal.returns-in-Ends
-returns-in-Ends c =
+pub returns-in-Ends-clause-makes : goal.returns-in-Ends-clause-makes
+returns-in-Ends-clause-makes c =
+    subst (Makes (machines_in c.args.m.now) c.moves.moves.items) (sym c.in_ok-end-in-None.ensures.same) c.moves.invariant.makes
+
+pub returns-in-Ends-clause-ends : goal.returns-in-Ends-clause-ends
+returns-in-Ends-clause-ends c =
     let m = machines_in c.args.m.now in
-    let same = c.in_ok-end-in-None.ensures.same in
     let n = subst (IsNext m (table c.moves.state)) c.in-Ends.is c.in_ok-end-in-None.ensures.next in
-    if_ok c.ended-in-Ends.result
-    (λ e h. ends_with m (table c.next.new.state) c.moves.moves c.in-Ends.end e (subst (Makes m c.moves.moves.items) (sym same) c.moves.invariant.makes)
-    (subst (λ T. EndsSo m T c.in-Ends.end) (sym same) n) h) c.ended-in-Ends.ensures
+    subst (λ T. EndsSo m T c.in-Ends.end) (sym c.in_ok-end-in-None.ensures.same) n
 
 pub make-requires-clause-few : goal.make-requires-clause-few
 make-requires-clause-few c =
