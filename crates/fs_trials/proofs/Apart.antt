@@ -1,5 +1,6 @@
 -- Runs that end and runs that don't.
 use Rattle.std.proofs.Common.{◌≡◌, ℕ, ℤ, ◌+◌, ◌<◌, ◌≤◌, List, sym, ◌∙◌, ap, subst, inl, inr, arith}
+use Rattle.std.specs.Prelude.{Option, None, Some, MatchOption}
 use Rattle.std.proofs.lemmas.Bool.{cases_lt}
 use Rattle.fs_model.specs.Machines.{Fsmd}
 use Rattle.fs_model.specs.Runs.{Inputs}
@@ -15,6 +16,15 @@ use Rattle.fs_trials.specs.Differences.{ShowsDifference, DiffersAt, IsEnd, HasNo
 -- a run that was stopped has no end
 pub no_end : (m : Fsmd) (ins : Inputs) (limit : ℕ) (stop : RunStop) → IsStopped m ins limit stop → IsStopOfRun stop → HasNoEnd m ins limit
 no_end m ins limit stop stopped of_run = λ outs steps ends. end_or_stop m ins limit outs steps stop ends stopped of_run
+
+-- what is told of a run, where it has an end and where it has none
+pub told_end : (m : Fsmd) (ins : Inputs) (limit : ℕ) (o : Option Ended) (e : Ended) → o ≡ Some e
+    → MatchOption o (HasNoEnd m ins limit) (IsEnd m ins limit) → IsEnd m ins limit e
+told_end m ins limit o e is told = subst (λ o. MatchOption o (HasNoEnd m ins limit) (IsEnd m ins limit)) is told
+
+pub told_no_end : (m : Fsmd) (ins : Inputs) (limit : ℕ) (o : Option Ended) → o ≡ None
+    → MatchOption o (HasNoEnd m ins limit) (IsEnd m ins limit) → HasNoEnd m ins limit
+told_no_end m ins limit o is told = subst (λ o. MatchOption o (HasNoEnd m ins limit) (IsEnd m ins limit)) is told
 
 pub left_has_none : (a b : Fsmd) (ins : Inputs) (limit : ℕ) → HasNoEnd a ins limit → ¬ ShowsDifference a b ins limit
 left_has_none a b ins limit none d = none d.left d.left_steps d.left_ends

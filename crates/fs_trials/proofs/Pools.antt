@@ -1,6 +1,6 @@
 -- A list that grows by a number at a time is the list of all of them.
 use Rattle.std.proofs.Common.{◌≡◌, ℕ, zero, suc, ◌<◌, ◌≤◌, Bool, true, false, cond, leb, List, [], ◌∷◌, ◌++◌, length, take, refl, sym, ◌∙◌, ap, arith}
-use Rattle.std.proofs.Common.{append_assoc, append-nil, length-append}
+use Rattle.std.proofs.Common.{append_assoc, append-nil, length-append, drop, get_or, ◌+◌}
 use Rattle.std.specs.Prelude.{ℤ, pos, negsuc, ◌+ℤ◌, ◌-ℤ◌, not, ◌&&◌, ◌||◌, Option, Some, None, FitsSigned, nat_le}
 use Rattle.std.specs.Int.{w128}
 use Rattle.std.specs.List.{filter, fold, flat_map, AllByRecursion, IsDistinct}
@@ -9,12 +9,34 @@ use Rattle.std.specs.Ordering.{int_eq}
 use Rattle.std.proofs.lemmas.Bool.Decides.{Decides-int_eq, nat_tests}
 use Rattle.std.proofs.lemmas.Grind.{flat_map-append}
 use Rattle.std.proofs.lemmas.Int.{ints}
-use Rattle.std.proofs.lemmas.List.{take_all, take-append-le, length-take}
+use Rattle.std.proofs.lemmas.List.{take_all, take-append-le, length-take, at_drop_all}
 use Rattle.std.proofs.lemmas.List.Elements.{filter_agree}
 use Rattle.std.proofs.lemmas.List.Folds.{list_any-append}
 use Rattle.std.proofs.lemmas.List.Sums.{fold-append}
+use Rattle.fs_model.proofs.Lists.{drop_next}
 use Rattle.fs_trials.specs.Pool.{is_pool_number, first_values, fixed_values, neighbours, distinct, first_distinct, pool_from, further_values, is_in_pool}
 use Rattle.fs_trials.specs.Pool.{with_pool_number}
+
+-- ---- loops that add numbers
+
+-- one more number, in front of those that are left
+pub one_more : (room : ℕ) (old new xs : List ℤ) (i : ℕ) (x : ℤ) → i < length xs → x ≡ get_or xs i x → new ≡ with_pool_number room old x
+    → fold (with_pool_number room) new (drop (i + 1) xs) ≡ fold (with_pool_number room) old (drop i xs)
+one_more room old new xs i x h at n =
+    ap (λ p. fold (with_pool_number room) p (drop (i + 1) xs)) n ∙ ap (fold (with_pool_number room) old) (sym (drop_next xs i x h at))
+
+-- the neighbours of one more number, in front of those of the numbers that are left
+pub more_neighbours : (room : ℕ) (old new xs : List ℤ) (i : ℕ) (x : ℤ) → i < length xs → x ≡ get_or xs i x
+    → new ≡ fold (with_pool_number room) old (neighbours x)
+    → fold (with_pool_number room) new (flat_map neighbours (drop (i + 1) xs)) ≡ fold (with_pool_number room) old (flat_map neighbours (drop i xs))
+more_neighbours room old new xs i x h at n =
+    ap (λ p. fold (with_pool_number room) p (flat_map neighbours (drop (i + 1) xs))) n
+    ∙ sym (fold-append (with_pool_number room) old (neighbours x) (flat_map neighbours (drop (i + 1) xs)))
+    ∙ ap (λ l. fold (with_pool_number room) old (flat_map neighbours l)) (sym (drop_next xs i x h at))
+
+-- behind the last number a list is what all of them make
+pub none_left : (f : List ℤ → List ℤ) (old all xs : List ℤ) (i : ℕ) → f [] ≡ old → length xs ≤ i → f (drop i xs) ≡ all → old ≡ all
+none_left f old all xs i e h so_far = sym e ∙ sym (at_drop_all f xs i h) ∙ so_far
 
 -- ---- numbers of 128 bits
 
