@@ -1,6 +1,6 @@
 -- Moves of one machine alone lead to nodes of the table, from which that machine moves alone too.
 use Rattle.std.proofs.Common.{◌≡◌, ℕ, zero, suc, ◌+◌, ◌<◌, ◌≤◌, refl, sym, ◌∙◌, ap, subst, arith, Bool, true, false, cond, List, [], ◌∷◌, ◌++◌, append_assoc}
-use Rattle.std.proofs.Common.{length, drop, Some, Vec, Global}
+use Rattle.std.proofs.Common.{length, length-append, map, drop, Option, None, Some, Vec, Global}
 use Rattle.std.specs.Prelude.{slice_get, Result, Ok, Err, IfOk}
 use Rattle.std.specs.List.{AllByRecursion, slice_index_or}
 use Rattle.std.proofs.lemmas.List.{map-append}
@@ -20,11 +20,12 @@ use Rattle.cert_model.specs.Obligations.{same_alone}
 use Rattle.search_tables.specs.Walks.{InRange, lists_in}
 use Rattle.search_tables.specs.declared.nodes.TableNode.{TableNode}
 use Rattle.search_tables.specs.View.{table_in, table_node_in}
-use Rattle.search_tables.specs.SearchTables.{MachinePair, SearchNode, Table, Target, Unknown, Known, node_target, PathPair, arrival}
+use Rattle.search_tables.specs.SearchTables.{MachinePair, SearchNode, Table, Target, Unknown, Known, node_target, Keeps, PathPair, effect, arrival}
 use Rattle.search_tables.specs.Next.{mode_at, paths_in}
 use Rattle.search_tables.specs.LoneMoves.{moves_alone, if_alone, lone_target, lone_targets, lone_in, lone_from, lone_moves}
 use Rattle.search_tables.proofs.Forming.{known_in}
-use Rattle.search_closing.specs.LoneSideMoves.{AreShort}
+use Rattle.search_closing.specs.LoneSideMoves.{Keep, AreShort, lone_move_target}
+use Rattle.search_closing.specs.View.{as_list}
 
 -- node j is there, and moves in a mode in which one machine moves alone
 pub record IsLone (m : MachinePair) (T : Table) (x : Mode) (j : ℕ) : Type 0 where
@@ -144,3 +145,20 @@ pub short_more : (old new : List (Vec ℕ Global)) (v : Vec ℕ Global) → new 
 short_more old new v h le s =
     subst (λ l. AreShort (lists_in l)) (sym h)
     (subst AreShort (sym (map-append items old (v ∷ []))) (each_append (λ js. length js ≤ most_branches) (lists_in old) (v.items ∷ []) s (le, tt)))
+
+-- ---- along a loop over paths
+module _ {A B : Type 0} (m : MachinePair) (T : Table) (n : SearchNode) (f : B → PathPair) (g : A → B) (ps : List A) (i : ℕ) (p : A) (lt : i < length ps)
+    (at : p ≡ slice_index_or ps i p) where
+  pub keep_next : Keep m T n (map f (map g (drop i ps))) → (effect m T n (f (g p)) ≡ Keeps) × Keep m T n (map f (map g (drop (i + 1) ps)))
+  keep_next k = subst (λ l. Keep m T n (map f (map g l))) (drop_next ps i p lt at) k
+
+  pub targets_more : (x : Mode) (old new targets whole : List ℕ) → targets ≡ lone_move_target m T n x (f (g p)) → new ≡ old ++ targets
+      → old ++ lone_targets m T n x (map f (map g (drop i ps))) ≡ whole → new ++ lone_targets m T n x (map f (map g (drop (i + 1) ps))) ≡ whole
+  targets_more x old new targets whole e a w =
+      let rest = lone_targets m T n x (map f (map g (drop (i + 1) ps))) in
+      ap (λ l. l ++ rest) a ∙ append_assoc old targets rest ∙ ap (λ l. old ++ (l ++ rest)) e
+      ∙ ap (λ l. old ++ lone_targets m T n x (map f (map g l))) (sym (drop_next ps i p lt at)) ∙ w
+
+pub few_more : (old new : List ℕ) (o : Option ℕ) (i : ℕ) → new ≡ old ++ as_list o → length old ≤ i → length new ≤ i + 1
+few_more old new None i e h = omega (arith, ap length e, length-append old [], h)
+few_more old new (Some k) i e h = omega (arith, ap length e, length-append old (k ∷ []), h)

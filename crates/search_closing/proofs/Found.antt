@@ -1,10 +1,11 @@
 -- What is known at the nodes of a closed table.
 use Rattle.std.proofs.Common.{◌≡◌, ℕ, zero, suc, ◌<◌, refl, ap, sym, subst, ◌∙◌, arith, Bool, true, List, [], ◌∷◌, length, map, option_map, get_or, Option}
-use Rattle.std.proofs.Common.{None, Some}
+use Rattle.std.proofs.Common.{None, Some, ◌+◌, ◌++◌, drop, append_assoc}
 use Rattle.std.specs.Prelude.{slice_get}
 use Rattle.std.specs.List.{slice_index_or, list_all}
-use Rattle.std.proofs.lemmas.List.{length-map}
+use Rattle.std.proofs.lemmas.List.{length-map, map-append}
 use Rattle.std.proofs.lemmas.Option.{slice_get-map, slice_get_read, slice_get_within, slice_get-get_or}
+use Rattle.fs_model.proofs.Lists.{drop_next}
 use Rattle.fs_model.proofs.Booleans.{and_first, and_second}
 use Rattle.cert_bisimulation.specs.declared.mode.Mode.{Mode}
 use Rattle.search_tables.specs.Modes.{Traced, Found}
@@ -63,3 +64,12 @@ pub mode_place : (m : MachinePair) (T : Table) (xs : List Mode) (k : ℕ) (n : S
 mode_place m T xs k n x e g f =
     found_of (slice_get xs k) x
     (sym (slice_get-map found xs k) ∙ ap (λ l. slice_get l k) e ∙ slice_get-map (mode_at m) T k ∙ ap (option_map (mode_at m)) g ∙ ap Some f)
+
+-- one more mode, in front of those of the nodes that are left
+pub modes_more : (m : MachinePair) (ns : List TableNode) (old new : List Mode) (i : ℕ) (n : TableNode) (x : Mode) (whole : List (Traced Mode))
+    → i < length ns → n ≡ slice_index_or ns i n → mode_at m (table_node_in n) ≡ Found x → new ≡ old ++ x ∷ []
+    → map found old ++ map (mode_at m) (table_in (drop i ns)) ≡ whole → map found new ++ map (mode_at m) (table_in (drop (i + 1) ns)) ≡ whole
+modes_more m ns old new i n x whole h at e g w =
+    let rest = map (mode_at m) (table_in (drop (i + 1) ns)) in
+    ap (λ l. map found l ++ rest) g ∙ ap (λ l. l ++ rest) (map-append found old (x ∷ [])) ∙ append_assoc (map found old) (Found x ∷ []) rest
+    ∙ ap (λ y. map found old ++ y ∷ rest) (sym e) ∙ ap (λ l. map found old ++ map (mode_at m) (table_in l)) (sym (drop_next ns i n h at)) ∙ w

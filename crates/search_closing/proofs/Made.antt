@@ -2,6 +2,7 @@
 use Rattle.std.proofs.Common.{◌≡◌, ℕ, ap, sym, subst, ◌∙◌, List, [], ◌∷◌, length, map}
 use Rattle.std.specs.Prelude.{Result, Ok, Err, IfOk}
 use Rattle.std.specs.List.{AllByRecursion}
+use Rattle.fs_model.specs.Machines.{Fsmd}
 use Rattle.cert_bisimulation.specs.declared.mode.Mode.{Mode}
 use Rattle.cert_bisimulation.specs.Tables.{Node as CertificateNode}
 use Rattle.nf_trees.specs.declared.stop.NoMemory.{NoMemory}
@@ -13,6 +14,8 @@ use Rattle.search_tables.specs.Walks.{IsRanking}
 use Rattle.search_tables.specs.declared.ranking.Ranking.{Ranking}
 use Rattle.search_tables.specs.declared.ranking.Ranking.TheVariants as rankings
 use Rattle.search_tables.specs.SearchTables.{MachinePair, Table}
+use Rattle.search_tables.specs.declared.nodes.TableNode.{TableNode}
+use Rattle.search_tables.specs.View.{table_in}
 use Rattle.search_tables.specs.Next.{mode_at}
 use Rattle.search_tables.specs.LoneMoves.{lone_moves, Spins}
 use Rattle.search_tables.specs.Certifying.{node_without_mode, Certifies}
@@ -63,3 +66,17 @@ pub answered : (m : MachinePair) (T : Table) (modes : List Mode) (r : Ranking) (
     → E ≡ lone_moves m T → IsRanking E r → IfOk result (λ c. ClosesBy T modes r c) → IfOk result (GivesClosing m T)
 answered m T modes r E (Ok c) a e h b = gives m T modes r E c a e h b
 answered m T modes r E (Err z) a e h b = tt
+
+-- what holds of two machines and nodes holds of the machines that are read, and of the slice
+pub at_machines : (P : MachinePair → Table → Type 0) (m : MachinePair) (a b : Fsmd) (ns slice : List TableNode) → m.left ≡ a → m.right ≡ b → slice ≡ ns
+    → P (record { left = a; right = b }) (table_in ns) → P m (table_in slice)
+at_machines P m a b ns slice l r e h =
+    subst (λ xs. P m (table_in xs)) (sym e)
+    (subst (λ x. P (record { left = x; right = m.right }) (table_in ns)) (sym l)
+    (subst (λ y. P (record { left = a; right = y }) (table_in ns)) (sym r) h))
+
+pub of_machines : (m : MachinePair) (a b : Fsmd) (T : Table) (result : Result Closing NoMemory) → m.left ≡ a → m.right ≡ b
+    → IfOk result (GivesClosing m T) → IfOk result (GivesClosing (record { left = a; right = b }) T)
+of_machines m a b T result l r h =
+    subst (λ x. IfOk result (GivesClosing (record { left = x; right = b }) T)) l
+    (subst (λ y. IfOk result (GivesClosing (record { left = m.left; right = y }) T)) r h)

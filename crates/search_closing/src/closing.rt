@@ -61,12 +61,21 @@ fn lone_graph<'t>(
     lone_moves(alloc, &table)
 }
 
-// The ranks of a graph, or its cycle that begins at the least node on any. The one refusal is out of memory.
-fn rank(alloc: Global, edges: &[Vec<u32>]) -> Result<Ranking, NoMemory>
-    requires { InRange (lists_in edges.now) }
-    ensures { IfOk result (IsRanking (lists_in edges.now)) }
+// The ranks of the nodes of a closed table by the moves of one machine alone, or the cycle of such moves that begins at the
+// least node on any. The one refusal is out of memory.
+fn rank<'t>(
+    alloc: Global,
+    machines: &'t Covered<'t>,
+    nodes: &'t [TableNode],
+    modes: &'t [Mode],
+) -> Result<Ranking, NoMemory>
+    requires formed { IsWellFormed (covered_machines machines.now) (table_in nodes.now) }
+    requires closed { IsClosed (covered_machines machines.now) (table_in nodes.now) }
+    requires modes { AreModes (covered_machines machines.now) (table_in nodes.now) modes.now }
+    ensures { IfOk result (IsRanking (graph_of (covered_machines machines.now) (table_in nodes.now))) }
 {
-    match rank_all(alloc, edges) {
+    let edges = lone_graph(alloc, machines, nodes, modes)?;
+    match rank_all(alloc, edges.as_slice()) {
         Ok(ranking) => Ok(ranking),
         Err(_) => Err(NoMemory),
     }
@@ -114,7 +123,6 @@ pub fn close(
 {
     let machines = Covered::of(a, b, ca, cb);
     let modes = modes_of(alloc, &machines, nodes.as_slice())?;
-    let edges = lone_graph(alloc, &machines, nodes.as_slice(), modes.as_slice())?;
-    let ranking = rank(alloc, edges.as_slice())?;
+    let ranking = rank(alloc, &machines, nodes.as_slice(), modes.as_slice())?;
     close_by(alloc, nodes, modes.as_slice(), ranking)
 }

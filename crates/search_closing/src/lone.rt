@@ -96,7 +96,10 @@ fn is_refuted_alone(
         (λ post. Done (refuted post.conditions))) }
 {
     let post = arrive_alone(alloc, m, node, side, path)?;
-    Ok(is_refuted(alloc, post.conds.as_slice())?)
+    match is_refuted(alloc, post.conds.as_slice()) {
+        Ok(refuted) => Ok(refuted),
+        Err(_) => Err(NfStop::NoMemory),
+    }
 }
 
 // Where a path leads that a side takes alone, if it moves alone from there too. The one refusal is out of memory.
