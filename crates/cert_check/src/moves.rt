@@ -1,6 +1,6 @@
 //! The moves of a node.
 
-ghost use Rattle.std.specs.Prelude.{◌≡◌, ◌+◌, ◌*◌, ◌<◌, ◌≤◌, ◌^◌, length, map, option_map, IfOk, Some, None};
+ghost use Rattle.std.specs.Prelude.{◌≡◌, ◌+◌, ◌*◌, ◌<◌, ◌≤◌, ◌^◌, cond, length, map, option_map, IfOk, Some, None};
 ghost use Rattle.std.specs.List.{flat_map};
 ghost use Rattle.fs_model.specs.Limits.{most_branches};
 ghost use Rattle.fs_cut.specs.View.{point_of, path_of};
@@ -8,7 +8,8 @@ ghost use Rattle.nf_terms.specs.Computed.{Answers, Done, after};
 ghost use Rattle.sym_paths.specs.Execution.{end_of};
 ghost use Rattle.sym_paths.specs.View.{post_in};
 ghost use Rattle.sym_facts.specs.Entailment.{entails as entailed};
-ghost use Rattle.cert_model.specs.Obligations.{first_missing, rank_falls};
+ghost use Rattle.sym_facts.specs.Literals.{is_refuted as refuted};
+ghost use Rattle.cert_model.specs.Obligations.{first_missing};
 ghost use Rattle.cert_model.specs.View.{node_of};
 ghost use Rattle.cert_check.specs.Progress.{progress_from};
 ghost use Rattle.cert_check.specs.View.{progress_in, reached_in, move_in, NumberUpTo};
@@ -58,13 +59,6 @@ pub fn judge_target(
     ))
 }
 
-// Whether the rank falls from a node to a target, where it has to.
-fn falls_to(node: &Node, target: &Node) -> bool
-    ensures { result ≡ rank_falls (node_of node.now) (node_of target.now) }
-{
-    rank_falls(node.mode, node.rank, target.mode, target.rank)
-}
-
 // Where a side comes to, which keeps its point where it stays.
 fn end_of(point: Point, path: Option<&Path>) -> Point
     ensures { point_of result ≡ end_of (point_of point) (option_map (λ p. path_of p.now) path.entry) }
@@ -75,7 +69,7 @@ fn end_of(point: Point, path: Option<&Path>) -> Point
     }
 }
 
-// Why what arrives at two points fails: no node stands there, or it is not reached.
+// Why what arrives at two points fails: no node stands there, or it is not reached. What is refuted does not.
 fn judge_arrival(
     alloc: Global,
     table: &Table<'_>,
@@ -84,10 +78,18 @@ fn judge_arrival(
     left: Point,
     right: Point,
 ) -> Result<Option<Reason>, NfStop>
-    ensures { Answers result (reached_in table.now (node_of node.now) (post_in post.now) (point_of left) (point_of right)) }
+    ensures { Answers result
+        (cond (refuted (post_in post.now).conditions) (Done None)
+        (reached_in table.now (node_of node.now) (post_in post.now) (point_of left) (point_of right))) }
 {
+    if is_refuted(alloc, post.conds.as_slice())? {
+        return Ok(None);
+    }
     match node_at(&table.nodes, left, right) {
-        Some(target) => judge_target(alloc, post, target, falls_to(node, target)),
+        Some(target) => {
+            let falls = rank_falls(node.mode, node.rank, target.mode, target.rank);
+            judge_target(alloc, post, target, falls)
+        }
         None => Ok(Some(Reason::NoTarget)),
     }
 }
@@ -105,9 +107,6 @@ fn judge_move(
         (option_map (λ p. path_of p.now) right.entry)) }
 {
     let post = arrive(alloc, table.a, table.b, &node.fact, left, right)?;
-    if is_refuted(alloc, post.conds.as_slice())? {
-        return Ok(None);
-    }
     let (left, right) = (end_of(node.left, left), end_of(node.right, right));
     judge_arrival(alloc, table, node, &post, left, right)
 }

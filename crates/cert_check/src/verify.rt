@@ -10,7 +10,7 @@ ghost use Rattle.fs_pair.specs.Positions.{positions};
 ghost use Rattle.nf_terms.specs.Computed.{Answers};
 ghost use Rattle.sym_paths.specs.View.{post_in};
 ghost use Rattle.sym_facts.specs.Starts.{start_fact as started};
-ghost use Rattle.cert_bisimulation.specs.declared.mode.Mode.TheVariants.{Both, End};
+ghost use Rattle.cert_bisimulation.specs.declared.mode.Mode.TheVariants.{End};
 ghost use Rattle.cert_model.specs.Lawful.{IsLawful, most_nodes};
 ghost use Rattle.cert_model.specs.Obligations.{verdict as verdict_on, obligations, start_reaches, node_at as node_standing};
 ghost use Rattle.cert_model.specs.Obligations.{is_done, mode_fits, judge_mode};
@@ -56,9 +56,11 @@ fn judge_start(alloc: Global, table: &Table<'_>, p: &Pairing) -> Result<Option<R
     ensures { Answers result
         (start_reaches (node_standing (index_nodes table.now.nodes) Start Start) (start_post (started p.now))) }
 {
-    let post = post_of_start(alloc, p)?;
     match node_at(&table.nodes, Point::Start, Point::Start) {
-        Some(target) => judge_target(alloc, &post, target, true),
+        Some(target) => {
+            let post = post_of_start(alloc, p)?;
+            judge_target(alloc, &post, target, true)
+        }
         None => Ok(Some(Reason::NoStartNode)),
     }
 }
@@ -96,24 +98,6 @@ fn judge_mode(node: &Node) -> Result<Option<Reason>, NfStop>
     }
 }
 
-// The moves of a node where both machines move.
-fn check_both(
-    alloc: Global,
-    table: &Table<'_>,
-    node: &Node,
-    first: u32,
-) -> Result<Progress, NoMemory>
-    requires left { is_point table.now.a.now (point_of node.now.left) ≡ true }
-    requires right { is_point table.now.b.now (point_of node.now.right) ≡ true }
-    requires low { first < 2 ^ 30 }
-    ensures moves { IfOk result (λ p. progress_in p ≡ progress_from first (owed_moves Both table.now (node_of node.now))) }
-    ensures bound { IfOk result (NumberUpTo (first + most_node_moves)) }
-{
-    let lefts = paths(table.a, &table.left, node.left);
-    let rights = paths(table.b, &table.right, node.right);
-    both_moves(alloc, table, node, lefts, rights, first)
-}
-
 // The outputs of a node where both machines are done.
 fn check_outputs(
     alloc: Global,
@@ -143,16 +127,12 @@ fn check_moves(
         (λ p. progress_in p ≡ progress_from first (owed_moves node.now.mode table.now (node_of node.now))) }
     ensures bound { IfOk result (NumberUpTo (first + most_node_moves)) }
 {
+    let lefts = paths(table.a, &table.left, node.left);
+    let rights = paths(table.b, &table.right, node.right);
     match node.mode {
-        Mode::Both => check_both(alloc, table, node, first),
-        Mode::Left => {
-            let lefts = paths(table.a, &table.left, node.left);
-            left_moves(alloc, table, node, lefts, first)
-        }
-        Mode::Right => {
-            let rights = paths(table.b, &table.right, node.right);
-            right_moves(alloc, table, node, None, rights, first)
-        }
+        Mode::Both => both_moves(alloc, table, node, lefts, rights, first),
+        Mode::Left => left_moves(alloc, table, node, lefts, first),
+        Mode::Right => right_moves(alloc, table, node, None, rights, first),
         Mode::End => check_outputs(alloc, table, node, first),
     }
 }
