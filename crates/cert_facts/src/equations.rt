@@ -4,17 +4,16 @@ ghost use Rattle.std.specs.Prelude.{◌≡◌, ◌<◌, [], Ok, Some, length, ma
 ghost use Rattle.std.specs.List.{list_all, AllByRecursion};
 ghost use Rattle.cert_values.specs.JsonTexts.{named_texts_of};
 ghost use Rattle.cert_values.specs.View.{items_view, members_view};
-ghost use Rattle.nf_terms.specs.Forms.{sort_of_form};
 ghost use Rattle.nf_rel.specs.View.{literal_in};
 ghost use Rattle.sym_facts.specs.Facts.{may_be_kept};
 ghost use Rattle.cert_facts.specs.JsonParts.{texts_of};
-ghost use Rattle.cert_terms.specs.CertificateNames.{name_place, place_by_key, sort_at as sort_of_place};
+ghost use Rattle.cert_terms.specs.CertificateNames.{name_place, place_by_key};
 ghost use Rattle.cert_terms.specs.View.{place_in_tables, find_of};
 ghost use Rattle.cert_terms.specs.Repeats.{AreLast};
-ghost use Rattle.cert_terms.specs.Within.{FormWithin, LiteralWithin};
+ghost use Rattle.cert_terms.specs.Within.{LiteralWithin};
 ghost use Rattle.cert_facts.specs.PartAnswers.{Tells};
 ghost use Rattle.cert_facts.specs.FactReading.{known_place as known, unwritten_equation as unwritten_at, unwritten_of};
-ghost use Rattle.cert_facts.specs.FactReading.{equation_read, equation_put, equations_read, conditions_read};
+ghost use Rattle.cert_facts.specs.FactReading.{equation_put, equations_read, conditions_read};
 ghost use Rattle.cert_facts.specs.View.{terms_in};
 ghost use Rattle.cert_facts.specs.Within.{AreEquationsOf};
 
@@ -77,29 +76,8 @@ fn known_place(places: &Places<'_>, node: u32, key: &[u8]) -> Result<u32, Stop>
     }
 }
 
-// An equation of a node: its place and its term.
-fn read_equation(
-    alloc: Global,
-    places: &Places<'_>,
-    node: u32,
-    key: &[u8],
-    text: &str,
-    last: &mut Vec<Option<ReadText>>,
-) -> Result<(u32, SharedForm), Stop>
-    requires { AreLast places.now last.old.items }
-    ensures told { Tells (λ x. x) result (equation_read (terms_in places.now) node (key.now, text.now)) }
-    ensures in_range { IfOk result (λ x. x.0 < length places.now.positions.now) }
-    ensures sort { IfOk result (λ x. sort_of_form x.1 ≡ sort_of_place places.now.positions.now x.0) }
-    ensures within { IfOk result (λ x. FormWithin (find_of places.now) x.1) }
-    ensures last { OnOk result (AreLast places.now last.new.items) }
-{
-    let place = known_place(places, node, key)?;
-    let form = read_form(alloc, places, node, place, text, last)?;
-    Ok((place, form))
-}
-
 // Puts an equation of a node at its place.
-#[tactic(auto, using(crate::proofs::Facts::counted, crate::proofs::Facts::put_in))]
+#[tactic(auto, using(crate::proofs::Facts::counted))]
 fn put_equation(
     alloc: Global,
     places: &Places<'_>,
@@ -116,7 +94,8 @@ fn put_equation(
     ensures kept { OnOk result (AreEquationsOf places.now.positions.now forms.new.items) }
     ensures last { OnOk result (AreLast places.now last.new.items) }
 {
-    let (place, form) = read_equation(alloc, places, node, key, text, last)?;
+    let place = known_place(places, node, key)?;
+    let form = read_form(alloc, places, node, place, text, last)?;
     forms[place as usize] = Some(form);
     Ok(())
 }
