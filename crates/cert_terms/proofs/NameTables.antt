@@ -9,6 +9,7 @@ use Rattle.std.proofs.lemmas.Cmp.{nat_list_eq_equiv}
 use Rattle.std.proofs.lemmas.List.{map_push, length-map}
 use Rattle.std.proofs.Math.Seq.{take-suc}
 use Rattle.indexmap.specs.IndexMap.{insert_entry}
+use Rattle.fs_model.proofs.Lists.{map_grown}
 use Rattle.fs_model.specs.Limits.{most_states}
 use Rattle.fs_model.specs.Machines.{State, Fsmd}
 use Rattle.fs_ast.specs.SoundParts.{IsSound}
@@ -65,6 +66,13 @@ module _ {K : Type 0} (seen : K → List ℕ) where
 -- one name more of a list
 taken : {X Y : Type 0} (f : X → Y) (xs : List X) (k : ℕ) (d : X) → k < length xs → map f (take (suc k) xs) ≡ map f (take k xs) ++ f (get_or xs k d) ∷ []
 taken f xs k d h = ap (map f) (take-suc xs k d h) ∙ map_push f (take k xs) (get_or xs k d)
+
+pub one_taken : {K X : Type 0} (seen : K → List ℕ) (f : X → List ℕ) (old new : List K) (name : K) (xs : List X) (k : ℕ) (d : X) → k < length xs
+    → map seen old ≡ map f (take k xs) → new ≡ old ++ name ∷ [] → seen name ≡ f (get_or xs k d) → map seen new ≡ map f (take (k + 1) xs)
+one_taken seen f old new name xs k d low h n e =
+    let one : suc k ≡ k + 1 = omega arith in
+    map_grown seen old new name (f (get_or xs k d)) n e ∙ ap (λ l. l ++ f (get_or xs k d) ∷ []) h
+    ∙ sym (taken f xs k d low) ∙ ap (λ j. map f (take j xs)) one
 
 length_taken : {X Y : Type 0} (f : X → Y) (xs : List X) (k : ℕ) → k ≤ length xs → length (map f (take k xs)) ≡ k
 length_taken f xs zero h = refl

@@ -1,5 +1,5 @@
 -- Texts that were read last, where one more is read.
-use Rattle.std.proofs.Common.{◌≡◌, ℕ, zero, suc, true, sym, subst, ◌∙◌, List, [], ◌∷◌, length, Option, Some, None, Ok}
+use Rattle.std.proofs.Common.{◌≡◌, ℕ, zero, suc, true, ap, sym, subst, ◌∙◌, List, [], ◌∷◌, length, Option, Some, None, Ok}
 use Rattle.std.specs.Prelude.{◌++◌, set, string_bytes}
 use Rattle.std.specs.Str.{bytes_eq}
 use Rattle.std.specs.Cmp.Lexicographic.{same_text}
@@ -26,12 +26,12 @@ put_one P (x ∷ xs) (suc k) r h p zero s e = h zero s e
 put_one P (x ∷ xs) (suc k) r h p (suc j) s e = put_one (λ i. P (suc i)) xs k r (λ i t f. h (suc i) t f) p j s e
 
 -- what a text is read as
-pub read_as : (t : Places) (k : ℕ) (s : Sort) (text : List ℕ) (f : Nf) → s ≡ sort_at t.positions.now k
-    → (meanings_by (find_of t)).term s text ≡ Ok f → sort_of_form f ≡ s → FormWithin (find_of t) f → IsReadAs t k text f
-read_as t k s text f is told sort within = record {
-  told = subst (λ q. (meanings_by (find_of t)).term q text ≡ Ok f) is told;
-  sort = sort ∙ is;
-  within = within;
+pub read_as : (t : Places) (k : ℕ) (s : Sort) (bytes text : List ℕ) (made f : Nf) → s ≡ sort_at t.positions.now k → bytes ≡ text
+    → (meanings_by (find_of t)).term s bytes ≡ Ok made → sort_of_form made ≡ s → FormWithin (find_of t) made → f ≡ made → IsReadAs t k text f
+read_as t k s bytes text made f is same told sort within shared = record {
+  told = (λ j. (meanings_by (find_of t)).term (sym is j) (sym same j)) ∙ told ∙ ap Ok (sym shared);
+  sort = ap sort_of_form shared ∙ sort ∙ is;
+  within = subst (FormWithin (find_of t)) (sym shared) within;
 }
 
 -- a text that is read now is the last one at its place

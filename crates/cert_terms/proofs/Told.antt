@@ -16,7 +16,6 @@ use Rattle.cert_terms.specs.TextMeanings.{Refuses}
 use Rattle.cert_terms.specs.TextFunctions.{meanings_by}
 use Rattle.cert_terms.specs.TextAnswers.{TellsText}
 use Rattle.cert_terms.proofs.Readings.{texts_are_read}
-use Rattle.cert_terms.proofs.Symbols.{polynomial_within, array_within, list_within, literal_is_within, literal_kept}
 
 pub refused : {X Y : Type 0} (view : X → Y) (e : TermError) (y : Result Y TermError) → Refuses e y → TellsText view (Err e) y
 refused view BadTerm y h = h
@@ -55,13 +54,3 @@ pub condition_tells : {X : Type 0} (view : X → NormalLiteral) (find : Find) (b
     → TellsText view result ((meanings_by find).condition bytes)
 condition_tells view find bytes (Ok l) h g = condition_told find bytes (view l) h
 condition_tells view find bytes (Err e) h g = condition_refused view find bytes e g
-
--- ---- the lemmas for the text of each sort, by one name
-
-pub ruleset number_texts = (number_told, term_refused, polynomial_within)
-
-pub ruleset array_texts = (array_told, term_refused, array_within)
-
-pub ruleset list_texts = (list_told, term_refused, list_within)
-
-pub ruleset condition_texts = (condition_told, condition_refused, literal_is_within, literal_kept)

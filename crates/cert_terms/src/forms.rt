@@ -19,7 +19,6 @@ use term_values::names::Names;
 use term_values::reader::{read_arr, read_poly, read_seq};
 
 // The polynomial of a text as a form.
-#[tactic(auto, using(crate::proofs::Told::number_texts))]
 fn read_number<N: Names>(alloc: Global, names: &N, text: &[u8]) -> Result<Nf, TermError>
     ensures told { TellsText (λ f. f) result ((meanings_by (N.find names.now)).term sorts.Scalar text.now) }
     ensures sort { IfOk result (λ f. sort_of_form f ≡ sorts.Scalar) }
@@ -29,7 +28,6 @@ fn read_number<N: Names>(alloc: Global, names: &N, text: &[u8]) -> Result<Nf, Te
 }
 
 // The array of a text as a form.
-#[tactic(auto, using(crate::proofs::Told::array_texts))]
 fn read_array<N: Names>(alloc: Global, names: &N, text: &[u8]) -> Result<Nf, TermError>
     ensures told { TellsText (λ f. f) result ((meanings_by (N.find names.now)).term sorts.Array text.now) }
     ensures sort { IfOk result (λ f. sort_of_form f ≡ sorts.Array) }
@@ -39,7 +37,6 @@ fn read_array<N: Names>(alloc: Global, names: &N, text: &[u8]) -> Result<Nf, Ter
 }
 
 // The list of a text as a form.
-#[tactic(auto, using(crate::proofs::Told::list_texts))]
 fn read_list<N: Names>(alloc: Global, names: &N, text: &[u8]) -> Result<Nf, TermError>
     ensures told { TellsText (λ f. f) result ((meanings_by (N.find names.now)).term sorts.List text.now) }
     ensures sort { IfOk result (λ f. sort_of_form f ≡ sorts.List) }
@@ -62,7 +59,6 @@ pub fn term_of<N: Names>(alloc: Global, names: &N, sort: Sort, text: &[u8]) -> R
 }
 
 /// The literal that a text stands for, or why it is refused.
-#[tactic(auto, using(crate::proofs::Told::condition_texts))]
 pub fn condition_of<N: Names>(alloc: Global, names: &N, text: &[u8]) -> Result<NLit, TermError>
     ensures told { TellsText literal_in result ((meanings_by (N.find names.now)).condition text.now) }
     ensures kept { IfOk result (λ l. may_be_kept (literal_in l) ≡ true) }

@@ -1,6 +1,7 @@
 //! What the names of a certificate stand for.
 
-ghost use Rattle.std.specs.Prelude.{◌≡◌, ◌<◌, ◌≤◌, length, map, IfOk, IfSome};
+ghost use Rattle.std.specs.Prelude.{◌≡◌, ◌<◌, ◌≤◌, cond, [], length, map, IfOk, IfSome};
+ghost use Rattle.fs_model.specs.Sides.{same_side};
 ghost use Rattle.fs_model.specs.Limits.{most_states};
 ghost use Rattle.fs_pair.specs.Partners.{variables_on as variables_of, position_name};
 ghost use Rattle.sym_facts.specs.Facts.{sort_of_terms as sort_for_terms};
@@ -117,6 +118,17 @@ fn name_at<'a>(a: &'a Machine, b: &'a Machine, pos: Pos) -> &'a [u8]
     }
 }
 
+// The name of a position, empty where it is not on a side.
+fn name_on<'a>(a: &'a Machine, b: &'a Machine, side: Side, pos: Pos) -> &'a [u8]
+    ensures { result.now ≡ cond (same_side pos.side side) (position_name a.now b.now pos) [] }
+{
+    if pos.side == side {
+        name_at(a, b, pos)
+    } else {
+        b""
+    }
+}
+
 /// The names of one side along the positions, empty at those of the other side. The one refusal is out of memory.
 pub fn names_on<'a>(
     alloc: Global,
@@ -129,12 +141,7 @@ pub fn names_on<'a>(
 {
     let mut out = Vec::new(alloc);
     for position in positions {
-        let name = if position.pos.side == side {
-            name_at(a, b, position.pos)
-        } else {
-            b""
-        };
-        out.push(name)?;
+        out.push(name_on(a, b, side, position.pos))?;
     }
     Ok(out)
 }

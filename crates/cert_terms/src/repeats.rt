@@ -26,7 +26,7 @@ pub struct ReadText {
 }
 
 /// No text at any place. The one refusal is out of memory.
-#[tactic(auto, using(crate::proofs::Repeated::one_more, crate::proofs::Repeated::none_read))]
+#[tactic(auto, using(crate::proofs::Repeated::none_read))]
 pub fn none_read(alloc: Global, places: &Places<'_>) -> Result<Vec<Option<ReadText>>, NoMemory>
     ensures { IfOk result (λ last. AreLast places.now last.items) }
 {
@@ -57,23 +57,21 @@ fn sort_at(positions: &[Position], place: u32) -> TermSort
     }
 }
 
-// The form of a text at a place, where that text was read last there. The one refusal is out of memory.
-fn find_repeated(
+// The form of a text at a place, where that text was read last there.
+fn find_repeated<'r>(
     places: &Places<'_>,
     place: u32,
     text: &str,
-    last: &[Option<ReadText>],
-) -> Result<Option<SharedForm>, NoMemory>
+    last: &'r [Option<ReadText>],
+) -> Option<&'r SharedForm>
     requires { AreLast places.now last.now }
-    ensures { IfOk result (λ o. IfSome o (IsReadAs places.now place text.now)) }
+    ensures { IfSome result (λ f. IsReadAs places.now place text.now f.now) }
 {
-    match last_at(last, place) {
-        Some(read) => if read.text.as_str() == text {
-            Ok(Some(read.form.try_clone()?))
-        } else {
-            Ok(None)
-        },
-        None => Ok(None),
+    let read = last_at(last, place)?;
+    if read.text.as_str() == text {
+        Some(&read.form)
+    } else {
+        None
     }
 }
 
@@ -100,7 +98,6 @@ fn keep(
 }
 
 // The form of a text at a place at which another one was read last, or why the text is refused.
-#[tactic(auto, using(crate::proofs::Repeated::read_as))]
 fn read_new(
     alloc: Global,
     places: &Places<'_>,
@@ -138,8 +135,8 @@ pub fn read_at(
     ensures within { IfOk result (FormWithin (find_of places.now)) }
     ensures last { OnOk result (AreLast places.now last.new.items) }
 {
-    match find_repeated(places, place, text, last.as_slice())? {
-        Some(form) => Ok(form),
+    match find_repeated(places, place, text, last.as_slice()) {
+        Some(form) => Ok(form.try_clone()?),
         None => read_new(alloc, places, place, text, last),
     }
 }

@@ -11,7 +11,7 @@ use std::alloc::Global;
 use std::hash::{Hash, Hasher};
 
 /// A name as a key. Its bytes are hashed as a whole, and not one by one as those of a slice are.
-#[derive(Clone, Copy, Drop)]
+#[derive(Drop)]
 pub struct NameKey<'a> {
     pub bytes: &'a [u8],
 }
