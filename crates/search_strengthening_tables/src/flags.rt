@@ -15,48 +15,31 @@ pub struct Flags {
     pub mode: Option<Mode>,
 }
 
-// The place of what is kept of two points.
-fn find(all: &[Flags], left: Point, right: Point) -> Option<usize> {
-    for (place, flags) in all.iter().enumerate() {
-        if flags.left.is_same(left) && flags.right.is_same(right) {
-            return Some(place);
-        }
-    }
-    None
-}
-
 /// What is kept of two points.
 pub fn flags_at(all: &[Flags], left: Point, right: Point) -> Flags {
-    let nothing = Flags {
+    for flags in all {
+        if flags.left.is_same(left) && flags.right.is_same(right) {
+            return *flags;
+        }
+    }
+    Flags {
         left,
         right,
         many_left: false,
         many_right: false,
         mode: None,
-    };
-    match find(all, left, right) {
-        Some(place) => match all.get(place) {
-            Some(flags) => *flags,
-            None => nothing,
-        },
-        None => nothing,
     }
 }
 
 /// Keeps this of two points. The one refusal is out of memory.
 pub fn keep(all: &mut Vec<Flags>, flags: Flags) -> Result<(), NoMemory> {
-    match find(all.as_slice(), flags.left, flags.right) {
-        Some(place) => {
-            if let Some(old) = all.get_mut(place) {
-                *old = flags;
-            }
-            Ok(())
-        }
-        None => {
-            all.push(flags)?;
-            Ok(())
+    for old in all.iter_mut() {
+        if old.left.is_same(flags.left) && old.right.is_same(flags.right) {
+            *old = flags;
+            return Ok(());
         }
     }
+    Ok(all.push(flags)?)
 }
 
 /// Forgets all modes.

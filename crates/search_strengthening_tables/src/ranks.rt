@@ -17,14 +17,14 @@ fn is_alone(mode: Option<Mode>) -> bool {
     matches!(mode, Some(Mode::Left | Mode::Right))
 }
 
-// The place of the node that a move reaches, where it has the mode of this node.
+// The place of the node that a move reaches, where it has the mode of this node and one machine moves alone in that.
 fn lone_target(nodes: &[SearchNode], node: &SearchNode, settled: Settled) -> Option<u32> {
     let Settled::Held { version } = settled else {
         return None;
     };
     let place = find_version(nodes, version)?;
     let target = nodes.get(place)?;
-    if target.mode == node.mode {
+    if is_alone(node.mode) && target.mode == node.mode {
         u32::try_from(place).ok()
     } else {
         None
@@ -38,9 +38,6 @@ fn lone_targets(
     node: &SearchNode,
 ) -> Result<Vec<u32>, NoMemory> {
     let mut out = Vec::new(alloc);
-    if !is_alone(node.mode) {
-        return Ok(out);
-    }
     for tried in &node.moves {
         if let Some(target) = lone_target(nodes, node, tried.settled) {
             out.push(target)?;

@@ -36,22 +36,6 @@ fn with_cover<'a>(alloc: Global, machine: &'a Machine) -> Result<Covered<'a>, St
     })
 }
 
-// Two machines of which both are covered.
-fn with_universe<'a>(
-    alloc: Global,
-    left: Covered<'a>,
-    right: Covered<'a>,
-    pairing: &'a Pairing,
-) -> Result<Sides<'a>, Stop> {
-    let universe = universe_of(alloc, left.machine, right.machine, pairing)?;
-    Ok(Sides {
-        left,
-        right,
-        pairing,
-        universe,
-    })
-}
-
 /// Two machines as a search sees them. `Bound` comes where one has more than 128 points.
 pub fn sides_of<'a>(
     alloc: Global,
@@ -61,5 +45,11 @@ pub fn sides_of<'a>(
 ) -> Result<Sides<'a>, Stop> {
     let left = with_cover(alloc, a)?;
     let right = with_cover(alloc, b)?;
-    with_universe(alloc, left, right, pairing)
+    let universe = universe_of(alloc, a, b, pairing)?;
+    Ok(Sides {
+        left,
+        right,
+        pairing,
+        universe,
+    })
 }

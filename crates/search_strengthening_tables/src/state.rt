@@ -42,21 +42,34 @@ fn no_claims(alloc: Global) -> Claims {
     }
 }
 
+// A node whose mode is not known.
+fn new_node(
+    alloc: Global,
+    version: u64,
+    points: (Point, Point),
+    numbers: (usize, usize),
+    claims: Claims,
+    fact: Fact,
+) -> SearchNode {
+    let units = fact.size();
+    SearchNode {
+        left: points.0,
+        right: points.1,
+        numbers,
+        claims,
+        fact,
+        units,
+        version,
+        mode: None,
+        moves: Vec::new(alloc),
+    }
+}
+
 // The start node, which is no target of a move and so is never weakened.
 fn start_node(alloc: Global, p: &Pairing) -> Result<SearchNode, NoMemory> {
     let fact = start_fact(alloc, p)?;
-    let units = fact.size();
-    Ok(SearchNode {
-        left: Point::Start,
-        right: Point::Start,
-        numbers: (0, 0),
-        claims: no_claims(alloc),
-        fact,
-        units,
-        version: 0,
-        mode: None,
-        moves: Vec::new(alloc),
-    })
+    let points = (Point::Start, Point::Start);
+    Ok(new_node(alloc, 0, points, (0, 0), no_claims(alloc), fact))
 }
 
 /// The start node alone. The one refusal is out of memory.
@@ -73,72 +86,46 @@ pub fn begin(alloc: Global, p: &Pairing) -> Result<State, NoMemory> {
     })
 }
 
+// Forgets the mode and the moves of the node at a place, and deletes all nodes behind it.
+fn cut_behind(nodes: &mut Vec<SearchNode>, place: usize) {
+    nodes.truncate(place.saturating_add(1));
+    if let Some(node) = nodes.get_mut(place) {
+        node.mode = None;
+        node.moves.clear();
+    }
+}
+
 /// Clears the table: the start node is left, and what is kept of pairs of points but their modes. `Bound` comes at the 65th time.
 pub fn clear(state: &mut State) -> Result<(), Stop> {
     if state.clearings >= CLEARING_LIMIT {
         return Err(Stop::Bound);
     }
     state.clearings += 1;
-    state.nodes.truncate(1);
-    if let Some(start) = state.nodes.first_mut() {
-        start.mode = None;
-        start.moves.clear();
-    }
+    cut_behind(&mut state.nodes, 0);
     forget_modes(&mut state.flags);
     Ok(())
 }
 
-// Counts a change, and gives the version of its fact. `Bound` comes at the 257th.
-fn count_change(state: &mut State) -> Result<u64, Stop> {
-    if state.changes >= CHANGE_LIMIT {
+// The version of the next fact.
+fn next_version(state: &State) -> u64 {
+    state.version.wrapping_add(1)
+}
+
+// Counts a change. `Bound` comes at the 257th, or where the table has too many units.
+fn count_change(state: &mut State) -> Result<(), Stop> {
+    if state.changes >= CHANGE_LIMIT || units_of(state.nodes.as_slice()) > UNIT_LIMIT {
         return Err(Stop::Bound);
     }
     state.changes += 1;
-    state.version = state.version.wrapping_add(1);
-    Ok(state.version)
-}
-
-// Refuses a table of too many units.
-fn check_units(state: &State) -> Result<(), Stop> {
-    if units_of(state.nodes.as_slice()) > UNIT_LIMIT {
-        return Err(Stop::Bound);
-    }
+    state.version = next_version(state);
     Ok(())
 }
 
-// A node whose mode is not known.
-fn new_node(
-    alloc: Global,
-    sides: &Sides<'_>,
-    version: u64,
-    left: Point,
-    right: Point,
-    claims: Claims,
-    fact: Fact,
-) -> SearchNode {
-    let numbers = (
-        sides.left.order.number(left),
-        sides.right.order.number(right),
-    );
-    let units = fact.size();
-    SearchNode {
-        left,
-        right,
-        numbers,
-        claims,
-        fact,
-        units,
-        version,
-        mode: None,
-        moves: Vec::new(alloc),
-    }
-}
-
-// Puts a node in its place, and answers that. `Bound` comes where the table has too many units.
+// Puts a node in its place, and answers that. `Bound` comes where too much was changed, or the table has too many units.
 fn insert(state: &mut State, node: SearchNode) -> Result<usize, Stop> {
     let place = place_for(state.nodes.as_slice(), node.numbers);
     state.nodes.insert(place, node)?;
-    check_units(state)?;
+    count_change(state)?;
     Ok(place)
 }
 
@@ -152,22 +139,24 @@ pub fn add(
     claims: Claims,
     fact: Fact,
 ) -> Result<usize, Stop> {
-    let version = count_change(state)?;
-    let node = new_node(alloc, sides, version, left, right, claims, fact);
+    let numbers = (
+        sides.left.order.number(left),
+        sides.right.order.number(right),
+    );
+    let version = next_version(state);
+    let node = new_node(alloc, version, (left, right), numbers, claims, fact);
     insert(state, node)
 }
 
 /// Gives the node at a place another fact, forgets its mode and its moves, and deletes all nodes behind it. `Bound` comes where
 /// too much was changed, or the table has too many units.
 pub fn change_fact(state: &mut State, place: usize, fact: Fact) -> Result<(), Stop> {
-    let version = count_change(state)?;
+    let version = next_version(state);
+    cut_behind(&mut state.nodes, place);
     if let Some(node) = state.nodes.get_mut(place) {
         node.units = fact.size();
         node.fact = fact;
         node.version = version;
-        node.mode = None;
-        node.moves.clear();
     }
-    state.nodes.truncate(place.saturating_add(1));
-    check_units(state)
+    count_change(state)
 }
