@@ -8,7 +8,7 @@ use propagate::rebases::rebase;
 use search_strengthening_terms::stop::unless_stopped;
 use search_strengthening_terms::universe::Universe;
 use std::alloc::Global;
-use sym_facts::fact::{Fact, FactPosition, copied_literals};
+use sym_facts::fact::{FactPosition, copied_literals};
 use sym_paths::execution::Post;
 
 /// What has held at every arrival at a pair of points: terms have been equal, and literals have been true. The terms are those
@@ -23,11 +23,9 @@ pub struct Claims {
 
 /// The form of a term of claims.
 pub fn form_at<'t>(universe: &'t Universe, claims: &'t Claims, place: usize) -> Option<&'t Nf> {
-    let count = universe.terms.len();
-    if place < count {
-        Some(&universe.terms.get(place)?.form)
-    } else {
-        claims.extras.get(place - count)
+    match universe.terms.get(place) {
+        Some(term) => Some(&term.form),
+        None => claims.extras.get(place - universe.terms.len()),
     }
 }
 
@@ -39,66 +37,40 @@ pub fn class_at(claims: &Claims, place: usize) -> Option<usize> {
     }
 }
 
-// One class of all terms.
-fn one_class(alloc: Global, count: usize) -> Result<Vec<Option<usize>>, NoMemory> {
+// Copies of the equations of positions.
+fn copied_equations(alloc: Global, positions: &[FactPosition]) -> Result<Vec<Nf>, NoMemory> {
     let mut out = Vec::new(alloc);
-    for _ in 0..count {
-        out.push(Some(0))?;
+    for position in positions {
+        if let Some(form) = position.form() {
+            out.push(form.try_clone(alloc)?)?;
+        }
     }
     Ok(out)
 }
 
-// The claims that all terms of the universe are equal and all its literals true.
-fn bare_claims(alloc: Global, universe: &Universe) -> Result<Claims, NoMemory> {
-    let classes = one_class(alloc, universe.terms.len())?;
-    let literals = copied_literals(alloc, universe.literals.as_slice())?;
+// Copies of literals, and then of others.
+fn copied_both(alloc: Global, literals: &[NLit], others: &[NLit]) -> Result<Vec<NLit>, NoMemory> {
+    let mut out = copied_literals(alloc, literals)?;
+    out.append(&mut copied_literals(alloc, others)?)?;
+    Ok(out)
+}
+
+// The claims that all terms of the universe and the equations of positions are equal, and that all its literals and others are
+// true.
+fn claims_with(
+    alloc: Global,
+    universe: &Universe,
+    positions: &[FactPosition],
+    others: &[NLit],
+) -> Result<Claims, NoMemory> {
+    let extras = copied_equations(alloc, positions)?;
+    let classes = vec![in alloc; Some(0); universe.terms.len() + extras.len()]?;
+    let literals = copied_both(alloc, universe.literals.as_slice(), others)?;
     Ok(Claims {
-        extras: Vec::new(alloc),
+        extras,
         classes,
         literals,
     })
-}
-
-// Claims that a form is equal to all terms.
-fn add_form(alloc: Global, claims: &mut Claims, form: &Nf) -> Result<(), NoMemory> {
-    claims.extras.push(form.try_clone(alloc)?)?;
-    claims.classes.push(Some(0))?;
-    Ok(())
-}
-
-// Claims that the equations of positions are equal to all terms.
-fn add_equations(
-    alloc: Global,
-    claims: &mut Claims,
-    positions: &[FactPosition],
-) -> Result<(), NoMemory> {
-    for position in positions {
-        if let Some(form) = position.form() {
-            add_form(alloc, claims, form)?;
-        }
-    }
-    Ok(())
-}
-
-// Claims that literals are true.
-fn add_literals(alloc: Global, claims: &mut Claims, literals: &[NLit]) -> Result<(), NoMemory> {
-    claims
-        .literals
-        .append(&mut copied_literals(alloc, literals)?)?;
-    Ok(())
-}
-
-// Claims that the equations of a fact are equal to all terms, and its literals true.
-fn add_fact(alloc: Global, claims: &mut Claims, fact: &Fact) -> Result<(), NoMemory> {
-    add_equations(alloc, claims, fact.positions())?;
-    add_literals(alloc, claims, fact.conds())
-}
-
-// The claims that all terms are equal and all literals true, those of a fact among them.
-fn all_claims(alloc: Global, universe: &Universe, fact: &Fact) -> Result<Claims, NoMemory> {
-    let mut claims = bare_claims(alloc, universe)?;
-    add_fact(alloc, &mut claims, fact)?;
-    Ok(claims)
 }
 
 /// What is claimed before the first arrival: that all terms are equal and all literals true. The extras are the equations of
@@ -110,7 +82,7 @@ pub fn claims_before(
     p: &Pairing,
 ) -> Result<Claims, NoMemory> {
     match unless_stopped(rebase(alloc, post, p))? {
-        Some(fact) => all_claims(alloc, universe, &fact),
-        None => bare_claims(alloc, universe),
+        Some(fact) => claims_with(alloc, universe, fact.positions(), fact.conds()),
+        None => claims_with(alloc, universe, &[], &[]),
     }
 }

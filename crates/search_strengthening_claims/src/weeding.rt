@@ -4,7 +4,6 @@ use crate::claims::{Claims, form_at};
 use nf_rel::clashes::implied;
 use nf_rel::literals::NLit;
 use nf_terms::form::Nf;
-use nf_terms::stop::NoMemory;
 use propagate::subst::Subst;
 use search_strengthening_terms::stop::{Stop, unless_stopped};
 use search_strengthening_terms::universe::Universe;
@@ -13,12 +12,13 @@ use std::alloc::Global;
 use sym_facts::entailment::{substitute, substitute_literal};
 use sym_paths::execution::Post;
 
-// The first term of a class, with its value and the class that it had.
+// The first term of a class, with its value and the class that it had, and whether the class has a second term.
 #[derive(Drop)]
 struct First {
     old: usize,
     place: usize,
     value: Nf,
+    is_shared: bool,
 }
 
 // Takes the work of a value off.
@@ -38,14 +38,14 @@ pub fn value_of(
 ) -> Result<Option<Nf>, Stop> {
     work.spend(form.size())?;
     let value = unless_stopped(substitute(alloc, s, form))?;
-    spend_on_value(work, &value)?;
-    Ok(value)
+    spend_on_value(work, &value).and(Ok(value))
 }
 
-// The place of the first term that had this class and has this value.
-fn find_first(firsts: &[First], old: usize, value: &Nf) -> Option<usize> {
-    for first in firsts {
+// The first term that had this class and has this value, which then shares its class.
+fn share_first(firsts: &mut [First], old: usize, value: &Nf) -> Option<usize> {
+    for first in firsts.iter_mut() {
         if first.old == old && first.value.is_same(value) {
+            first.is_shared = true;
             return Some(first.place);
         }
     }
@@ -58,12 +58,17 @@ fn class_with(
     old: usize,
     place: usize,
     value: Nf,
-) -> Result<usize, NoMemory> {
-    if let Some(first) = find_first(firsts.as_slice(), old, &value) {
-        return Ok(first);
+) -> Result<Option<usize>, Stop> {
+    if let Some(first) = share_first(firsts, old, &value) {
+        return Ok(Some(first));
     }
-    firsts.push(First { old, place, value })?;
-    Ok(place)
+    firsts.push(First {
+        old,
+        place,
+        value,
+        is_shared: false,
+    })?;
+    Ok(Some(place))
 }
 
 // The class of a term after an arrival; none where its value meets a limit.
@@ -80,7 +85,7 @@ fn class_after(
         return Ok(None);
     };
     match value_of(alloc, work, s, form)? {
-        Some(value) => Ok(Some(class_with(firsts, old, place, value)?)),
+        Some(value) => class_with(firsts, old, place, value),
         None => Ok(None),
     }
 }
@@ -103,53 +108,31 @@ fn push_classes(
     Ok(())
 }
 
-// The classes, split by the values of their terms.
-fn split_classes(
+// Puts terms out that are alone in their classes and no positions.
+fn put_out_lone(firsts: &[First], classes: &mut [Option<usize>], positions: usize) {
+    for first in firsts {
+        if positions <= first.place && !first.is_shared {
+            if let Some(class) = classes.get_mut(first.place) {
+                *class = None;
+            }
+        }
+    }
+}
+
+// The classes after an arrival.
+fn classes_after(
     alloc: Global,
     work: &mut Work,
     universe: &Universe,
+    positions: usize,
     claims: &Claims,
     s: &mut Subst<'_>,
 ) -> Result<Vec<Option<usize>>, Stop> {
     let mut firsts = Vec::new(alloc);
     let mut classes = Vec::new(alloc);
     push_classes(alloc, work, universe, claims, s, &mut firsts, &mut classes)?;
+    put_out_lone(firsts.as_slice(), &mut classes, positions);
     Ok(classes)
-}
-
-// For each place whether the class that has this place has a second term.
-fn shared_classes(alloc: Global, classes: &[Option<usize>]) -> Result<Vec<bool>, NoMemory> {
-    let mut shared = vec![in alloc; false; classes.len()]?;
-    for (place, class) in classes.iter().enumerate() {
-        if let Some(first) = *class {
-            if first != place {
-                if let Some(is_shared) = shared.get_mut(first) {
-                    *is_shared = true;
-                }
-            }
-        }
-    }
-    Ok(shared)
-}
-
-// Puts terms out that share their classes with no term and are no positions.
-fn put_out_unshared(classes: &mut [Option<usize>], shared: &[bool], positions: usize) {
-    for (place, class) in classes.iter_mut().enumerate() {
-        if positions <= place && *class == Some(place) && shared.get(place) == Some(&false) {
-            *class = None;
-        }
-    }
-}
-
-// Puts terms out that are alone in their classes and no positions.
-fn put_out_lone(
-    alloc: Global,
-    classes: &mut [Option<usize>],
-    positions: usize,
-) -> Result<(), NoMemory> {
-    let shared = shared_classes(alloc, classes)?;
-    put_out_unshared(classes, shared.as_slice(), positions);
-    Ok(())
 }
 
 // Whether a value of a literal is implied at an arrival.
@@ -173,23 +156,6 @@ fn is_kept(
     }
 }
 
-// Adds the literals that hold at an arrival.
-fn push_kept(
-    alloc: Global,
-    work: &mut Work,
-    s: &mut Subst<'_>,
-    conds: &[NLit],
-    literals: &[NLit],
-    out: &mut Vec<NLit>,
-) -> Result<(), Stop> {
-    for literal in literals {
-        if is_kept(alloc, work, s, conds, literal)? {
-            out.push(literal.try_clone(alloc)?)?;
-        }
-    }
-    Ok(())
-}
-
 // The literals that hold at an arrival.
 fn kept_literals(
     alloc: Global,
@@ -199,22 +165,12 @@ fn kept_literals(
     literals: &[NLit],
 ) -> Result<Vec<NLit>, Stop> {
     let mut out = Vec::new(alloc);
-    push_kept(alloc, work, s, conds, literals, &mut out)?;
+    for literal in literals {
+        if is_kept(alloc, work, s, conds, literal)? {
+            out.push(literal.try_clone(alloc)?)?;
+        }
+    }
     Ok(out)
-}
-
-// The classes after an arrival.
-fn classes_after(
-    alloc: Global,
-    work: &mut Work,
-    universe: &Universe,
-    positions: usize,
-    claims: &Claims,
-    s: &mut Subst<'_>,
-) -> Result<Vec<Option<usize>>, Stop> {
-    let mut classes = split_classes(alloc, work, universe, claims, s)?;
-    put_out_lone(alloc, &mut classes, positions)?;
-    Ok(classes)
 }
 
 // Gives claims these classes and literals. Answers whether this changed them.
