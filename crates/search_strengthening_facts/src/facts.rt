@@ -40,19 +40,6 @@ fn equations_of(
     Ok(out)
 }
 
-// Values of positions that all their classes have.
-fn solution_of(
-    alloc: Global,
-    work: &mut Work,
-    universe: &Universe,
-    positions: &[Position],
-    claims: &Claims,
-) -> Result<Solution, Stop> {
-    let mut solution = settle(alloc, work, universe, positions, claims)?;
-    equate(alloc, work, universe, positions, claims, &mut solution)?;
-    Ok(solution)
-}
-
 // The fact that is found. `Bound` comes where there is none.
 fn found_fact(found: Result<Option<Fact>, NoMemory>) -> Result<Fact, Stop> {
     match found {
@@ -62,15 +49,18 @@ fn found_fact(found: Result<Option<Fact>, NoMemory>) -> Result<Fact, Stop> {
     }
 }
 
-// The fact of the values of positions. `Bound` comes where they make none.
+// The fact of the values of positions, once all their classes have these. `Bound` comes where they make none.
 fn fact_over(
     alloc: Global,
     work: &mut Work,
+    universe: &Universe,
     p: &Pairing,
     claims: &Claims,
-    solution: &Solution,
+    solution: &mut Solution,
 ) -> Result<Fact, Stop> {
-    let equations = equations_of(alloc, solution, p.positions())?;
+    let positions = p.positions();
+    equate(alloc, work, universe, positions, claims, solution)?;
+    let equations = equations_of(alloc, solution, positions)?;
     let literals = literals_over(alloc, work, &solution.values, claims.literals.as_slice())?;
     found_fact(tested_fact(alloc, p, equations, literals))
 }
@@ -84,6 +74,6 @@ pub fn fact_of(
     p: &Pairing,
     claims: &Claims,
 ) -> Result<Fact, Stop> {
-    let solution = solution_of(alloc, work, universe, p.positions(), claims)?;
-    fact_over(alloc, work, p, claims, &solution)
+    let mut solution = settle(alloc, work, universe, p.positions(), claims)?;
+    fact_over(alloc, work, universe, p, claims, &mut solution)
 }

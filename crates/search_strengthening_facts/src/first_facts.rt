@@ -18,18 +18,18 @@ pub struct FirstFact {
     pub fact: Fact,
 }
 
-// What is claimed after the first arrival.
-fn first_claims(
+// The fact that is made of claims without what does not hold at an arrival.
+fn fact_after(
     alloc: Global,
     work: &mut Work,
     universe: &Universe,
     p: &Pairing,
+    claims: &mut Claims,
     post: &Post,
-) -> Result<Claims, Stop> {
-    let mut claims = claims_before(alloc, universe, post, p)?;
+) -> Result<Fact, Stop> {
     let count = p.positions().len();
-    weed(alloc, work, universe, count, &mut claims, post)?;
-    Ok(claims)
+    weed(alloc, work, universe, count, claims, post)?;
+    fact_of(alloc, work, universe, p, claims)
 }
 
 /// What is claimed after the first arrival, and the fact that is made of it. `Bound` comes where too little work is left, or what
@@ -41,7 +41,7 @@ pub fn first_fact(
     p: &Pairing,
     post: &Post,
 ) -> Result<FirstFact, Stop> {
-    let claims = first_claims(alloc, work, universe, p, post)?;
-    let fact = fact_of(alloc, work, universe, p, &claims)?;
+    let mut claims = claims_before(alloc, universe, post, p)?;
+    let fact = fact_after(alloc, work, universe, p, &mut claims, post)?;
     Ok(FirstFact { claims, fact })
 }

@@ -8,6 +8,7 @@ use search_strengthening_solutions::tested_facts::LITERAL_LIMIT;
 use search_strengthening_terms::stop::{Stop, unless_stopped};
 use search_strengthening_terms::work::Work;
 use std::alloc::Global;
+use std::slice::from_ref;
 use sym_facts::entailment::substitute_literal;
 
 // Adds a literal that is neither true nor false.
@@ -59,21 +60,15 @@ fn all_values(
     values_by(alloc, work, &mut s, literals)
 }
 
-// Whether one literal of a list implies another one; of two that imply each other only the first one counts.
-fn makes_needless(literals: &[NLit], other: usize, place: usize) -> bool {
-    let (Some(l), Some(m)) = (literals.get(other), literals.get(place)) else {
-        return false;
-    };
-    let (Some(by), Some(back)) = (literals.get(other..=other), literals.get(place..=place)) else {
-        return false;
-    };
-    implied(by, m) && (other < place || !implied(back, l))
+// Whether a literal makes another one needless: it implies that one, and of two that imply each other it is the first one.
+fn makes_needless(by: &NLit, literal: &NLit, is_first: bool) -> bool {
+    implied(from_ref(by), literal) && (is_first || !implied(from_ref(literal), by))
 }
 
-// Whether another literal of a list implies the one at a place.
-fn is_needless(literals: &[NLit], place: usize) -> bool {
-    for other in 0..literals.len() {
-        if other != place && makes_needless(literals, other, place) {
+// Whether another literal of a list makes the one at a place needless.
+fn is_needless(literals: &[NLit], place: usize, literal: &NLit) -> bool {
+    for (other, by) in literals.iter().enumerate() {
+        if other != place && makes_needless(by, literal, other < place) {
             return true;
         }
     }
@@ -90,7 +85,7 @@ fn spend_on_pairs(work: &mut Work, literals: &[NLit]) -> Result<(), Stop> {
 fn needed(alloc: Global, literals: &[NLit]) -> Result<Vec<NLit>, Stop> {
     let mut out = Vec::new(alloc);
     for (place, literal) in literals.iter().enumerate() {
-        if out.len() < LITERAL_LIMIT && !is_needless(literals, place) {
+        if out.len() < LITERAL_LIMIT && !is_needless(literals, place, literal) {
             out.push(literal.try_clone(alloc)?)?;
         }
     }

@@ -5,7 +5,6 @@ use fs_cut::cover::{Cover, Path, Point};
 use nf_refutation::refutation::is_refuted;
 use nf_rel::literals::NLit;
 use nf_substitution::vector::Vector;
-use nf_terms::stop::NoMemory;
 use nf_terms::tree::Side;
 use search_strengthening_terms::stop::{Stop, within_limits};
 use search_strengthening_terms::work::Work;
@@ -16,16 +15,10 @@ use sym_paths::execution::conditions;
 // The units of work of the conditions of a path.
 const PATH_UNITS: u64 = 8;
 
-// The literals of a fact, and then more of them, which are moved.
-fn literals_with(alloc: Global, fact: &Fact, more: &mut Vec<NLit>) -> Result<Vec<NLit>, NoMemory> {
+// Whether literals, which are moved, are not refuted beside those of a fact.
+fn is_open_with(alloc: Global, fact: &Fact, more: &mut Vec<NLit>) -> Result<bool, Stop> {
     let mut literals = copied_literals(alloc, fact.conds())?;
     literals.append(more)?;
-    Ok(literals)
-}
-
-// Whether literals are not refuted beside those of a fact.
-fn is_open_with(alloc: Global, fact: &Fact, more: &mut Vec<NLit>) -> Result<bool, Stop> {
-    let literals = literals_with(alloc, fact, more)?;
     Ok(!is_refuted(alloc, literals.as_slice())?)
 }
 
