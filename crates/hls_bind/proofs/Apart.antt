@@ -79,15 +79,6 @@ is_below a b f g x h = elim (or_cases (has_variable a x) (has_variable b x) h) [
   | inr e ↦ in_set b x (nat_lt x 128) refl g e
 ]
 
--- one that is not written, or apart from what is written or live, loses none
-pub none_if : (w l others : ℕ → Bool) (b : List (ℕ × List ℕ)) (one : ℕ × List ℕ) (t u : Bool) → w one.0 ≡ t → sets_meet others (λ x. w x || l x) ≡ u
-    → (t && u) ≡ false → ((x : ℕ) → (w x || l x) ≡ true → x < 128) → others ≡ others_in b one
-    → None ≡ cond (w one.0) (lost_with w l one b) None
-none_if w l others b one true true p q e low are = absurd (cc e)
-none_if w l others b one true false p q e low are = sym (none_lost w l low b one others (λ x. w x || l x) are refl q)
-    ∙ sym (ap (λ t. cond t (lost_with w l one b) None) p)
-none_if w l others b one false u p q e low are = sym (ap (λ t. cond t (lost_with w l one b) None) p)
-
 -- ---- one turn of the loop over entries
 pub shared_at : (f : ℕ × List ℕ → ℕ → Bool) (es : List BoundLocal) (os : List VariableSet) (k : ℕ) (one : BoundLocal) (none : VariableSet)
     → map has_variable os ≡ map f (map binding_entry es) → k < length es → k < length os → one ≡ get_or es k one

@@ -1,5 +1,5 @@
 -- Lists that loops fill, item by item.
-use Rattle.std.proofs.Common.{◌≡◌, ℕ, ◌+◌, ◌<◌, ◌≤◌, Bool, true, false, not, List, [], ◌∷◌, ◌++◌, length, get_or, take, map, filter, cond}
+use Rattle.std.proofs.Common.{◌≡◌, ℕ, ◌+◌, ◌<◌, Bool, true, false, not, List, [], ◌∷◌, ◌++◌, length, get_or, take, map, filter, cond}
 use Rattle.std.proofs.Common.{ap, ap₂, sym, ◌∙◌, refl, append_assoc, Result, Ok, Err}
 use Rattle.std.specs.Prelude.{◌==◌, Option, option_map}
 use Rattle.std.specs.Result.{IfOk}

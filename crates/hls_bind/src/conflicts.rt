@@ -1,11 +1,11 @@
 //! The first branch that loses one of two locals with one register.
 
-ghost use Rattle.std.specs.Prelude.{◌≡◌, ◌<◌, ◌==◌, ◌||◌, false, cond, length, map, None, IfOk};
+ghost use Rattle.std.specs.Prelude.{◌≡◌, ◌<◌, ◌==◌, false, cond, length, map, None, IfOk};
 ghost use Rattle.std.specs.Option.{option_map};
 ghost use Rattle.fs_model.specs.View.{branch_of};
 ghost use Rattle.fs_ast.specs.SoundParts.{branch_count};
 ghost use Rattle.fs_cut.specs.Paths.{branch_at};
-ghost use Rattle.fs_variable_sets.specs.Sets.{has_variable, sets_meet};
+ghost use Rattle.fs_variable_sets.specs.Sets.{has_variable};
 ghost use Rattle.fs_variable_sets.specs.Flows.{has_at};
 ghost use Rattle.hls_bind.specs.BindingEntries.{binding_entry, lost_pair, conflict_of};
 ghost use Rattle.hls_bind.specs.Shared.{others_in};
@@ -70,32 +70,6 @@ fn lost_with(
     None
 }
 
-// Whether a local of a set is written or live.
-fn is_used(writes: VariableSet, live: VariableSet, others: VariableSet) -> bool
-    ensures { result ≡ sets_meet (has_variable others) (λ x. has_variable writes x || has_variable live x) }
-{
-    others.meets(writes.union(live))
-}
-
-// The first local that is lost as one is written. `others` are the other locals that have its register.
-fn lost_among(
-    writes: VariableSet,
-    live: VariableSet,
-    one: &BoundLocal,
-    others: VariableSet,
-    all: &[BoundLocal],
-) -> Option<Pair>
-    requires { has_variable others ≡ others_in (map binding_entry all.now) (binding_entry one.now) }
-    ensures { option_map lost_pair result ≡ lost_with (has_variable writes) (has_variable live) (binding_entry one.now)
-        (map binding_entry all.now) }
-{
-    if is_used(writes, live, others) {
-        lost_with(writes, live, one, all)
-    } else {
-        None
-    }
-}
-
 // What is lost as one is written, if it is. `others` are the other locals that have its register.
 fn lost_if_written(
     writes: VariableSet,
@@ -108,8 +82,8 @@ fn lost_if_written(
     ensures { option_map lost_pair result ≡ cond (has_variable writes one.now.local.0)
         (lost_with (has_variable writes) (has_variable live) (binding_entry one.now) (map binding_entry all.now)) None }
 {
-    if writes.contains(one.local) {
-        lost_among(writes, live, one, others, all)
+    if writes.contains(one.local) && others.meets(writes.union(live)) {
+        lost_with(writes, live, one, all)
     } else {
         None
     }

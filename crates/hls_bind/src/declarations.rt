@@ -81,23 +81,15 @@ pub fn remaining(
     Ok(out)
 }
 
-// The registers of a binding, once for each local.
-fn all_registers(alloc: Global, entries: &[BoundLocal]) -> Result<Vec<Name>, NoMemory>
-    ensures { IfOk result (λ out. out.items ≡ map (λ e. e.register) entries.now) }
-{
-    let mut out = Vec::new(alloc);
-    for entry in entries {
-        push_made(&mut out, entry.register.try_clone(alloc))?;
-    }
-    Ok(out)
-}
-
 /// The registers of a binding, each once, in the order of their bytes.
 pub fn registers_of(alloc: Global, entries: &[BoundLocal]) -> Result<Vec<Name>, NoMemory>
     requires { is_rising (map binding_entry entries.now) ≡ true }
     ensures { IfOk result (λ out. AreRegisters (map binding_entry entries.now) out.items) }
 {
-    let mut out = all_registers(alloc, entries)?;
+    let mut out = Vec::new(alloc);
+    for entry in entries {
+        push_made(&mut out, entry.register.try_clone(alloc))?;
+    }
     out.sort_unstable();
     out.dedup();
     Ok(out)

@@ -1,6 +1,6 @@
 //! What is live at each state, as sets of variables.
 
-ghost use Rattle.std.specs.Prelude.{◌≡◌, ◌<◌, ◌++◌, length, map, IfOk};
+ghost use Rattle.std.specs.Prelude.{◌≡◌, ◌++◌, length, map, IfOk};
 ghost use Rattle.std.specs.List.{flat_map};
 ghost use Rattle.std.specs.Result.{OnOk};
 ghost use Rattle.fs_model.specs.View.{term_of, literal_of, shared_literal_of, assignment_of, branch_of};
@@ -8,7 +8,7 @@ ghost use Rattle.fs_model.specs.PartFolds.{scalars, uses_in_literal};
 ghost use Rattle.fs_ast.specs.SoundParts.{scalars_in, assigned_in};
 ghost use Rattle.fs_variable_sets.specs.Sets.{has_variable, also_all};
 ghost use Rattle.hls_bind.specs.Liveness.{read_by_assignment};
-ghost use Rattle.hls_bind.specs.BranchFlows.{has_below_128, transfer_of, transfer_by, transfers_at, transfers_below};
+ghost use Rattle.hls_bind.specs.BranchFlows.{has_below_128, transfer_of, transfer_by, transfers_below};
 ghost use Rattle.hls_bind.specs.Live.{HasLive};
 
 use fs_ast::machine::Machine;
@@ -75,10 +75,11 @@ fn with_assignments(set: VariableSet, assigns: &[Assign<VarId>]) -> VariableSet
     set
 }
 
-// The scalars that assignments assign.
-fn scalars_assigned(assigns: &[Assign<VarId>]) -> VariableSet
-    ensures { has_variable result ≡ has_below_128 (assigned_in (map assignment_of assigns.now)) }
+/// The scalars that a branch assigns.
+pub fn assigned_scalars(branch: &Branch) -> VariableSet
+    ensures { has_variable result ≡ has_below_128 (assigned_in (branch_of branch.now).assignments) }
 {
+    let assigns = branch.assigns.as_slice();
     let mut set = VariableSet::empty();
     for assign in assigns {
         if let Assign::Set(x, _) = assign {
@@ -86,13 +87,6 @@ fn scalars_assigned(assigns: &[Assign<VarId>]) -> VariableSet
         }
     }
     set
-}
-
-/// The scalars that a branch assigns.
-pub fn assigned_scalars(branch: &Branch) -> VariableSet
-    ensures { has_variable result ≡ has_below_128 (assigned_in (branch_of branch.now).assignments) }
-{
-    scalars_assigned(branch.assigns.as_slice())
 }
 
 // What a branch of a state does to the sets of what is live.
@@ -119,14 +113,6 @@ fn add_flows(flows: &mut Vec<Flow>, from: u32, branches: &[Branch]) -> Result<()
     Ok(())
 }
 
-// Adds what the branches of a state do.
-fn add_state(flows: &mut Vec<Flow>, m: &Machine, state: StateId) -> Result<(), NoMemory>
-    requires { state.0 < length m.now.states }
-    ensures { OnOk result (map transfer_of flows.new.items ≡ map transfer_of flows.old.items ++ transfers_at m.now state.0) }
-{
-    add_flows(flows, state.0, m.branches(state))
-}
-
 // What the branches of all states do. From the last state to the first, since variables become live backwards.
 fn all_flows(alloc: Global, m: &Machine) -> Result<Vec<Flow>, NoMemory>
     ensures { IfOk result (λ flows. map transfer_of flows.items ≡ transfers_below m.now (length m.now.states)) }
@@ -134,7 +120,8 @@ fn all_flows(alloc: Global, m: &Machine) -> Result<Vec<Flow>, NoMemory>
     let mut flows = Vec::new(alloc);
     let count = m.state_count();
     for k in 0..count {
-        add_state(&mut flows, m, StateId(count - 1 - k))?;
+        let state = count - 1 - k;
+        add_flows(&mut flows, state, m.branches(StateId(state)))?;
     }
     Ok(flows)
 }

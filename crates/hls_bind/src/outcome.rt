@@ -137,20 +137,12 @@ pub fn bind(alloc: Global, parts: &Parts, m: &Machine, b: &Binding) -> Result<Bo
     ensures { IfOk result (λ r. IsRight (source_of parts.now) m.now b.now r) }
 {
     match conflict(alloc, m, b)? {
-        Some(
-            Conflict {
-                state,
-                branch,
-                written,
-                other,
-                twice,
-            },
-        ) => Ok(Bound::No {
-            state,
-            branch,
-            written,
-            other,
-            twice,
+        Some(first) => Ok(Bound::No {
+            state: first.state,
+            branch: first.branch,
+            written: first.written,
+            other: first.other,
+            twice: first.twice,
         }),
         None => with_registers(alloc, parts, m, b),
     }

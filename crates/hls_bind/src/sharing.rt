@@ -44,7 +44,7 @@ pub fn others_of_each(alloc: Global, all: &[BoundLocal]) -> Result<Vec<VariableS
     ensures { IfOk result
         (λ out. map has_variable out.items ≡ map (others_in (map binding_entry all.now)) (map binding_entry all.now)) }
 {
-    let mut out = Vec::with_capacity(alloc, all.len())?;
+    let mut out = Vec::new(alloc);
     for one in all {
         out.push(others_in(all, one))?;
     }
