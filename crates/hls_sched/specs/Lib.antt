@@ -1,4 +1,5 @@
 pub mod Arrivals
+pub mod Pushed
 pub mod RowMoves
 pub mod CodeLines
 pub mod Reports

@@ -1,14 +1,14 @@
 -- The rows of lines in the code, as moves over the names of parts.
-use Rattle.std.specs.Prelude.{◌≡◌, ℕ, ◌+◌, ◌<◌, ◌≤◌, nat_lt, true, cond, List, map, length, slice_index}
+use Rattle.std.specs.Prelude.{◌≡◌, ℕ, ◌+◌, ◌<◌, ◌≤◌, nat_lt, true, cond, List, map, length, slice_index, None}
 use Rattle.std.specs.List.{All, flat_map}
 use Rattle.fs_model.specs.declared.parts.StateId.{StateId}
 use Rattle.fs_model.specs.Terms.{Assignment}
-use Rattle.fs_model.specs.Source.{Source}
+use Rattle.fs_model.specs.Source.{Source, SourceTransition}
 use Rattle.hls_line_filling.specs.Filling.{Filled, is_before}
 use Rattle.hls_line_filling.specs.RowMachines.{MoveOver}
 use Rattle.hls_line_filling.specs.declared.plan.Plan.{Plan}
 use Rattle.hls_line_filling.specs.WaitingItems.{rows_in}
-use Rattle.hls_line_filling.specs.SourceRows.{named_item, row_of, RowEffect}
+use Rattle.hls_line_filling.specs.SourceRows.{named_item, row_of, source_state, RowEffect}
 use Rattle.hls_sched.specs.declared.moves.Move.{Move}
 
 -- the items of states, one after another
@@ -21,6 +21,13 @@ done_by p x = (joined_items p x.items.items, x.target.0)
 
 abbrev pub move_of : Source → Move → MoveOver (List ℕ)
 move_of p x = record { state = x.state.0; assignments = joined_items p x.items.items; target = x.target.0 }
+
+-- what a row does, as a transition of a line
+abbrev pub transition_with_row : Source → ℕ → RowEffect → SourceTransition
+transition_with_row p line d = record {
+  line = line;
+  content = record { guard = None; target = (source_state p d.1).name; assignments = d.0 };
+}
 
 -- a move among so many states
 pub record IsMoveAmong (count : ℕ) (x : Move) : Type 0 where

@@ -4,8 +4,8 @@ ghost use Rattle.std.specs.Prelude.{◌≡◌, ◌++◌, map, option_map, IfOk};
 ghost use Rattle.std.specs.Result.{OnOk};
 ghost use Rattle.fs_model.specs.View.{named_assignment, named_guard, source_transition_of, source_state_of, declaration_of};
 
+use crate::made::push_made;
 use fs_model::assignment_copies::{copied_assignment, copied_guard};
-use fs_model::memory::push_value;
 use fs_model::name::{Name, NoMemory};
 use fs_model::parts::{Assign, Decl, Guard, RawLine, RawState};
 use std::alloc::Global;
@@ -30,21 +30,9 @@ pub fn add_assignments(
         (map named_assignment out.new.items ≡ map named_assignment out.old.items ++ map named_assignment assigns.now) }
 {
     for assign in assigns {
-        push_value(out, copied_assignment(alloc, assign)?)?;
+        push_made(out, copied_assignment(alloc, assign))?;
     }
     Ok(())
-}
-
-/// Copies of assignments. The one refusal is out of memory.
-pub fn copied_assignments(
-    alloc: Global,
-    assigns: &[Assign<Name>],
-) -> Result<Vec<Assign<Name>>, NoMemory>
-    ensures { IfOk result (λ out. map named_assignment out.items ≡ map named_assignment assigns.now) }
-{
-    let mut out = Vec::new(alloc);
-    add_assignments(alloc, assigns, &mut out)?;
-    Ok(out)
 }
 
 /// A copy of a transition. The one refusal is out of memory.
@@ -52,7 +40,8 @@ pub fn copied_line(alloc: Global, line: &RawLine) -> Result<RawLine, NoMemory>
     ensures { IfOk result (λ l. source_transition_of l ≡ source_transition_of line.now) }
 {
     let target = line.target.try_clone(alloc)?;
-    let assigns = copied_assignments(alloc, &line.assigns)?;
+    let mut assigns = Vec::new(alloc);
+    add_assignments(alloc, &line.assigns, &mut assigns)?;
     let guard = copied_condition(alloc, &line.guard)?;
     Ok(RawLine {
         line: line.line,
@@ -68,7 +57,7 @@ pub fn copied_lines(alloc: Global, lines: &[RawLine]) -> Result<Vec<RawLine>, No
 {
     let mut out = Vec::new(alloc);
     for line in lines {
-        push_value(&mut out, copied_line(alloc, line)?)?;
+        push_made(&mut out, copied_line(alloc, line))?;
     }
     Ok(out)
 }
@@ -92,7 +81,7 @@ pub fn copied_declarations(alloc: Global, decls: &[Decl]) -> Result<Vec<Decl>, N
 {
     let mut out = Vec::new(alloc);
     for decl in decls {
-        push_value(&mut out, decl.try_clone(alloc)?)?;
+        push_made(&mut out, decl.try_clone(alloc))?;
     }
     Ok(out)
 }

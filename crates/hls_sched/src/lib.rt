@@ -10,6 +10,7 @@
 pub mod arrivals;
 pub mod copies;
 pub mod lines;
+mod made;
 mod moves;
 mod parts;
 mod plans;

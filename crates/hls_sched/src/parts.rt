@@ -4,13 +4,14 @@ ghost use Rattle.std.specs.Prelude.{◌≡◌, ℕ, ◌<◌, ◌++◌, map, opti
 ghost use Rattle.std.specs.List.{All};
 ghost use Rattle.std.specs.Result.{OnOk};
 ghost use Rattle.fs_model.specs.Source.{Source};
-ghost use Rattle.fs_model.specs.View.{named_assignment, source_state_of, source_of};
+ghost use Rattle.fs_model.specs.View.{named_assignment, source_transition_of, source_state_of, source_of};
 ghost use Rattle.hls_line_filling.specs.SourceRows.{first_assignments, first_row_effect};
 ghost use Rattle.hls_line_filling.specs.Sources.{state_with_row, states_by, source_by_rows};
-ghost use Rattle.hls_sched.specs.RowMoves.{joined_items, done_by, move_of, IsMoveAmong};
+ghost use Rattle.hls_sched.specs.RowMoves.{joined_items, done_by, move_of, transition_with_row, IsMoveAmong};
 
 use crate::copies::{add_assignments, copied_declarations, copied_state};
 use crate::lines::is_straight;
+use crate::made::push_made;
 use crate::moves::Move;
 use fs_ast::machine::Machine;
 use fs_model::name::{Name, NoMemory};
@@ -59,6 +60,22 @@ fn joined_items(
     Ok(out)
 }
 
+// A move as a transition of a line.
+fn transition_of(alloc: Global, parts: &Parts, line: u32, by: &Move) -> Result<RawLine, NoMemory>
+    requires { IsMoveAmong (length parts.now.states.items) by.now }
+    ensures { IfOk result
+        (λ l. source_transition_of l ≡ transition_with_row (source_of parts.now) line (done_by (source_of parts.now) by.now)) }
+{
+    let target = parts.states[by.target.0 as usize].name.try_clone(alloc)?;
+    let assigns = joined_items(alloc, parts, &by.items)?;
+    Ok(RawLine {
+        line,
+        guard: None,
+        target,
+        assigns,
+    })
+}
+
 // A state with a move for its one transition.
 fn moved_state(
     alloc: Global,
@@ -71,19 +88,12 @@ fn moved_state(
         (λ out. source_state_of out ≡ state_with_row (source_of parts.now) (source_state_of state.now)
         (done_by (source_of parts.now) by.now)) }
 {
-    let name = state.name.try_clone(alloc)?;
-    let target = parts.states[by.target.0 as usize].name.try_clone(alloc)?;
-    let assigns = joined_items(alloc, parts, &by.items)?;
-    let line = RawLine {
-        line: state.line,
-        guard: None,
-        target,
-        assigns,
-    };
+    let mut lines = Vec::new(alloc);
+    push_made(&mut lines, transition_of(alloc, parts, state.line, by))?;
     Ok(RawState {
         line: state.line,
-        name,
-        lines: vec![in alloc; line]?,
+        name: state.name.try_clone(alloc)?,
+        lines,
     })
 }
 
@@ -106,12 +116,13 @@ fn add_state(
 {
     let old = &parts.states[state.0 as usize];
     match move_of_state(moves, state) {
-        Some(by) => out.push(moved_state(alloc, parts, old, by)?)?,
-        None => if !is_straight(m, state) {
-            out.push(copied_state(alloc, old)?)?;
+        Some(by) => push_made(out, moved_state(alloc, parts, old, by)),
+        None => if is_straight(m, state) {
+            Ok(())
+        } else {
+            push_made(out, copied_state(alloc, old))
         },
     }
-    Ok(())
 }
 
 // The states with moves: one for each move, and none for a state of a line that has no move.

@@ -1,6 +1,6 @@
 //! List scheduling: the straight lines of a machine in rows.
 
-ghost use Rattle.std.specs.Prelude.{◌≡◌, ◌++◌, None, length, map, IsTrue, IfOk};
+ghost use Rattle.std.specs.Prelude.{◌≡◌, ◌<◌, ◌++◌, true, None, length, map, IsTrue, IfOk};
 ghost use Rattle.std.specs.List.{All};
 ghost use Rattle.std.specs.Result.{OnOk, IfErr};
 ghost use Rattle.fs_model.specs.Runs.{SameBehaviour};
@@ -12,15 +12,18 @@ ghost use Rattle.fs_ast.specs.Rules.{BreaksNoRule};
 ghost use Rattle.hls_line_filling.specs.ItemUnits.{units_in};
 ghost use Rattle.hls_line_filling.specs.Schedules.{IsWithin, schedule_of};
 ghost use Rattle.hls_line_filling.specs.SourceRows.{named_moves};
+ghost use Rattle.hls_line_filling.specs.StraightLines.{is_first_of_line};
 ghost use Rattle.hls_line_filling.specs.Sources.{scheduled_source};
 ghost use Rattle.hls_line_filling.specs.Over.{over_in};
+ghost use Rattle.hls_sched.specs.Arrivals.{AreArrivals};
 ghost use Rattle.hls_sched.specs.RowMoves.{move_of, IsMoveAmong};
-ghost use Rattle.hls_sched.specs.CodeLines.{IsLineFrom, moves_from};
+ghost use Rattle.hls_sched.specs.CodeLines.{moves_from};
 ghost use Rattle.hls_sched.specs.Reports.{report_of, report_at, reports, KeepsLengths, IsNotScheduled};
 ghost use Rattle.hls_sched.specs.declared.scheduling.SchedError.TheVariants as errors;
 
-use crate::arrivals::count_arrivals;
-use crate::lines::{Line, firsts, trace_line};
+use crate::arrivals::{Arrivals, count_arrivals};
+use crate::lines::{firsts, trace_line};
+use crate::made::push_made;
 use crate::moves::{Move, add_moves};
 use crate::parts::moved_parts;
 use crate::plans::plan_line;
@@ -78,17 +81,19 @@ struct Lines {
     reports: Vec<LineReport>,
 }
 
-// Adds the rows of a line in its first states. What becomes of it.
+// Adds the rows of the line of a first state, in the first states of the line. What becomes of it.
 fn schedule_line(
     alloc: Global,
     m: &Machine,
     units: &Units,
+    arrivals: &[Arrivals],
     first: StateId,
-    line: &Line,
     out: &mut Vec<Move>,
 ) -> Result<LineReport, NoMemory>
     requires within { IsWithin (units_in units.now) m.now }
-    requires line { IsLineFrom m.now first.0 line.now }
+    requires arrivals { AreArrivals m.now arrivals.now }
+    requires first { first.0 < length m.now.states }
+    requires starts { is_first_of_line m.now first.0 ≡ true }
     requires among { All (IsMoveAmong (length m.now.states)) out.now.items }
     ensures report { IfOk result (λ r. report_of r ≡ report_at (units_in units.now) m.now first.0) }
     ensures moves { OnOk result
@@ -97,8 +102,9 @@ fn schedule_line(
     ensures among { OnOk result (All (IsMoveAmong (length m.now.states)) out.new.items) }
 {
     let _vars = m.vars(); // The call tells the proof that the machine is sound.
-    let plan = plan_line(alloc, m, first, line, units)?;
-    add_moves(alloc, line, &plan, out)?;
+    let line = trace_line(alloc, m, arrivals, first)?;
+    let plan = plan_line(alloc, m, first, &line, units)?;
+    add_moves(alloc, &line, &plan, out)?;
     Ok(LineReport {
         first,
         before: line.states.len() as u32,
@@ -119,8 +125,10 @@ fn schedule_lines(alloc: Global, m: &Machine, units: &Units) -> Result<Lines, No
     let mut moves = Vec::new(alloc);
     let mut reports = Vec::new(alloc);
     for first in &firsts {
-        let line = trace_line(alloc, m, &arrivals, *first)?;
-        reports.push(schedule_line(alloc, m, units, *first, &line, &mut moves)?)?;
+        push_made(
+            &mut reports,
+            schedule_line(alloc, m, units, &arrivals, *first, &mut moves),
+        )?;
     }
     Ok(Lines { moves, reports })
 }

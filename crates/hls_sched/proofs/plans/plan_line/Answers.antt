@@ -1,8 +1,16 @@
-use Rattle.std.proofs.Common.{◌∙◌, sym, length}
+use Rattle.std.proofs.Common.{◌<◌, ◌∙◌, List, sym, subst, length}
+use Rattle.std.specs.List.{All}
+use Rattle.fs_model.specs.declared.parts.StateId.{StateId}
 use Rattle.hls_line_filling.specs.StraightLines.{items_at}
 use Rattle.hls_line_filling.specs.ItemUnits.{units_in}
 use Rattle.hls_sched.proofs.Gathered.{are_counted, count_items, plan_for}
 use Rattle.hls_sched.proofs.plans.plan_line.Goals as goal
+
+pub all_effects-requires : goal.all_effects-requires
+all_effects-requires c = subst (λ (qs : List StateId). All (λ q. q.0 < length c.args.m.now.states) qs) (sym c.deref.ensures.value) c.requires.line.inside
+
+pub all_uses-requires : goal.all_uses-requires
+all_uses-requires c = subst (λ (qs : List StateId). All (λ q. q.0 < length c.args.m.now.states) qs) (sym c.deref-2.ensures.value) c.requires.line.inside
 
 pub make_plan-requires-clause-same : goal.make_plan-requires-clause-same
 make_plan-requires-clause-same c =
