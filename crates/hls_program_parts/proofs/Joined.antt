@@ -1,9 +1,9 @@
 -- One block after another: how many statements, and which states.
-use Rattle.std.proofs.Common.{◌≡◌, ℕ, suc, ◌+◌, ◌≤◌, ◌<◌, ◌^◌, List, [], ◌∷◌, ◌++◌, length, sym, refl, ◌∙◌, ap, arith, ap₂, map, append_assoc, append-nil}
+use Rattle.std.proofs.Common.{◌≡◌, ℕ, suc, ◌+◌, ◌≤◌, ◌<◌, ◌^◌, List, [], ◌∷◌, ◌++◌, length, sym, refl, ◌∙◌, ap, arith, ap₂, append_assoc, append-nil}
 use Rattle.std.specs.Prelude.{min}
 use Rattle.std.proofs.Math.Nat.{min-eq_left}
-use Rattle.std.proofs.lemmas.List.{map-append, nil_from_length}
-use Rattle.fs_model.specs.Terms.{Guard, Transition}
+use Rattle.std.proofs.lemmas.List.{nil_from_length}
+use Rattle.fs_model.specs.Terms.{Assignment, Guard, Transition}
 use Rattle.hls_program_parts.specs.Programs.{Block, End, Do, If, While, join_blocks}
 use Rattle.hls_program_parts.specs.Compiled.{count, first, always, where_holds, states_of, state_name, named_state, numbered_states}
 use Rattle.fs_model.specs.Source.{SourceState}
@@ -136,43 +136,45 @@ ended done all rest number follow e h =
     ∙ ap (λ (ss : List Stmt). done ++ numbered_states number (states_of state_name (block_of ss) number follow)) (sym (nil_from_length rest e))
     ∙ h
 
+-- the state of an assignment
+pub step_turned : (old new : List SourceState) (whole : Block (List ℕ)) (line : ℕ) (a : Assignment (List ℕ)) (n k : ℕ) → whole ≡ Do line a End
+    → new ≡ old ++ named_state n (line, always (state_name k) (a ∷ []) ∷ []) ∷ [] → new ≡ old ++ numbered_states n (states_of state_name whole n k)
+step_turned old new whole line a n k w p = p ∙ ap (λ (b : Block (List ℕ)). old ++ numbered_states n (states_of state_name b n k)) (sym w)
+
 -- the state of a repetition, and then those of its body
-pub while_turned : {R : Type 0} (f : R → SourceState) (old new : List R) (item : R) (last : List SourceState) (whole : Block (List ℕ)) (line : ℕ)
-    (g : Guard (List ℕ)) (body : Block (List ℕ)) (n k to : ℕ)
-    → whole ≡ While line g body End → new ≡ old ++ item ∷ [] → f item ≡ named_state n (line, where_holds g (state_name to) ∷ always (state_name k) [] ∷ [])
-    → to ≡ first body (n + 1) n
-    → last ≡ map f new ++ numbered_states (n + 1) (states_of state_name body (n + 1) n) → last ≡ map f old ++ numbered_states n (states_of state_name whole n k)
-while_turned f old new item last whole line g body n k to w p i t l =
+pub while_turned : (old new last : List SourceState) (whole : Block (List ℕ)) (line : ℕ) (g : Guard (List ℕ)) (body : Block (List ℕ)) (n k to : ℕ)
+    → whole ≡ While line g body End → new ≡ old ++ named_state n (line, where_holds g (state_name to) ∷ always (state_name k) [] ∷ []) ∷ []
+    → to ≡ first body (n + 1) n → last ≡ new ++ numbered_states (n + 1) (states_of state_name body (n + 1) n)
+    → last ≡ old ++ numbered_states n (states_of state_name whole n k)
+while_turned old new last whole line g body n k to w p t l =
+    let rest : List SourceState = numbered_states (n + 1) (states_of state_name body (n + 1) n) in
+    let here : ℕ → SourceState = λ j. named_state n (line, where_holds g (state_name j) ∷ always (state_name k) [] ∷ []) in
     l
-    ∙ ap (λ (xs : List SourceState). xs ++ numbered_states (n + 1) (states_of state_name body (n + 1) n)) (ap (map f) p ∙ map-append f old (item ∷ []))
-    ∙ append_assoc (map f old) (f item ∷ []) (numbered_states (n + 1) (states_of state_name body (n + 1) n))
-    ∙ ap (λ (xs : List SourceState). map f old ++ xs)
-    (ap (λ (s : SourceState). s ∷ numbered_states (n + 1) (states_of state_name body (n + 1) n))
-    (i ∙ ap (λ j. named_state n (line, where_holds g (state_name j) ∷ always (state_name k) [] ∷ [])) t) ∙ sym (while_numbered line g body n k)
+    ∙ ap (λ (xs : List SourceState). xs ++ rest) p
+    ∙ append_assoc old (here to ∷ []) rest
+    ∙ ap (λ (xs : List SourceState). old ++ xs)
+    (ap (λ j. here j ∷ rest) t ∙ sym (while_numbered line g body n k)
     ∙ ap (λ (b : Block (List ℕ)). numbered_states n (states_of state_name b n k)) (sym w))
 
 -- the state of a choice, and then those of its two blocks
-pub if_turned : {R : Type 0} (f : R → SourceState) (old new : List R) (item : R) (middle last : List SourceState) (whole : Block (List ℕ)) (line : ℕ)
-    (g : Guard (List ℕ)) (y z : Block (List ℕ)) (n k other to otherwise : ℕ)
-    → whole ≡ If line g y z End → new ≡ old ++ item ∷ [] → other ≡ n + 1 + count y
-    → f item ≡ named_state n (line, where_holds g (state_name to) ∷ always (state_name otherwise) [] ∷ []) → to ≡ first y (n + 1) k
-    → otherwise ≡ first z other k
-    → middle ≡ map f new ++ numbered_states (n + 1) (states_of state_name y (n + 1) k) → last ≡ middle ++ numbered_states other (states_of state_name z other k)
-    → last ≡ map f old ++ numbered_states n (states_of state_name whole n k)
-if_turned f old new item middle last whole line g y z n k other to otherwise w p o i t u m l =
+pub if_turned : (old new middle last : List SourceState) (whole : Block (List ℕ)) (line : ℕ) (g : Guard (List ℕ)) (y z : Block (List ℕ))
+    (n k other to otherwise : ℕ)
+    → whole ≡ If line g y z End → new ≡ old ++ named_state n (line, where_holds g (state_name to) ∷ always (state_name otherwise) [] ∷ []) ∷ []
+    → other ≡ n + 1 + count y → to ≡ first y (n + 1) k → otherwise ≡ first z other k
+    → middle ≡ new ++ numbered_states (n + 1) (states_of state_name y (n + 1) k) → last ≡ middle ++ numbered_states other (states_of state_name z other k)
+    → last ≡ old ++ numbered_states n (states_of state_name whole n k)
+if_turned old new middle last whole line g y z n k other to otherwise w p o t u m l =
     let ys = numbered_states (n + 1) (states_of state_name y (n + 1) k) in
     let zs = numbered_states other (states_of state_name z other k) in
-    let s : f item ≡ named_state n (line, where_holds g (state_name (first y (n + 1) k)) ∷ always (state_name (first z other k)) [] ∷ []) = i
-    ∙ ap₂ (λ a b. named_state n (line, where_holds g (state_name a) ∷ always (state_name b) [] ∷ [])) t u in
-    let r : numbered_states n (states_of state_name (If line g y z End) n k)
-    ≡ named_state n (line, where_holds g (state_name (first y (n + 1) k)) ∷ always (state_name (first z other k)) [] ∷ []) ∷ (ys ++ zs) =
+    let here : ℕ → ℕ → SourceState = λ a b. named_state n (line, where_holds g (state_name a) ∷ always (state_name b) [] ∷ []) in
+    let r : numbered_states n (states_of state_name (If line g y z End) n k) ≡ here (first y (n + 1) k) (first z other k) ∷ (ys ++ zs) =
     rw o (if_numbered line g y z n k) in
     l
-    ∙ ap (λ (xs : List SourceState). xs ++ zs) (m ∙ ap (λ (xs : List SourceState). xs ++ ys) (ap (map f) p ∙ map-append f old (item ∷ [])))
-    ∙ ap (λ (xs : List SourceState). xs ++ zs) (append_assoc (map f old) (f item ∷ []) ys)
-    ∙ append_assoc (map f old) (f item ∷ ys) zs
-    ∙ ap (λ (xs : List SourceState). map f old ++ xs)
-    (ap (λ (x : SourceState). x ∷ (ys ++ zs)) s ∙ sym r ∙ ap (λ (b : Block (List ℕ)). numbered_states n (states_of state_name b n k)) (sym w))
+    ∙ ap (λ (xs : List SourceState). xs ++ zs) (m ∙ ap (λ (xs : List SourceState). xs ++ ys) p)
+    ∙ ap (λ (xs : List SourceState). xs ++ zs) (append_assoc old (here to otherwise ∷ []) ys)
+    ∙ append_assoc old (here to otherwise ∷ ys) zs
+    ∙ ap (λ (xs : List SourceState). old ++ xs)
+    (ap₂ (λ a b. here a b ∷ (ys ++ zs)) t u ∙ sym r ∙ ap (λ (b : Block (List ℕ)). numbered_states n (states_of state_name b n k)) (sym w))
 
 -- the counts and the states of blocks that are joined
 pub ruleset joined_blocks = (count_joined, if_numbered, while_numbered)

@@ -41,8 +41,6 @@ pub fn first(statements: &[Stmt], number: u32, follow: u32) -> u32
 {
     match statements {
         [] => follow,
-        [Stmt::Do { .. }, ..] => number,
-        [Stmt::If { .. }, ..] => number,
-        [Stmt::While { .. }, ..] => number,
+        [Stmt::Do { .. } | Stmt::If { .. } | Stmt::While { .. }, ..] => number,
     }
 }

@@ -1,32 +1,41 @@
 //! The states of statements.
 
 ghost use Rattle.std.specs.Prelude.{◌≡◌, ◌<◌, ◌+◌, ◌^◌, ◌++◌, ◌∷◌, [], map, IfOk, OnOk};
+ghost use Rattle.fs_model.specs.Source.{SourceState};
 ghost use Rattle.fs_model.specs.View.{named_assignment, source_state_of};
-ghost use Rattle.hls_program_parts.specs.Compiled.{count, numbered_states, state_name, states_of};
+ghost use Rattle.hls_program_parts.specs.Compiled.{always, count, named_state, numbered_states, state_name, states_of};
 ghost use Rattle.hls_program_parts.specs.View.{block_of_statement, block_of};
 
 use crate::counts::{count, first, size};
 use crate::program::Stmt;
-use crate::transitions::{choice, step};
+use crate::transitions::{choice, one, step};
 use fs_model::assignment_copies::copied_assignment;
 use fs_model::name::{Name, NoMemory};
 use fs_model::parts::{Assign, RawState};
 use std::alloc::Global;
 
-fn push<T: Drop>(out: &mut Vec<T>, item: T) -> Result<(), NoMemory>
-    ensures { OnOk result (out.new.items ≡ out.old.items ++ item ∷ []) }
+// Adds a state, where it was made.
+fn add_made(out: &mut Vec<RawState>, made: Result<RawState, NoMemory>) -> Result<(), NoMemory>
+    ensures { (state : SourceState) → IfOk made (λ s. source_state_of s ≡ state)
+        → OnOk result (map source_state_of out.new.items ≡ map source_state_of out.old.items ++ state ∷ []) }
 {
-    out.push(item)?;
+    out.push(made?)?;
     Ok(())
 }
 
-// A list of one copy.
-fn one_copy(alloc: Global, assign: &Assign<Name>) -> Result<Vec<Assign<Name>>, NoMemory>
-    ensures { IfOk result (λ out. map named_assignment out.items ≡ named_assignment assign.now ∷ []) }
+// The state of an assignment, which goes to the state `next`.
+fn assignment_state(
+    alloc: Global,
+    number: u32,
+    line: u32,
+    next: u32,
+    assign: &Assign<Name>,
+) -> Result<RawState, NoMemory>
+    ensures { IfOk result
+        (λ s. source_state_of s ≡ named_state number (line, always (state_name next) (named_assignment assign.now ∷ []) ∷ [])) }
 {
-    let mut out = Vec::new(alloc);
-    push(&mut out, copied_assignment(alloc, assign)?)?;
-    Ok(out)
+    let assigns = one(alloc, copied_assignment(alloc, assign)?)?;
+    step(alloc, number, line, next, assigns)
 }
 
 /// Adds the states of statements, of which `number` is the first number, and `follow` is what follows them.
@@ -72,11 +81,10 @@ fn add_statement(
         ++ numbered_states number (states_of state_name (block_of_statement statement.now) number next)) }
 {
     match statement {
-        Stmt::Do { line, assign } => {
-            let assigns = one_copy(alloc, assign)?;
-            push(out, step(alloc, number, *line, next, assigns)?)?;
-            Ok(())
-        }
+        Stmt::Do { line, assign } => add_made(
+            out,
+            assignment_state(alloc, number, *line, next, assign),
+        ),
         Stmt::If {
             line,
             guard,
@@ -86,16 +94,14 @@ fn add_statement(
             let other = number + 1 + count(yes);
             let to = first(yes, number + 1, next);
             let otherwise = first(no, other, next);
-            push(out, choice(alloc, number, *line, guard, to, otherwise)?)?;
+            add_made(out, choice(alloc, number, *line, guard, to, otherwise))?;
             add_block(alloc, yes, number + 1, next, out)?;
-            add_block(alloc, no, other, next, out)?;
-            Ok(())
+            add_block(alloc, no, other, next, out)
         }
         Stmt::While { line, guard, body } => {
             let to = first(body, number + 1, number);
-            push(out, choice(alloc, number, *line, guard, to, next)?)?;
-            add_block(alloc, body, number + 1, number, out)?;
-            Ok(())
+            add_made(out, choice(alloc, number, *line, guard, to, next))?;
+            add_block(alloc, body, number + 1, number, out)
         }
     }
 }

@@ -51,7 +51,8 @@ fn where_holds(alloc: Global, line: u32, guard: &Guard, target: Name) -> Result<
     })
 }
 
-fn one<T: Drop>(alloc: Global, item: T) -> Result<Vec<T>, NoMemory>
+/// A list of one value.
+pub fn one<T: Drop>(alloc: Global, item: T) -> Result<Vec<T>, NoMemory>
     ensures { IfOk result (λ out. out.items ≡ item ∷ []) }
 {
     let mut out = Vec::new(alloc);
