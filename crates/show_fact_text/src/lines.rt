@@ -15,6 +15,14 @@ use nf_terms::stop::NoMemory;
 use sym_facts::fact::{Fact, FactPosition};
 use term_writer::writer::{write_arr, write_literal, write_poly, write_seq, write_symbol};
 
+/// Adds bytes. The one refusal is out of memory.
+pub fn write_bytes(out: &mut Vec<u8>, bytes: &[u8]) -> Result<(), NoMemory>
+    ensures { OnOk result (out.new.items ≡ out.old.items ++ bytes.now) }
+{
+    out.extend_from_slice(bytes)?;
+    Ok(())
+}
+
 /// Adds a normal form. The one refusal is out of memory.
 pub fn write_form(out: &mut Vec<u8>, names: &SideNames<'_>, form: &Nf) -> Result<(), NoMemory>
     ensures { OnOk result (out.new.items ≡ out.old.items ++ form_written (side_names_in names.now) form.now) }
@@ -40,12 +48,11 @@ pub fn write_position(
     let Some(shared) = &position.equation else {
         return Ok(());
     };
-    out.extend_from_slice(before)?;
+    write_bytes(out, before)?;
     write_symbol(out, names, position.pos)?;
-    out.extend_from_slice(b" = ")?;
+    write_bytes(out, b" = ")?;
     write_form(out, names, shared.form())?;
-    out.extend_from_slice(b"\n")?;
-    Ok(())
+    write_bytes(out, b"\n")
 }
 
 // Adds a literal.
@@ -57,10 +64,7 @@ fn write_condition_text(
     ensures { OnOk result (out.new.items ≡ out.old.items ++ literal_text (side_names_in names.now) (literal_in literal.now)) }
 {
     match literal {
-        NLit::True => {
-            out.extend_from_slice(b"true")?;
-            Ok(())
-        }
+        NLit::True => write_bytes(out, b"true"),
         NLit::False | NLit::Is(_) => write_literal(out, names, literal),
     }
 }
@@ -75,10 +79,9 @@ pub fn write_condition(
     ensures { OnOk result (out.new.items ≡ out.old.items
         ++ condition_line before.now (side_names_in names.now) (literal_in literal.now)) }
 {
-    out.extend_from_slice(before)?;
+    write_bytes(out, before)?;
     write_condition_text(out, names, literal)?;
-    out.extend_from_slice(b"\n")?;
-    Ok(())
+    write_bytes(out, b"\n")
 }
 
 // Adds the equations of positions.

@@ -3,6 +3,7 @@
 ghost use Rattle.std.specs.Prelude.{◌≡◌, ◌++◌, OnOk, map, slice_get};
 ghost use Rattle.std.specs.List.{flat_map};
 ghost use Rattle.nf_rel.specs.View.{literal_in};
+ghost use Rattle.nf_terms.specs.Computed.{Computed, Answers};
 ghost use Rattle.sym_paths.specs.View.{post_in};
 ghost use Rattle.sym_facts.specs.Entailment.{form_substituted};
 ghost use Rattle.sym_facts.specs.View.{position_in, missing_in};
@@ -10,19 +11,47 @@ ghost use Rattle.show_fact_text.specs.LostLines.{computed_text, came_for, came_l
 ghost use Rattle.show_fact_text.specs.LostLines.{lost_literal, lost_condition, lost_lines};
 ghost use Rattle.show_fact_text.specs.View.{side_names_in};
 
-use crate::lines::{write_condition, write_form, write_position};
+use crate::lines::{write_bytes, write_condition, write_form, write_position};
 use crate::names::SideNames;
 use nf_rel::literals::NLit;
-use nf_substitution::subst::Subst;
+use nf_substitution::subst::{subst_arr, subst_poly, subst_seq};
 use nf_substitution::vector::Vector;
 use nf_terms::form::Nf;
 use nf_terms::stop::{NfStop, NoMemory};
 use std::alloc::Global;
-use sym_facts::entailment::{Entail, form_like, substitute};
+use sym_facts::entailment::{Entail, form_like};
 use sym_facts::fact::{Fact, FactPosition};
 use sym_paths::execution::Post;
 
-// Adds what the equation of a position asked for where a post arrived, and nothing where an operation is past a limit.
+// Adds a form that was computed, and nothing where an operation is past a limit.
+fn write_computed(
+    out: &mut Vec<u8>,
+    names: &SideNames<'_>,
+    computed: Result<Nf, NfStop>,
+) -> Result<(), NoMemory>
+    ensures { (c : Computed Nf) → Answers computed c
+        → OnOk result (out.new.items ≡ out.old.items ++ computed_text (side_names_in names.now) c) }
+{
+    match computed {
+        Ok(form) => write_form(out, names, &form),
+        Err(NfStop::Wide { .. }) => Ok(()),
+        Err(NfStop::Large { .. }) => Ok(()),
+        Err(NfStop::NoMemory) => Err(NoMemory),
+    }
+}
+
+// A form with a vector's forms in place of its symbols.
+fn substituted(alloc: Global, vector: &Vector, form: &Nf) -> Result<Nf, NfStop>
+    ensures { Answers result (form_substituted vector.now form.now) }
+{
+    match form {
+        Nf::Num(number) => Ok(Nf::Num(subst_poly(alloc, number, vector)?)),
+        Nf::Arr(array) => Ok(Nf::Arr(subst_arr(alloc, array, vector)?)),
+        Nf::Seq(list) => Ok(Nf::Seq(subst_seq(alloc, list, vector)?)),
+    }
+}
+
+// Adds what the equation of a position asked for where a post arrived.
 fn write_asked(
     alloc: Global,
     out: &mut Vec<u8>,
@@ -33,13 +62,7 @@ fn write_asked(
     ensures { OnOk result (out.new.items ≡ out.old.items
         ++ computed_text (side_names_in names.now) (form_substituted vector.now form.now)) }
 {
-    let mut s = Subst::new(alloc, vector);
-    match substitute(alloc, &mut s, form) {
-        Ok(asked) => write_form(out, names, &asked),
-        Err(NfStop::Wide { .. }) => Ok(()),
-        Err(NfStop::Large { .. }) => Ok(()),
-        Err(NfStop::NoMemory) => Err(NoMemory),
-    }
+    write_computed(out, names, substituted(alloc, vector, form))
 }
 
 // Adds a form that arrived, and what an equation asked for.
@@ -54,12 +77,11 @@ fn write_came_for(
     ensures { OnOk result (out.new.items ≡ out.old.items
         ++ came_for (side_names_in names.now) came.now (form_substituted vector.now form.now)) }
 {
-    out.extend_from_slice(b"    came ")?;
+    write_bytes(out, b"    came ")?;
     write_form(out, names, came)?;
-    out.extend_from_slice(b" for ")?;
+    write_bytes(out, b" for ")?;
     write_asked(alloc, out, names, vector, form)?;
-    out.extend_from_slice(b"\n")?;
-    Ok(())
+    write_bytes(out, b"\n")
 }
 
 // Adds what arrived for a position, and what its equation asked for.

@@ -6,6 +6,7 @@ ghost use Rattle.sym_paths.specs.Execution.{end_of};
 ghost use Rattle.search_tables.specs.SearchTables.{machines};
 ghost use Rattle.show_fact_text.specs.PointTexts.{points_text};
 
+use crate::lines::write_bytes;
 use fs_ast::machine::Machine;
 use fs_cut::cover::{Path, Point};
 use fs_cut::path_text::point_text;
@@ -21,10 +22,9 @@ pub fn write_points(
 ) -> Result<(), NoMemory>
     ensures { OnOk result (out.new.items ≡ out.old.items ++ points_text (machines a.now b.now) (point_of left) (point_of right)) }
 {
-    out.extend_from_slice(point_text(a, left))?;
-    out.extend_from_slice(b" | ")?;
-    out.extend_from_slice(point_text(b, right))?;
-    Ok(())
+    write_bytes(out, point_text(a, left))?;
+    write_bytes(out, b" | ")?;
+    write_bytes(out, point_text(b, right))
 }
 
 /// Where a side comes to, which keeps its point where it stays.
