@@ -1,5 +1,5 @@
 -- The facts of tables are of the positions.
-use Rattle.std.proofs.Common.{◌≡◌, ℕ, List, [], ◌∷◌}
+use Rattle.std.proofs.Common.{◌≡◌, ℕ, List, [], ◌∷◌, sym, subst}
 use Rattle.fs_model.proofs.Quantifiers.{each_append, each_at}
 use Rattle.search_tables.proofs.FactsOfPairing.{all_set}
 use Rattle.fs_cut.specs.Paths.{Point}
@@ -13,6 +13,9 @@ pub turned : (ps : List Position) (T : Table) (t : Turn) → AreOf ps T → HasF
 turned ps T Idle h g = h
 turned ps T (Makes P Q f) h g = each_append (λ (n : SearchNode). IsFactOf ps n.fact) T (record { left = P; right = Q; fact = f } ∷ []) h (g, tt)
 turned ps T (Weakens k P Q post x f) h g = all_set (λ (n : SearchNode). IsFactOf ps n.fact) T k (record { left = P; right = Q; fact = f }) h g
+
+pub turned_to : (ps : List Position) (T U : Table) (t : Turn) → AreOf ps T → HasFactOf ps t → U ≡ with_turn T t → AreOf ps U
+turned_to ps T U t h g e = subst (AreOf ps) (sym e) (turned ps T t h g)
 
 pub known_fact : (ps : List Position) (T : Table) (P Q : Point) (k : ℕ) (n : SearchNode) → AreOf ps T → node_target T P Q ≡ Known k n → IsFactOf ps n.fact
 known_fact ps T P Q k n h e =

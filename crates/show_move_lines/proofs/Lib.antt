@@ -1,4 +1,5 @@
 pub mod Shown
 pub mod Facts
+pub mod Retold
 pub mod Again
 mod Lookups

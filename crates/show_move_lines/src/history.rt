@@ -12,7 +12,7 @@ ghost use Rattle.show_move_lines.specs.View.{side_machines};
 
 use crate::lines::{write_node, write_turn};
 use crate::sides::Sides;
-use crate::turns::{make_turn, turn};
+use crate::turns::{make_told, turn};
 use cert_model::covers::cover_of;
 use fs_ast::machine::Machine;
 use fs_cut::cover::{Cover, Point};
@@ -61,9 +61,10 @@ fn tell_move(
         left: m.left,
         right: m.right,
     };
-    let turn = turn(alloc, m, nodes.as_slice(), at)?;
-    write_turn(alloc, m, &names, nodes.as_slice(), at, &turn, out)?;
-    make_turn(nodes, turn)
+    let table = nodes.as_slice();
+    let turn = turn(alloc, m, table, at)?;
+    let told = write_turn(alloc, m, &names, table, at, &turn, out);
+    make_told(told, nodes, turn)
 }
 
 // Adds the lines of moves, and makes them.

@@ -1,6 +1,6 @@
 //! Moves, made again.
 
-ghost use Rattle.std.specs.Prelude.{◌≡◌, IfOk, OnOk, slice_get, slice_set};
+ghost use Rattle.std.specs.Prelude.{◌≡◌, IfOk, OnOk, Ok, slice_get, slice_set};
 ghost use Rattle.fs_cut.specs.View.{point_of};
 ghost use Rattle.nf_terms.specs.Computed.{Answers};
 ghost use Rattle.sym_paths.specs.View.{answer_in_data, post_in};
@@ -166,4 +166,20 @@ pub fn make_turn(nodes: &mut Vec<TableNode>, turn: Turn) -> Result<(), NoMemory>
         } => put(nodes, node, TableNode { left, right, fact }),
     }
     Ok(())
+}
+
+/// Makes a turn where what tells it is written. A refusal to write that is handed on; then nothing is made. The one refusal is
+/// out of memory.
+pub fn make_told(
+    told: Result<(), NoMemory>,
+    nodes: &mut Vec<TableNode>,
+    turn: Turn,
+) -> Result<(), NoMemory>
+    ensures told { OnOk result (told ≡ Ok tt) }
+    ensures table { OnOk result (table_in nodes.new.items ≡ with_turn (table_in nodes.old.items) (turn_in turn)) }
+{
+    match told {
+        Ok(()) => make_turn(nodes, turn),
+        Err(refusal) => Err(refusal),
+    }
 }

@@ -16,3 +16,10 @@ returns-in-Some-clause-answers c =
     ∙ ap (option_map (λ (x : Bor TableNode). table_node_in x.now)) c.in-Some.is in
     subst (λ o. Answers (answer_in_data turn_in c.turn_from.result) (turn_by c.args.m.now.pairing.now (side_machines c.args.m.now) T c.args.at o)) (sym there)
     c.turn_from.ensures.answers
+
+pub returns-in-None-clause-answers : goal.returns-in-None-clause-answers
+returns-in-None-clause-answers c =
+    let T = table_in c.args.nodes.now in
+    let gone = looked_up table_node_in c.args.nodes.now c.args.at.node c.get.result c.get.ensures.lookup
+    ∙ ap (option_map (λ (x : Bor TableNode). table_node_in x.now)) c.in-None.is in
+    ap (turn_by c.args.m.now.pairing.now (side_machines c.args.m.now) T c.args.at) gone
