@@ -15,7 +15,7 @@ use show_machine_pictures::graphs::write_edge;
 use show_move_lines::lines::write_move;
 use show_move_lines::sides::Sides;
 use show_move_lines::turn::Turn;
-use show_move_lines::turns::{make_turn, turn};
+use show_move_lines::turns::{make_told, turn};
 use std::alloc::Global;
 
 // The label of a move: its paths.
@@ -88,9 +88,10 @@ fn draw_move(
         (turn_of_move m.now.pairing.now (side_machines m.now) (table_in nodes.old.items) at)) }
     ensures facts { OnOk result (AreOf m.now.pairing.now (table_in nodes.new.items)) }
 {
-    let turn = turn(alloc, m, nodes.as_slice(), at)?;
-    write_turn_edge(alloc, m, nodes.as_slice(), at, &turn, out)?;
-    make_turn(nodes, turn)
+    let table = nodes.as_slice();
+    let turn = turn(alloc, m, table, at)?;
+    let told = write_turn_edge(alloc, m, table, at, &turn, out);
+    make_told(told, nodes, turn)
 }
 
 /// Adds the edges of moves, and makes them. The one refusal is out of memory.
