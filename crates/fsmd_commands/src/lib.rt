@@ -10,4 +10,4 @@ mod chain;
 pub mod commands;
 mod pair_command;
 
-pub use fsmd_machine_commands::{compare, judge, load, pair, refused};
+pub use fsmd_machine_commands::{compare, judge, load, memory, pair, refused};

@@ -13,5 +13,5 @@ pub mod drive;
 pub mod program;
 pub mod put;
 
-pub use fsmd_commands::{compare, judge, load, pair, refused};
+pub use fsmd_commands::{compare, judge, load, memory, pair, refused};
 pub use fsmd_replies::answer;

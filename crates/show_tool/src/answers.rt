@@ -7,6 +7,7 @@ ghost use Rattle.cert_model.specs.Lawful.{IsLawful};
 ghost use Rattle.cert_model.specs.View.{node_of};
 ghost use Rattle.show_search_views.specs.Demands.{obligation_lines};
 ghost use Rattle.fsmd_tool.specs.ComparisonAnswers.{IsOfPair};
+ghost use Rattle.fsmd_replies.specs.declared.answer.Answer.TheVariants.{Differs};
 ghost use Rattle.fsmd_replies.specs.Replies.{equivalent_text};
 ghost use Rattle.show_search_views.specs.Why.{answer_behind};
 ghost use Rattle.show_tool.specs.Views.{behind, IsOfPicture, IsOfWhy, IsOfInputs, IsOfCertificate};
@@ -20,7 +21,7 @@ use fsmd_tool::judge::judge;
 use show_inputs_text::differing::differing_inputs;
 use show_search_views::obligations::obligation_lines;
 use show_search_views::pictures::search_picture;
-use show_search_views::why::{Explanation, PairAnswer, explain};
+use show_search_views::why::{PairAnswer, explain};
 use std::alloc::{AllocError, Global};
 
 // The most steps of a run from a candidate, where `check` is told none.
@@ -42,10 +43,9 @@ fn joined(mut lines: Vec<u8>, more: &[u8]) -> Result<Lines, AllocError>
 }
 
 // The answer of two machines behind the lines of what led to it.
-fn why_answer(alloc: Global, why: Explanation) -> Result<Answer, AllocError>
-    ensures { IfOk result (λ answer. answer ≡ answer_behind why.lines.items why.answer) }
+fn why_answer(alloc: Global, lines: Vec<u8>, answer: &PairAnswer) -> Result<Answer, AllocError>
+    ensures { IfOk result (λ told. told ≡ answer_behind lines.items answer.now) }
 {
-    let Explanation { lines, answer } = why;
     match answer {
         PairAnswer::Equivalent { cert } => {
             let line = equivalent_line(alloc, cert.nodes.len())?;
@@ -74,7 +74,7 @@ pub fn why_machines(
     ensures { IfOk result (IsOfWhy 10000 a.now b.now) }
 {
     match explain(alloc, a, b, p, STEPS) {
-        Ok(why) => why_answer(alloc, why),
+        Ok(why) => why_answer(alloc, why.lines, &why.answer),
         Err(_) => Err(AllocError),
     }
 }
@@ -98,23 +98,23 @@ pub fn picture_machines(
     }
 }
 
-// The file of inputs that show a difference, or else the answer that `check` gives.
+// The file of inputs that show a difference, or else the lines with which `check` tells of one.
 fn inputs_or(
     alloc: Global,
     a: &Machine,
     b: &Machine,
     p: &Pairing,
-    answer: Answer,
+    lines: Lines,
 ) -> Result<Answer, AllocError>
     requires interface { interface_fault a.now b.now ≡ None }
-    requires answer { IsOfPair 10000 false a.now b.now answer }
+    requires answer { IsOfPair 10000 false a.now b.now (Differs lines) }
     ensures { IfOk result (IsOfInputs 10000 a.now b.now) }
 {
     match differing_inputs(alloc, a, b, p, STEPS) {
         Ok(Some(file)) => Ok(Answer::Differs {
             lines: Lines::of(file),
         }),
-        Ok(None) => Ok(answer),
+        Ok(None) => Ok(Answer::Differs { lines }),
         Err(_) => Err(AllocError),
     }
 }
@@ -133,7 +133,7 @@ pub fn differing_machines(
 {
     let answer = compare(alloc, a, b, p, STEPS, false)?;
     match answer {
-        Answer::Differs { .. } => inputs_or(alloc, a, b, p, answer),
+        Answer::Differs { lines } => inputs_or(alloc, a, b, p, lines),
         _ => Ok(answer),
     }
 }
@@ -170,9 +170,8 @@ pub fn certificate_of(
     requires lawful { IsLawful a.now b.now (map node_of cert.now.nodes.items) }
     ensures { IfOk result (IsOfCertificate a.now b.now (map node_of cert.now.nodes.items)) }
 {
-    let answer = judge(alloc, a, b, p, cert)?;
     match obligation_lines(alloc, a, b, cert.nodes.as_slice()) {
-        Ok(lines) => behind(lines, answer),
+        Ok(lines) => behind(lines, judge(alloc, a, b, p, cert)?),
         Err(_) => Err(AllocError),
     }
 }

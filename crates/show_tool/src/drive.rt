@@ -1,11 +1,13 @@
 //! The top call: from words to a status.
 
-ghost use Rattle.std.specs.Prelude.{◌≡◌, ◌≤◌, IfOk};
+ghost use Rattle.std.specs.Prelude.{◌≡◌, ◌≤◌, IfOk, Some, None};
 ghost use Rattle.std.specs.Result.{OnErr};
 ghost use Rattle.fs_base.specs.Outside.{NoneFell};
 ghost use Rattle.fsmd_tool.specs.SinkReplies.{put_between};
 ghost use Rattle.fsmd_tool.specs.CertificateStores.{file_change, IsUnchangedStore};
-ghost use Rattle.show_tool.specs.ViewCalls.{shown_by_words, ViewOutcome, PutsOf};
+ghost use Rattle.fsmd_replies.specs.AskedFiles.{cert_of};
+ghost use Rattle.show_words.specs.ViewWords.{shown_view};
+ghost use Rattle.show_tool.specs.ViewCalls.{shown_by_words, ViewOutcome, IsShown, PutsOf};
 
 use crate::put::put_usage;
 use crate::views::answer_view;
@@ -14,8 +16,28 @@ use fsmd_replies::answer::Status;
 use fsmd_tool::put::put_answer;
 use fsmd_tool::refused::answer_of;
 use fsmd_words::asking::AskError;
+use show_words::asking::Show;
 use show_words::words::show;
 use std::alloc::{AllocError, Global};
+
+// Puts the reply to what is asked.
+fn put_reply_to<F: Files, S: Sink>(
+    alloc: Global,
+    show: &Show,
+    files: &mut F,
+    out: &mut S,
+) -> Result<Status, AllocError>
+    requires { cert_of (Some (shown_view show.now).asked) ≡ None }
+    ensures shown { IfOk result (λ status. IsShown (shown_view show.now) (F.told files.old) (F.told files.new)
+        (put_between status (S.told out.old) (S.told out.new))) }
+    ensures err { OnErr result ((S.told out.new).got ≡ (S.told out.old).got) }
+    ensures kept { IsUnchangedStore (file_change (F.told files.old) (F.told files.new)) }
+    ensures counts { NoneFell (F.told files.old).faults (F.told files.new).faults }
+    ensures sink_counts { (S.told out.old).faults ≤ (S.told out.new).faults }
+{
+    let answer = answer_of(answer_view(alloc, show, files))?;
+    put_answer(alloc, &answer, &show.ask, files, out)
+}
 
 // Puts the reply to words.
 fn put_reply<F: Files, S: Sink>(
@@ -32,10 +54,7 @@ fn put_reply<F: Files, S: Sink>(
     ensures sink_counts { (S.told out.old).faults ≤ (S.told out.new).faults }
 {
     match show(alloc, words) {
-        Ok(show) => {
-            let answer = answer_of(answer_view(alloc, &show, files))?;
-            put_answer(alloc, &answer, &show.ask, files, out)
-        }
+        Ok(show) => put_reply_to(alloc, &show, files, out),
         Err(AskError::Usage) => put_usage(out),
         Err(AskError::NoMemory) => Err(AllocError),
     }

@@ -17,6 +17,7 @@ use fs_base::outside::Files;
 use fs_pair::positions::Pairing;
 use fsmd_replies::answer::{Answer, Lines, Operand};
 use fsmd_tool::load::{load_certificate, load_machine};
+use fsmd_tool::memory::made_answer;
 use fsmd_tool::pair::{Pair, load_pair};
 use fsmd_tool::refused::Refused;
 use fsmd_words::asking::Ask;
@@ -81,7 +82,7 @@ fn show_pair<F: Files>(
         right,
         pairing,
     } = load_pair(alloc, ask, files)?;
-    Ok(answer_machines(alloc, view, &left, &right, &pairing)?)
+    made_answer(answer_machines(alloc, view, &left, &right, &pairing))
 }
 
 // What a certificate of two machines answers to the file that spells it.
@@ -101,7 +102,7 @@ fn show_certificate_of<F: Files>(
     ensures only_read { OnlyRead (F.told files.old) (F.told files.new) }
 {
     let cert = load_certificate(alloc, Operand(2), ask, left, right, pairing, files)?;
-    Ok(certificate_of(alloc, left, right, pairing, &cert)?)
+    made_answer(certificate_of(alloc, left, right, pairing, &cert))
 }
 
 // What `certificate` answers.

@@ -1,5 +1,10 @@
+use Rattle.std.proofs.Common.{subst, false}
+use Rattle.fsmd_tool.specs.ComparisonAnswers.{IsOfPair}
 use Rattle.show_tool.specs.Views.{Other}
 use Rattle.show_tool.proofs.answers.differing_machines.Goals as goal
 
 pub returns-in_default : goal.returns-in_default
 returns-in_default c = Other c.in_ok-answer.ensures
+
+pub inputs_or-requires-clause-answer : goal.inputs_or-requires-clause-answer
+inputs_or-requires-clause-answer c = subst (IsOfPair 10000 false c.args.a.now c.args.b.now) c.in-Differs.is c.in_ok-answer.ensures

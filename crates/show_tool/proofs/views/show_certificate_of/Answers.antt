@@ -9,6 +9,7 @@ use Rattle.cert_model.specs.View.{node_of}
 use Rattle.fsmd_tool.specs.Refusals.{RefusesCertificate, SpellsCertificate}
 use Rattle.fsmd_tool.specs.Follows.{Ends, OpensCertificate}
 use Rattle.fsmd_tool.proofs.FromFiles.{refused_as, spelled_last}
+use Rattle.fsmd_tool.proofs.InOrder.{made_answers}
 use Rattle.show_tool.specs.Views.{IsOfCertificate}
 use Rattle.show_tool.proofs.views.show_certificate_of.Goals as goal
 
@@ -21,9 +22,14 @@ returns-in_err-cert-clause-answers g c =
     search rules
 
 pub returns-clause-answers : goal.returns-clause-answers
-returns-clause-answers g c = spelled_last (List (Node Fact)) (RefusesCertificate c.args.left.now c.args.right.now)
-    (SpellsCertificate c.args.left.now c.args.right.now) (IsOfCertificate c.args.left.now c.args.right.now) 2 _ (map node_of c.in_ok-cert.cert.nodes.items)
-    c.in_ok-certificate_of.field-0 c.in_ok-cert.ensures.spells c.in_ok-certificate_of.ensures
+returns-clause-answers g c =
+    let a = c.args.left.now in
+    let b = c.args.right.now in
+    let nodes = map node_of c.in_ok-cert.cert.nodes.items in
+    made_answers (IsOfCertificate a b nodes) (IsCorrectFrom (OpensCertificate a b (λ v. Ends (IsOfCertificate a b v))) 2
+    (call (Some (asked_of_ask c.args.ask.now)) (g.F.Files.told c.args.files.now) (g.F.Files.told c.load_certificate.new.files)))
+    (λ x p. spelled_last (List (Node Fact)) (RefusesCertificate a b) (SpellsCertificate a b) (IsOfCertificate a b) 2 _ nodes x
+    c.in_ok-cert.ensures.spells p) c.certificate_of.result c.made_answer.result c.made_answer.ensures c.certificate_of.ensures
 
 pub certificate_of-requires-clause-lawful : goal.certificate_of-requires-clause-lawful
 certificate_of-requires-clause-lawful g c = c.in_ok-cert.ensures.spells.meet.lawful

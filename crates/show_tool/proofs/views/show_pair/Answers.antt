@@ -6,7 +6,7 @@ use Rattle.std.specs.Prelude.{Ok}
 use Rattle.show_tool.specs.Views.{IsOfPairView}
 use Rattle.fsmd_tool.specs.Follows.{Ends, OpensPair}
 use Rattle.fsmd_tool.proofs.FromFiles.{ended, pair_refused, pair_spelled}
-use Rattle.fsmd_tool.proofs.InOrder.{correct_of}
+use Rattle.fsmd_tool.proofs.InOrder.{correct_of, made_answers}
 use Rattle.show_tool.proofs.views.show_pair.Goals as goal
 
 pub returns-in_err-left-clause-answers : goal.returns-in_err-left-clause-answers
@@ -18,7 +18,11 @@ returns-in_err-left-clause-answers g c =
 
 pub returns-clause-answers : goal.returns-clause-answers
 returns-clause-answers g c =
-    pair_spelled (λ a b. Ends (IsOfPairView c.args.view a b))
-    _ c.in_ok-left.field-0.left c.in_ok-left.field-0.right c.in_ok-left.ensures.left c.in_ok-left.ensures.right c.in_ok-left.ensures.alike
-    (Ok c.in_ok-answer_machines.field-0)
-    (ended (IsOfPairView c.args.view c.in_ok-left.field-0.left c.in_ok-left.field-0.right) 2 _ c.in_ok-answer_machines.field-0 c.in_ok-answer_machines.ensures)
+    let a = c.in_ok-left.field-0.left in
+    let b = c.in_ok-left.field-0.right in
+    let Q = IsOfPairView c.args.view in
+    let h = c.in_ok-left.ensures in
+    made_answers (Q a b) (IsCorrectFrom (OpensPair (λ a b. Ends (Q a b))) 0
+    (call (Some (asked_of_ask c.args.ask.now)) (g.F.Files.told c.args.files.now) (g.F.Files.told c.load_pair.new.files)))
+    (λ x p. pair_spelled (λ a b. Ends (Q a b)) _ a b h.left h.right h.alike (Ok x) (ended (Q a b) 2 _ x p)) c.answer_machines.result
+    c.made_answer.result c.made_answer.ensures c.answer_machines.ensures
