@@ -1,7 +1,6 @@
 //! Faults of bytes: those that begin no token, and those that are no text.
 
 use crate::cases::is_told;
-use std::alloc::AllocError;
 
 /// Bytes of a text that begin no token.
 pub static BAD_BYTES: &str =
@@ -35,26 +34,27 @@ goto s;¦\u{7f}
 goto s;¦\u{a0}
 ¦\u{1b}goto s;";
 
+// Bytes that are no text, and what is told of them.
+static NO_TEXTS: [(&[u8], &str); 8] = [
+    (b"\xff", "bad input: a.fsmd:1:1: BadByte\n"),
+    (b"\xef\xbb\xbffsmd 1;", "bad input: a.fsmd:1:1: BadByte\n"),
+    (b"\xfe\xfff\0s\0", "bad input: a.fsmd:1:1: BadByte\n"),
+    (b"fsmd\x80 1;", "bad input: a.fsmd:1:5: BadByte\n"),
+    (b"fsmd 1\xc3", "bad input: a.fsmd:1:7: BadByte\n"),
+    (b"fsmd 1;\ninput a\xa0;", "bad input: a.fsmd:2:8: BadByte\n"),
+    (
+        b"fsmd 1; # \xff\xfe\n\x80",
+        "bad input: a.fsmd:2:1: BadByte\n",
+    ),
+    (b"# \xff\xfe\0\x80", "bad input: a.fsmd:1:7: Ended\n"),
+];
+
 #[test]
-fn bytes_that_are_no_text(rt: HostRuntime) -> Result<(), AllocError> {
-    let cases: [(&[u8], &str); 8] = [
-        (b"\xff", "bad input: a.fsmd:1:1: BadByte\n"),
-        (b"\xef\xbb\xbffsmd 1;", "bad input: a.fsmd:1:1: BadByte\n"),
-        (b"\xfe\xfff\0s\0", "bad input: a.fsmd:1:1: BadByte\n"),
-        (b"fsmd\x80 1;", "bad input: a.fsmd:1:5: BadByte\n"),
-        (b"fsmd 1\xc3", "bad input: a.fsmd:1:7: BadByte\n"),
-        (b"fsmd 1;\ninput a\xa0;", "bad input: a.fsmd:2:8: BadByte\n"),
-        (
-            b"fsmd 1; # \xff\xfe\n\x80",
-            "bad input: a.fsmd:2:1: BadByte\n",
-        ),
-        (b"# \xff\xfe\0\x80", "bad input: a.fsmd:1:7: Ended\n"),
-    ];
-    for (left, reply) in cases {
+fn bytes_that_are_no_text(rt: HostRuntime) {
+    for (left, reply) in &NO_TEXTS {
         assert!(rt;
-            is_told(rt.alloc(), "check a.fsmd b.fsmd", left, reply)?,
+            is_told(rt.alloc(), "check a.fsmd b.fsmd", left, reply),
             "{reply}"
         );
     }
-    Ok(())
 }

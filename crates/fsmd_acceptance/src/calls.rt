@@ -1,14 +1,11 @@
 //! Public calls that the program does not make: what an input and a variable hold.
 
-ghost use Rattle.std.specs.Prelude.{◌<◌, length};
 ghost use Rattle.fs_stores.specs.InputValues.{Serves, signatures_of};
-ghost use Rattle.fs_stores.specs.Values.{values_of};
 
 use crate::machines::reading::machine;
 use fs_ast::machine::Machine;
 use fs_model::parts::VarId;
 use fs_stores::inputs::{Inputs, start};
-use fs_stores::store::Store;
 use fs_stores::values::Value;
 use std::alloc::Global;
 
@@ -26,16 +23,6 @@ pub fn value_at(inputs: &Inputs, k: u32, i: i128) -> Option<i128> {
     }
 }
 
-// The number that the first variable holds.
-fn first_number(store: &Store) -> Option<i128>
-    requires { 0 < length (values_of store.now) }
-{
-    match store.get(VarId(0)) {
-        Value::Num(n) => Some(*n),
-        Value::Arr(_) | Value::List(_) => None,
-    }
-}
-
 // The number that the first variable holds as a run begins, where there is a variable.
 fn begins_with(alloc: Global, machine: &Machine, inputs: &Inputs) -> Option<i128>
     requires { Serves (signatures_of inputs.now) machine.now }
@@ -43,10 +30,11 @@ fn begins_with(alloc: Global, machine: &Machine, inputs: &Inputs) -> Option<i128
     if machine.vars().is_empty() {
         return None;
     }
-    let Ok(store) = start(alloc, machine, inputs) else {
-        return None;
-    };
-    first_number(&store)
+    let store = start(alloc, machine, inputs).ok()?;
+    match store.get(VarId(0)) {
+        Value::Num(n) => Some(*n),
+        Value::Arr(_) | Value::List(_) => None,
+    }
 }
 
 // Whether a run of a machine begins with 0 for its one input and in its first variable.

@@ -30,33 +30,25 @@ fn part(case: &str, place: usize) -> &str {
     case.split('¦').nth(place).unwrap_or("")
 }
 
-/// Whether the program answers as a case says.
-pub fn is_answered(alloc: Global, case: &str) -> Result<bool, AllocError> {
+/// Whether there is memory, and the program answers as a case says.
+pub fn is_answered(alloc: Global, case: &str) -> bool {
     is_told(alloc, case, part(case, LEFT).as_bytes(), part(case, REPLY))
 }
 
 /// The same with these bytes for the left machine and this reply.
-pub fn is_told(alloc: Global, case: &str, left: &[u8], reply: &str) -> Result<bool, AllocError> {
-    let mut files = MemFiles::new(alloc, numbers(alloc, part(case, FAILS))?);
-    if !are_held(&mut files, case, left) {
-        return Err(AllocError);
+pub fn is_told(alloc: Global, case: &str, left: &[u8], reply: &str) -> bool {
+    match numbers(alloc, part(case, FAILS)) {
+        Ok(fails) => is_told_over(alloc, case, left, reply, &mut MemFiles::new(alloc, fails)),
+        Err(_) => false,
     }
-    is_told_over(alloc, case, &mut files, reply)
 }
 
-// The same over these files.
-fn is_told_over(
-    alloc: Global,
-    case: &str,
-    files: &mut MemFiles,
-    reply: &str,
-) -> Result<bool, AllocError> {
-    let is_put = puts_last(alloc, case, files, reply)?;
-    Ok(
-        is_put
-            && is_stored(files.get("c.json").unwrap_or(b""), case)
-            && (part(case, FAILS).is_empty() || files.load(alloc, "a.fsmd", 1_048_576).is_err()),
-    )
+// The same over files without a file.
+fn is_told_over(alloc: Global, case: &str, left: &[u8], reply: &str, files: &mut MemFiles) -> bool {
+    are_held(files, case, left)
+        && puts_last(alloc, case, reply, files)
+        && is_stored(files.get("c.json").unwrap_or(b""), case)
+        && (part(case, FAILS).is_empty() || files.load(alloc, "a.fsmd", 1_048_576).is_err())
 }
 
 // Whether there is memory to add the files.
@@ -88,45 +80,28 @@ fn numbers(alloc: Global, text: &str) -> Result<Vec<u64>, AllocError> {
 }
 
 // Whether the last of the commands puts this reply; each works over the files as the one before left them.
-fn puts_last(
-    alloc: Global,
-    case: &str,
-    files: &mut MemFiles,
-    reply: &str,
-) -> Result<bool, AllocError> {
+fn puts_last(alloc: Global, case: &str, reply: &str, files: &mut MemFiles) -> bool {
     let mut is_put = false;
     for words in part(case, WORDS).split(" && ") {
-        is_put = puts(alloc, words, part(case, TAKES), files, reply)?;
+        is_put = match words_of(alloc, words) {
+            Ok(words) => puts(alloc, words.as_slice(), part(case, TAKES), reply, files),
+            Err(_) => false,
+        };
     }
-    Ok(is_put)
+    is_put
 }
 
 // Whether these words put this reply, with the status that goes with it, to a sink that takes so many bytes a call.
-fn puts(
-    alloc: Global,
-    words: &str,
-    takes: &str,
-    files: &mut MemFiles,
-    reply: &str,
-) -> Result<bool, AllocError> {
-    let words = words_of(alloc, words)?;
-    puts_by(alloc, words.as_slice(), takes, files, reply)
-}
-
-// The same of words in a list.
-fn puts_by(
-    alloc: Global,
-    words: &[String],
-    takes: &str,
-    files: &mut MemFiles,
-    reply: &str,
-) -> Result<bool, AllocError> {
-    let mut out = MemSink::new(alloc, numbers(alloc, takes)?);
-    if out.reserve(40_000).is_err() {
-        return Err(AllocError);
+fn puts(alloc: Global, words: &[String], takes: &str, reply: &str, files: &mut MemFiles) -> bool {
+    match numbers(alloc, takes) {
+        Ok(counts) => {
+            let mut out = MemSink::new(alloc, counts);
+            out.reserve(40_000).is_ok()
+                && drive(alloc, words, files, &mut out) == status_of(reply, takes)
+                && is_text(out.bytes(), reply)
+        }
+        Err(_) => false,
     }
-    let status = drive(alloc, words, files, &mut out);
-    Ok(status == status_of(reply, takes) && is_text(out.bytes(), reply))
 }
 
 /// The words of a command, which blanks part.

@@ -1,6 +1,6 @@
 //! Certificates, stored by `check` and judged by `verify` and `chain`.
 
-use crate::tables::each_table;
+use crate::tables::each_text;
 
 mod arrays;
 mod chains;
@@ -18,17 +18,23 @@ mod writing;
 
 #[test]
 fn certificates_of_pairs(rt: HostRuntime) {
-    each_table(&rt, rt.alloc(), arrays::TABLES);
-    each_table(&rt, rt.alloc(), chains::TABLES);
-    each_table(&rt, rt.alloc(), damage::TABLES);
-    each_table(&rt, rt.alloc(), faults::TABLES);
-    each_table(&rt, rt.alloc(), lists::TABLES);
-    each_table(&rt, rt.alloc(), order::TABLES);
-    each_table(&rt, rt.alloc(), ranks::TABLES);
-    each_table(&rt, rt.alloc(), refusals::TABLES);
-    each_table(&rt, rt.alloc(), stored::TABLES);
-    each_table(&rt, rt.alloc(), terms::TABLES);
-    each_table(&rt, rt.alloc(), undecided::TABLES);
-    each_table(&rt, rt.alloc(), verdicts::TABLES);
-    each_table(&rt, rt.alloc(), writing::TABLES);
+    each_text(
+        &rt,
+        rt.alloc(),
+        &[
+            arrays::TABLES,
+            chains::TABLES,
+            damage::TABLES,
+            faults::TABLES,
+            lists::TABLES,
+            order::TABLES,
+            ranks::TABLES,
+            refusals::TABLES,
+            stored::TABLES,
+            terms::TABLES,
+            undecided::TABLES,
+            verdicts::TABLES,
+            writing::TABLES,
+        ],
+    );
 }

@@ -1,6 +1,6 @@
 //! Pairs of machines as `check` answers of them.
 
-use crate::tables::each_table;
+use crate::tables::each_text;
 
 mod alike;
 mod arrays;
@@ -15,14 +15,20 @@ mod sums;
 
 #[test]
 fn pairs_of_machines(rt: HostRuntime) {
-    each_table(&rt, rt.alloc(), alike::TABLES);
-    each_table(&rt, rt.alloc(), arrays::TABLES);
-    each_table(&rt, rt.alloc(), differences::TABLES);
-    each_table(&rt, rt.alloc(), division::TABLES);
-    each_table(&rt, rt.alloc(), generated::TABLES);
-    each_table(&rt, rt.alloc(), lists::TABLES);
-    each_table(&rt, rt.alloc(), obstacles::TABLES);
-    each_table(&rt, rt.alloc(), schedules::TABLES);
-    each_table(&rt, rt.alloc(), second_search::TABLES);
-    each_table(&rt, rt.alloc(), sums::TABLES);
+    each_text(
+        &rt,
+        rt.alloc(),
+        &[
+            alike::TABLES,
+            arrays::TABLES,
+            differences::TABLES,
+            division::TABLES,
+            generated::TABLES,
+            lists::TABLES,
+            obstacles::TABLES,
+            schedules::TABLES,
+            second_search::TABLES,
+            sums::TABLES,
+        ],
+    );
 }

@@ -282,9 +282,9 @@ pub fn text_of(name: &str) -> Option<&'static str> {
         return Some(SOLVER);
     }
     for part in NAMED.split("\n\n") {
-        let (this, text) = part.split_once(":\n").unwrap_or((part, ""));
-        if this == name {
-            return Some(text);
+        let text = part.strip_prefix(name).unwrap_or("").strip_prefix(":\n");
+        if text.is_some() {
+            return text;
         }
     }
     None

@@ -83,20 +83,16 @@ pub fn with_runs(alloc: Global, text: &str, open: &str, close: &str) -> Result<S
 
 fn push_run(all: &mut String, run: &str) -> Result<(), AllocError> {
     let (span, item) = run.split_once(':').unwrap_or(("", ""));
-    if let Some(times) = span.strip_suffix(" times") {
-        return push_times(all, item, number(times));
+    let mut words = span.split(' ');
+    let first = number(words.next().unwrap_or(""));
+    if words.next() == Some("times") {
+        return push_times(all, item, first);
     }
-    match span.strip_suffix(" of") {
-        Some(span) => all.push_str(bytes_of(item, span)),
-        None => push_numbered(all, item, span),
+    let end = number(words.next().unwrap_or(""));
+    match words.next() {
+        None => push_numbered(all, item, first, end),
+        Some(_) => all.push_str(item.get(first as usize..end as usize).unwrap_or("")),
     }
-}
-
-// The bytes of a text from the first place of a span on up to its end, as `2 to 4`.
-fn bytes_of<'a>(text: &'a str, span: &str) -> &'a str {
-    let (first, end) = span.split_once(" to ").unwrap_or(("", ""));
-    text.get(number(first) as usize..number(end) as usize)
-        .unwrap_or("")
 }
 
 fn push_times(all: &mut String, item: &str, times: u32) -> Result<(), AllocError> {
@@ -106,16 +102,15 @@ fn push_times(all: &mut String, item: &str, times: u32) -> Result<(), AllocError
     Ok(())
 }
 
-// Adds the item for each number of a span, as `2 to 4`.
-fn push_numbered(all: &mut String, item: &str, span: &str) -> Result<(), AllocError> {
-    let (first, end) = span.split_once(" to ").unwrap_or(("", ""));
-    for this in number(first)..number(end) {
+// Adds the item for each number from the first on up to the end.
+fn push_numbered(all: &mut String, item: &str, first: u32, end: u32) -> Result<(), AllocError> {
+    for this in first..end {
         push_item(all, item, this)?;
     }
     Ok(())
 }
 
-// Adds the item with a number and the next in their places.
+// Adds the item with a number in the place of each `#`, and the next one in that of `#+1`.
 fn push_item(all: &mut String, item: &str, this: u32) -> Result<(), AllocError> {
     let mut pieces = item.split('#');
     all.push_str(pieces.next().unwrap_or(""))?;
@@ -125,7 +120,7 @@ fn push_item(all: &mut String, item: &str, this: u32) -> Result<(), AllocError> 
     Ok(())
 }
 
-// Adds this number, or the next one for `+1`, in the place of a `#`, and what stands behind.
+// Adds this number, or the next one for `+1`, and what stands behind.
 fn push_number(all: &mut String, piece: &str, this: u32) -> Result<(), AllocError> {
     let (number, rest) = match piece.strip_prefix("+1") {
         Some(rest) => (this.saturating_add(1), rest),
@@ -134,8 +129,9 @@ fn push_number(all: &mut String, piece: &str, this: u32) -> Result<(), AllocErro
     write!(all, "{number}{rest}")
 }
 
-fn number(digits: &str) -> u32 {
-    digits.parse().unwrap_or(0)
+/// The number of a text, and the largest one where it has none.
+pub fn number(digits: &str) -> u32 {
+    digits.parse().unwrap_or(u32::MAX)
 }
 
 // A case with the place behind the first `▸` in place of the second one.

@@ -2,54 +2,45 @@
 
 use crate::cases::is_answered;
 use crate::spelling::{fill, with_runs};
-use std::alloc::{AllocError, Global};
+use std::alloc::Global;
 use std::process::Abort;
 
-/// Asserts that there is memory, and each case of each table of a text.
-pub fn each_table(rt: &impl Abort, alloc: Global, text: &str) {
-    assert!(rt; each_spelled(rt, alloc, text).is_ok(), "no memory");
-}
-
-fn each_spelled(rt: &impl Abort, alloc: Global, text: &str) -> Result<(), AllocError> {
-    let text = with_runs(alloc, text, "(each ", "each)")?;
-    each_written(rt, alloc, text.as_str())
+/// Asserts each case of each table of these texts.
+pub fn each_text(rt: &impl Abort, alloc: Global, texts: &[&str]) {
+    for text in texts {
+        let text = with_runs(alloc, text, "(each ", "each)").expect(rt, "no memory");
+        each_table(rt, alloc, text.as_str());
+    }
 }
 
 // The same of a text whose rows are all written out.
-fn each_written(rt: &impl Abort, alloc: Global, text: &str) -> Result<(), AllocError> {
+fn each_table(rt: &impl Abort, alloc: Global, text: &str) {
     for table in text.split("\n\n") {
         let (head, rows) = table.split_once("\n:\n").unwrap_or((table, "one case"));
-        each_line(rt, alloc, head, rows)?;
+        each_line(rt, alloc, head, rows);
     }
-    Ok(())
 }
 
 // The same of one table. The form is the last line of the head before those that begin with `+`.
-fn each_line(rt: &impl Abort, alloc: Global, head: &str, rows: &str) -> Result<(), AllocError> {
+fn each_line(rt: &impl Abort, alloc: Global, head: &str, rows: &str) {
     let (front, lines) = head.split_once("\n+ ").unwrap_or((head, ""));
     for line in lines.split("\n+ ") {
-        each_row(rt, alloc, front, line, rows)?;
+        each_row(rt, alloc, front, line, rows);
     }
-    Ok(())
 }
 
 // The same with the cells of one such line.
-fn each_row(
-    rt: &impl Abort,
-    alloc: Global,
-    front: &str,
-    line: &str,
-    rows: &str,
-) -> Result<(), AllocError> {
+fn each_row(rt: &impl Abort, alloc: Global, front: &str, line: &str, rows: &str) {
     for row in rows.lines() {
-        assert!(rt; holds(alloc, front, line, row)?, "{front}\n{line}\n{row}");
+        assert!(rt; holds(alloc, front, line, row), "{front}\n{line}\n{row}");
     }
-    Ok(())
 }
 
-// Whether the program answers as the form says with the cells of this line and this row.
-fn holds(alloc: Global, front: &str, line: &str, row: &str) -> Result<bool, AllocError> {
+// Whether there is memory, and the program answers as the form says with the cells of this line and this row.
+fn holds(alloc: Global, front: &str, line: &str, row: &str) -> bool {
     let (_, form) = front.rsplit_once('\n').unwrap_or(("", front));
-    let case = fill(alloc, form, line, row)?;
-    is_answered(alloc, case.as_str())
+    match fill(alloc, form, line, row) {
+        Ok(case) => is_answered(alloc, case.as_str()),
+        Err(_) => false,
+    }
 }

@@ -44,29 +44,32 @@ state s0: goto s0: emit p a, emit p b;";
 const EMITS_EXCHANGED: &str = "fsmd 2; input a, b; port p; reset s0;
 state s0: goto s0: emit p b, emit p a;";
 
-// The number of the first candidate that shows a difference of two texts' machines, if one does.
-fn first(alloc: Global, left: &str, right: &str) -> Option<Option<u64>> {
-    match first_of_texts(alloc, left, right)? {
-        Some(found) => Some(Some(found.j)),
-        None => Some(None),
+// Two texts, and the number of the first candidate that shows a difference of their machines, if one does. The least candidate
+// counts, over scalars, arrays and ports. A value that no candidate has, and a run that does not end, show nothing.
+static PAIRS: [(&str, &str, Option<u64>); 7] = [
+    (SUM, SQUARES, Some(1)),
+    (MOVED, MOVED_WRONGLY, Some(2)),
+    (WRITES, WRITES_EXCHANGED, Some(0)),
+    (EMITS, EMITS_EXCHANGED, Some(4)),
+    (SUM, SUM, None),
+    (RARE, NEVER, None),
+    (MAY_NEVER_END, ENDS_AT_ONCE, None),
+];
+
+// Whether the first candidate that shows a difference of two texts' machines has this number, or none shows one.
+fn is_first(alloc: Global, left: &str, right: &str, number: Option<u64>) -> bool {
+    match first_of_texts(alloc, left, right) {
+        Some(Some(found)) => number == Some(found.j),
+        Some(None) => number.is_none(),
+        None => false,
     }
 }
 
-// The least candidate counts, over scalars, arrays and ports. A value that no candidate has, and a run that does not end, show
-// nothing.
 #[test]
 fn least_candidates(rt: HostRuntime) {
-    for (left, right, number) in [
-        (SUM, SQUARES, Some(1)),
-        (MOVED, MOVED_WRONGLY, Some(2)),
-        (WRITES, WRITES_EXCHANGED, Some(0)),
-        (EMITS, EMITS_EXCHANGED, Some(4)),
-        (SUM, SUM, None),
-        (RARE, NEVER, None),
-        (MAY_NEVER_END, ENDS_AT_ONCE, None),
-    ] {
+    for (left, right, number) in &PAIRS {
         assert!(rt;
-            first(rt.alloc(), left, right) == Some(number),
+            is_first(rt.alloc(), left, right, *number),
             "{left} {right}"
         );
     }

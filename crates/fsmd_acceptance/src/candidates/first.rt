@@ -9,20 +9,13 @@ use std::alloc::Global;
 /// The first stated candidate that shows a difference within 1,000 steps. Nothing at all where the interfaces are not the same,
 /// or there is no memory.
 pub fn first_found(alloc: Global, left: &Machine, right: &Machine) -> Option<Option<Found>> {
-    let Ok(pairing) = same_interface(alloc, left, right) else {
-        return None;
-    };
+    let pairing = same_interface(alloc, left, right).ok()?;
     first_difference(alloc, left, right, &pairing, 1_000).ok()
-}
-
-// The same of a machine and that of a text.
-fn first_against(alloc: Global, left: &Machine, right: &str) -> Option<Option<Found>> {
-    let right = machine(alloc, right).ok()?;
-    first_found(alloc, left, &right)
 }
 
 /// The same of two texts' machines.
 pub fn first_of_texts(alloc: Global, left: &str, right: &str) -> Option<Option<Found>> {
     let left = machine(alloc, left).ok()?;
-    first_against(alloc, &left, right)
+    let right = machine(alloc, right).ok()?;
+    first_found(alloc, &left, &right)
 }

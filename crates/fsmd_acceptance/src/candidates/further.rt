@@ -34,31 +34,34 @@ fn given(alloc: Global, m: &Machine, j: u64, k: u32, i: i128) -> Option<i128> {
     value_at(&inputs, k, i)
 }
 
-// The first, one in the middle and the last, each at two scalars and at places of an array.
+// The first, one in the middle and the last, each at two scalars and at places of an array: the number of the candidate, the
+// input, the index and what is given.
+static NUMBERS: [(u64, u32, i128, i128); 17] = [
+    (0, 0, 0, 99),
+    (0, 1, 0, 8),
+    (0, 2, 0, 101),
+    (0, 2, 1, 4),
+    (0, 2, 31, -2),
+    (0, 2, 32, 0),
+    (0, 2, -1, 0),
+    (7, 0, 0, 8),
+    (7, 1, 0, 16),
+    (7, 2, 3, 101),
+    (7, 2, 15, 12),
+    (7, 2, 16, 8),
+    (255, 0, 0, -3),
+    (255, 1, 0, 2),
+    (255, 2, 0, 9),
+    (255, 2, 31, 100),
+    (255, 2, 32, 0),
+];
+
 #[test]
 fn numbers_of_further_candidates(rt: HostRuntime) -> Result<(), &'static str> {
     let machine = machine(rt.alloc(), CONSTANTS)?;
-    for (j, k, i, number) in [
-        (0, 0, 0, 99),
-        (0, 1, 0, 8),
-        (0, 2, 0, 101),
-        (0, 2, 1, 4),
-        (0, 2, 31, -2),
-        (0, 2, 32, 0),
-        (0, 2, -1, 0),
-        (7, 0, 0, 8),
-        (7, 1, 0, 16),
-        (7, 2, 3, 101),
-        (7, 2, 15, 12),
-        (7, 2, 16, 8),
-        (255, 0, 0, -3),
-        (255, 1, 0, 2),
-        (255, 2, 0, 9),
-        (255, 2, 31, 100),
-        (255, 2, 32, 0),
-    ] {
+    for (j, k, i, number) in &NUMBERS {
         assert!(rt;
-            given(rt.alloc(), &machine, j, k, i) == Some(number),
+            given(rt.alloc(), &machine, *j, *k, *i) == Some(*number),
             "candidate {j}, input {k}, index {i}"
         );
     }

@@ -15,11 +15,12 @@ state q0: goto q0: y = a;";
 // Whether a position is that of a text: a machine's letter, the number of its variable there, and the place of its partner.
 fn is_position(position: &Position, text: &str) -> bool {
     let (place, partner) = text.split_once(" with ").unwrap_or((text, ""));
-    let var = match position.pos.side {
-        Side::Left => place.strip_prefix("L"),
-        Side::Right => place.strip_prefix("R"),
+    let side = match position.pos.side {
+        Side::Left => 'L',
+        Side::Right => 'R',
     };
-    var.unwrap_or("").parse::<u32>().ok() == Some(position.pos.var)
+    let var = place.strip_prefix(side).unwrap_or("");
+    var.parse::<u32>().ok() == Some(position.pos.var)
         && partner.parse::<u32>().ok() == position.partner
 }
 

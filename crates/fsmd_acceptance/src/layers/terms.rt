@@ -3,7 +3,7 @@
 //! An empty line parts two tables. The rows of each table are of one kind, and its first line has its name. A text in a row is a
 //! list of words, each behind what it works on, as in `a b + 2 *`.
 
-use crate::layers::terms::rows::each_text;
+use crate::layers::terms::rows::{Subject, each_table};
 
 mod calls;
 mod forms;
@@ -18,17 +18,15 @@ mod trees;
 
 #[test]
 fn worked_examples(rt: HostRuntime) {
-    each_text(
-        &rt,
-        rt.alloc(),
-        &[
-            calls::TABLES,
-            literals::TABLES,
-            measures::TABLES,
-            normal::TABLES,
-            operations::TABLES,
-            orders::TABLES,
-            substitutions::TABLES,
-        ],
-    )
+    for (subject, text) in &[
+        (Subject::Calls, calls::TABLES),
+        (Subject::Literals, literals::TABLES),
+        (Subject::Measures, measures::TABLES),
+        (Subject::Normal, normal::TABLES),
+        (Subject::Operations, operations::TABLES),
+        (Subject::Orders, orders::TABLES),
+        (Subject::Substitutions, substitutions::TABLES),
+    ] {
+        each_table(&rt, rt.alloc(), subject, text);
+    }
 }

@@ -41,18 +41,13 @@ fn are_found(a: Option<&[u8]>, b: Option<&[u8]>) -> bool {
     }
 }
 
-// Whether two calls fail.
-fn two_fail<F: Files>(alloc: Global, files: &mut F) -> bool {
-    load_fails(alloc, files, "a")
-        && files.store(alloc, "a", b"four") == Err(StoreError::Failed)
-        && load_fails(alloc, files, "b")
-}
-
 // Whether files without a file, whose calls 4 and 5 fail, answer.
 fn fail_by_a_list(alloc: Global, files: &mut MemFiles) -> bool {
     files.add("a", b"three") == Ok(())
         && load_and_store(alloc, files)
-        && two_fail(alloc, files)
+        && load_fails(alloc, files, "a")
+        && files.store(alloc, "a", b"four") == Err(StoreError::Failed)
+        && load_fails(alloc, files, "b")
         && are_found(files.get("a"), files.get("b"))
 }
 
@@ -78,9 +73,10 @@ fn loaded<F: Files>(files: &RecordedFiles<F>, want: &str) -> bool {
     left.next().is_none()
 }
 
-// Whether files that hold 'three' under 'a', and whose call 4 fails, tell which were loaded.
+// Whether files without a file, whose call 5 fails, tell which were loaded.
 fn tells_which<F: Files>(alloc: Global, files: &mut RecordedFiles<F>) -> bool {
-    loaded(files, "")
+    files.store(alloc, "a", b"three") == Ok(())
+        && loaded(files, "")
         && load_and_store(alloc, files)
         && loaded(files, "a a a")
         && load_fails(alloc, files, "a")
@@ -88,21 +84,14 @@ fn tells_which<F: Files>(alloc: Global, files: &mut RecordedFiles<F>) -> bool {
         && loaded(files, "a a a a b")
 }
 
-// The same of files without a file.
-fn tells_which_of(alloc: Global, mut within: MemFiles) -> bool {
-    if within.add("a", b"three") != Ok(()) {
-        return false;
-    }
-    tells_which(alloc, &mut RecordedFiles::new(alloc, within))
-}
-
 #[test]
 fn files_in_memory(rt: HostRuntime) -> Result<(), AllocError> {
     let fails = vec![in rt.alloc(); 4, 5]?;
     assert!(rt; fail_by_a_list(rt.alloc(), &mut MemFiles::new(rt.alloc(), fails)));
     assert!(rt; never_fail(rt.alloc(), &mut CleanFiles::new(rt.alloc())));
-    let fails = vec![in rt.alloc(); 4]?;
-    assert!(rt; tells_which_of(rt.alloc(), MemFiles::new(rt.alloc(), fails)));
+    let fails = vec![in rt.alloc(); 5]?;
+    let within = MemFiles::new(rt.alloc(), fails);
+    assert!(rt; tells_which(rt.alloc(), &mut RecordedFiles::new(rt.alloc(), within)));
     Ok(())
 }
 

@@ -2,15 +2,12 @@
 
 use crate::machines::reading::machine;
 use crate::machines::samples::SOLVER;
+use crate::spelling::number;
 use fs_ast::machine::Machine;
 use fs_model::parts::StateId;
 use hls_sched::arrivals::count_arrivals;
 use hls_sched::lines::{Line, firsts, is_straight, item, trace_line};
 use std::alloc::Global;
-
-fn number(text: &str) -> u32 {
-    text.parse::<u32>().unwrap_or(u32::MAX)
-}
 
 // Whether a line has the states of a text, and leads where that says, as `4 5 to 0`.
 fn is_line(line: &Line, text: &str) -> bool {
@@ -104,23 +101,26 @@ fn leads(alloc: Global, text: &str, lines: &str, states: &str) -> bool {
     }
 }
 
+// Texts of machines, their lines and the states that stand in them.
+static MACHINES: [(&str, &str, &str); 5] = [
+    (
+        SOLVER,
+        "2 3 4 5 6 7 8 9 10 to 1",
+        "2: 1; 3: 1; 4: 1; 5: 1; 6: 1; 7: 1; 8: 1; 9: 1; 10: 1",
+    ),
+    (
+        MEETING,
+        "2 to 4; 3 to 4; 4 5 to 0",
+        "2: 1; 3: 1; 4: 1; 5: 1; ",
+    ),
+    (BACKWARDS, "3 2 1 to 0", "1: 1; 2: 1; 3: 1"),
+    (FORKED, "1 to 2; 2 to 0; 3 to 2", "1: 1; 2: 0; 3: 0; "),
+    (ALONE, "", ""),
+];
+
 #[test]
 fn lines_of_machines(rt: HostRuntime) {
-    for (text, lines, states) in [
-        (
-            SOLVER,
-            "2 3 4 5 6 7 8 9 10 to 1",
-            "2: 1; 3: 1; 4: 1; 5: 1; 6: 1; 7: 1; 8: 1; 9: 1; 10: 1",
-        ),
-        (
-            MEETING,
-            "2 to 4; 3 to 4; 4 5 to 0",
-            "2: 1; 3: 1; 4: 1; 5: 1; ",
-        ),
-        (BACKWARDS, "3 2 1 to 0", "1: 1; 2: 1; 3: 1"),
-        (FORKED, "1 to 2; 2 to 0; 3 to 2", "1: 1; 2: 0; 3: 0; "),
-        (ALONE, "", ""),
-    ] {
+    for (text, lines, states) in &MACHINES {
         assert!(rt; leads(rt.alloc(), text, lines, states), "{text}");
     }
 }

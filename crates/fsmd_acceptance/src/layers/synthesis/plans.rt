@@ -8,28 +8,19 @@ use hls_line_filling::effects::Effects;
 use hls_line_filling::plan::{Plan, make_plan};
 use hls_line_filling::uses::{Uses, uses_of};
 use hls_unit_counts::{Units, read_units};
-use std::alloc::{AllocError, Global};
+use std::alloc::Global;
 
-// The effects of the states of a machine from one on, each as an item.
-fn effects_from(alloc: Global, m: &Machine, from: u32) -> Result<Vec<Effects>, AllocError> {
-    let mut effects = Vec::new(alloc);
+// Puts the effects of the states of a machine from one on, each as an item, and the units that they use.
+fn put_items(m: &Machine, from: u32, effects: &mut Vec<Effects>, uses: &mut Vec<Uses>) -> bool {
     for state in from..m.state_count() {
         if let Some(branch) = m.branches(StateId(state)).first() {
-            effects.push(Effects::of(branch.assigns.as_slice()))?;
+            let assigns = branch.assigns.as_slice();
+            if effects.push(Effects::of(assigns)).is_err() || uses.push(uses_of(assigns)).is_err() {
+                return false;
+            }
         }
     }
-    Ok(effects)
-}
-
-// The units that the same states use.
-fn uses_from(alloc: Global, m: &Machine, from: u32) -> Result<Vec<Uses>, AllocError> {
-    let mut uses = Vec::new(alloc);
-    for state in from..m.state_count() {
-        if let Some(branch) = m.branches(StateId(state)).first() {
-            uses.push(uses_of(branch.assigns.as_slice()))?;
-        }
-    }
-    Ok(uses)
+    true
 }
 
 // Whether each item of a plan has a row, that of a text, or any where that is `…`.
@@ -68,23 +59,18 @@ fn fills(alloc: Global, effects: &[Effects], uses: &[Uses], units: &Units, text:
 }
 
 // Whether the states of a machine from one on, each as an item, have this plan.
-fn plans(
-    alloc: Global,
-    m: &Machine,
-    from: u32,
-    units: &Units,
-    text: &str,
-) -> Result<bool, AllocError> {
-    let effects = effects_from(alloc, m, from)?;
-    let uses = uses_from(alloc, m, from)?;
-    Ok(fills(alloc, effects.as_slice(), uses.as_slice(), units, text))
+fn plans(alloc: Global, m: &Machine, from: u32, units: &Units, text: &str) -> bool {
+    let mut effects = Vec::new(alloc);
+    let mut uses = Vec::new(alloc);
+    put_items(m, from, &mut effects, &mut uses)
+        && fills(alloc, effects.as_slice(), uses.as_slice(), units, text)
 }
 
-// The same of the machine of a text and a file of unit counts, and nothing where one is refused.
+// The same of the machine of a text and a file of unit counts, where neither is refused.
 fn holds(alloc: Global, text: &str, from: u32, counts: &str, plan: &str) -> Option<bool> {
     let units = read_units(alloc, counts.as_bytes()).ok()?;
     let machine = machine(alloc, text).ok()?;
-    plans(alloc, &machine, from, &units, plan).ok()
+    Some(plans(alloc, &machine, from, &units, plan))
 }
 
 // Each item reads what the one before it writes.
@@ -96,22 +82,24 @@ state s3: goto s0: y = y + 3;";
 
 // Rows are filled by heights, and an item that reads a variable stands in no later row than one that writes it. One multiplier
 // needs a row for each of three products, and two emits keep their order in rows of their own.
+static PLANS: [(&str, u32, &str, &str); 5] = [
+    (
+        SOLVER,
+        2,
+        "{\"add\": 1, \"mul\": 2}",
+        "0 0 1 1 2 2 3 1 0 in 4, chain 4",
+    ),
+    (SOLVER, 2, "{\"add\": 1, \"mul\": 1}", "… in 6, chain 4"),
+    (CHAIN, 1, "{}", "0 1 2 in 3, chain 3"),
+    (PRODUCTS, 1, "{\"mul\": 1}", "0 1 2 in 3, chain 1"),
+    (EMITS, 1, "{}", "0 1 0 in 2, chain 2"),
+];
+
 #[test]
 fn rows_of_items(rt: HostRuntime) {
-    for (text, from, counts, plan) in [
-        (
-            SOLVER,
-            2,
-            "{\"add\": 1, \"mul\": 2}",
-            "0 0 1 1 2 2 3 1 0 in 4, chain 4",
-        ),
-        (SOLVER, 2, "{\"add\": 1, \"mul\": 1}", "… in 6, chain 4"),
-        (CHAIN, 1, "{}", "0 1 2 in 3, chain 3"),
-        (PRODUCTS, 1, "{\"mul\": 1}", "0 1 2 in 3, chain 1"),
-        (EMITS, 1, "{}", "0 1 0 in 2, chain 2"),
-    ] {
+    for (text, from, counts, plan) in &PLANS {
         assert!(rt;
-            holds(rt.alloc(), text, from, counts, plan) == Some(true),
+            holds(rt.alloc(), text, *from, counts, plan) == Some(true),
             "{counts}: not {plan}"
         );
     }

@@ -25,8 +25,17 @@ const M: Pos = Pos {
     var: 12,
 };
 
-/// Whether a row about one form holds.
+/// Whether a row about calls holds.
 pub fn holds(alloc: Global, name: &str, row: &str) -> bool {
+    match name {
+        "call" => is_called(alloc, row),
+        "tree" => is_taken_out(alloc, row),
+        _ => form_holds(alloc, name, row),
+    }
+}
+
+// Whether a row about one form holds.
+fn form_holds(alloc: Global, name: &str, row: &str) -> bool {
     let (text, cells) = row.split_once(':').unwrap_or((row, ""));
     let Ok(form) = form(alloc, text) else {
         return false;
@@ -84,8 +93,8 @@ fn taken_out(form: Nf) -> Option<Nf> {
     }
 }
 
-/// Whether the tree taken out of a text's form is the one that the text writes.
-pub fn is_taken_out(alloc: Global, text: &str) -> bool {
+// Whether the tree taken out of a text's form is the one that the text writes.
+fn is_taken_out(alloc: Global, text: &str) -> bool {
     let Ok(form) = form(alloc, text) else {
         return false;
     };
@@ -206,8 +215,8 @@ fn numbers_atoms(alloc: Global, bank: &mut Bank) -> bool {
         && bank.len() == 5
 }
 
-/// Whether what a row calls gives what it is to give.
-pub fn is_called(alloc: Global, row: &str) -> bool {
+// Whether what a row calls gives what it is to give.
+fn is_called(alloc: Global, row: &str) -> bool {
     let mut bank = Bank::new(alloc);
     row == "numbers of atoms" && numbers_atoms(alloc, &mut bank)
 }

@@ -70,23 +70,23 @@ fn combined(alloc: Global, word: &str, left: &Poly, right: &Poly) -> Result<Poly
     }
 }
 
-// The sum that a word makes of the last forms.
+// The sum that a word makes of the forms that it works on: of one sum its negation, and of an array and an index a read.
 fn sum_made(alloc: Global, forms: &[Nf], word: &str) -> Result<Poly, NfStop> {
-    match (word, forms) {
-        ("neg", [.., Nf::Num(sum)]) => Ok(neg(alloc, sum)?),
-        ("[]", [.., Nf::Arr(array), Nf::Num(index)]) => read(alloc, array, index),
-        (_, [.., Nf::Num(left), Nf::Num(right)]) => combined(alloc, word, left, right),
+    match forms {
+        [Nf::Num(sum)] => Ok(neg(alloc, sum)?),
+        [Nf::Arr(array), Nf::Num(index)] => read(alloc, array, index),
+        [Nf::Num(left), Nf::Num(right)] => combined(alloc, word, left, right),
         _ => Err(NfStop::NoMemory),
     }
 }
 
-// What a word makes of the last forms.
+// What a word makes of the forms that it works on: of three a write, and of a list and an item the list with that.
 fn made(alloc: Global, forms: &[Nf], word: &str) -> Result<Nf, NfStop> {
-    match (word, forms) {
-        ("{}", [.., Nf::Arr(array), Nf::Num(index), Nf::Num(value)]) => {
+    match forms {
+        [Nf::Arr(array), Nf::Num(index), Nf::Num(value)] => {
             Ok(Nf::Arr(write(alloc, array, index, value)?))
         }
-        ("<<", [.., Nf::Seq(list), Nf::Num(item)]) => Ok(Nf::Seq(push(alloc, list, item)?)),
+        [Nf::Seq(list), Nf::Num(item)] => Ok(Nf::Seq(push(alloc, list, item)?)),
         _ => Ok(Nf::Num(sum_made(alloc, forms, word)?)),
     }
 }
@@ -94,11 +94,12 @@ fn made(alloc: Global, forms: &[Nf], word: &str) -> Result<Nf, NfStop> {
 // Puts what a word makes in the place of what it works on.
 fn put(alloc: Global, forms: &mut Vec<Nf>, word: &str) -> Result<(), NfStop> {
     let (first, last) = operands(word);
+    let count = forms.len().saturating_sub(first).saturating_sub(last);
     let form = match last {
         0 => simple(alloc, word)?,
-        _ => made(alloc, forms.as_slice(), word)?,
+        _ => made(alloc, forms.as_slice().get(count..).unwrap_or(&[]), word)?,
     };
-    forms.truncate(forms.len().saturating_sub(first).saturating_sub(last));
+    forms.truncate(count);
     if put_last(forms, form) {
         Ok(())
     } else {

@@ -148,16 +148,22 @@ fn are_refuted(alloc: Global, name: &str, list: &[NLit], places: &str) -> bool {
     }
 }
 
+// Whether a row of two literals holds.
+fn pair_holds(alloc: Global, name: &str, left: &NLit, right: &NLit) -> bool {
+    match name {
+        "negation" => is_negation(alloc, left, right) && is_negation(alloc, right, left),
+        "clash" => clash_as(left, right, true),
+        _ => name == "no clash" && clash_as(left, right, false),
+    }
+}
+
 // Whether a row holds whose literals are these.
 fn row_holds(alloc: Global, name: &str, list: &[NLit]) -> bool {
-    match (name, list) {
-        ("negation", [left, right]) => {
-            is_negation(alloc, left, right) && is_negation(alloc, right, left)
+    match list {
+        [front @ .., last] if name.ends_with("implied") => {
+            implied(front, last) == (name == "implied")
         }
-        ("clash", [left, right]) => clash_as(left, right, true),
-        ("no clash", [left, right]) => clash_as(left, right, false),
-        ("implied", [front @ .., last]) => implied(front, last),
-        ("not implied", [front @ .., last]) => !implied(front, last),
+        [left, right] => pair_holds(alloc, name, left, right),
         _ => false,
     }
 }

@@ -6,9 +6,18 @@ use nf_sums::sums;
 use nf_terms::stop::NfStop;
 use std::alloc::Global;
 
-/// Whether the left text gives the form whose tree is the right one, or stops as that says.
-pub fn gives(alloc: Global, row: &str) -> bool {
+/// Whether a row about what is made holds.
+pub fn holds(alloc: Global, name: &str, row: &str) -> bool {
     let (left, right) = row.split_once('=').unwrap_or((row, ""));
+    if name == "operation" {
+        gives(alloc, left, right)
+    } else {
+        is_wide(alloc, left, right)
+    }
+}
+
+// Whether the left text gives the form whose tree is the right one, or stops as that says.
+fn gives(alloc: Global, left: &str, right: &str) -> bool {
     match form(alloc, left) {
         Ok(given) => is_written(alloc, &given, right),
         Err(stop) => is_event(stop, right),
@@ -27,9 +36,8 @@ pub fn is_event(stop: NfStop, text: &str) -> bool {
     kind == word && number(first) == left && number(second) == right
 }
 
-/// Whether no sum is made of the number of a row, as its event says.
-pub fn is_wide(alloc: Global, row: &str) -> bool {
-    let (digits, event) = row.split_once('=').unwrap_or((row, ""));
+// Whether no sum is made of a number, as an event says.
+fn is_wide(alloc: Global, digits: &str, event: &str) -> bool {
     let value = digits.trim().parse::<i128>().unwrap_or(0);
     match sums::number(alloc, &value) {
         Ok(_) => false,

@@ -4,40 +4,42 @@ use crate::layers::terms::{calls, literals, measures, normal, operations, orders
 use std::alloc::Global;
 use std::process::Abort;
 
-/// Asserts each row of each table of these texts.
-pub fn each_text(rt: &impl Abort, alloc: Global, texts: &[&str]) {
-    for text in texts {
-        each_table(rt, alloc, text);
-    }
+/// What the rows of a text are about.
+#[derive(Drop)]
+pub enum Subject {
+    Calls,
+    Literals,
+    Measures,
+    Normal,
+    Operations,
+    Orders,
+    Substitutions,
 }
 
-fn each_table(rt: &impl Abort, alloc: Global, text: &str) {
+/// Asserts each row of each table of a text.
+pub fn each_table(rt: &impl Abort, alloc: Global, subject: &Subject, text: &str) {
     for table in text.split("\n\n") {
         let (name, rows) = table.split_once(":\n").unwrap_or((table, "no row"));
-        each_row(rt, alloc, name, rows);
+        each_row(rt, alloc, subject, name, rows);
     }
 }
 
-fn each_row(rt: &impl Abort, alloc: Global, name: &str, rows: &str) {
+fn each_row(rt: &impl Abort, alloc: Global, subject: &Subject, name: &str, rows: &str) {
     for row in rows.lines() {
-        assert!(rt; holds(alloc, name, row), "{name}: {row}");
+        assert!(rt; holds(alloc, subject, name, row), "{name}: {row}");
     }
 }
 
 // Whether a row of a table of this name holds.
-fn holds(alloc: Global, name: &str, row: &str) -> bool {
-    match name {
-        "operation" => operations::gives(alloc, row),
-        "wide number" => operations::is_wide(alloc, row),
-        "measures" => measures::has_measures(alloc, row),
-        "normal" => normal::is_normal(alloc, row, true),
-        "not normal" => normal::is_normal(alloc, row, false),
-        "order" => orders::stands(alloc, row),
-        "substitution" => substitutions::gives(alloc, row),
-        "call" => calls::is_called(alloc, row),
-        "tree" => calls::is_taken_out(alloc, row),
-        "symbols" | "copy" | "put" => calls::holds(alloc, name, row),
-        _ => literals::holds(alloc, name, row),
+fn holds(alloc: Global, subject: &Subject, name: &str, row: &str) -> bool {
+    match subject {
+        Subject::Calls => calls::holds(alloc, name, row),
+        Subject::Literals => literals::holds(alloc, name, row),
+        Subject::Measures => measures::has_measures(alloc, row),
+        Subject::Normal => normal::is_normal(alloc, row, name == "normal"),
+        Subject::Operations => operations::holds(alloc, name, row),
+        Subject::Orders => orders::stands(alloc, row),
+        Subject::Substitutions => substitutions::gives(alloc, row),
     }
 }
 
