@@ -26,8 +26,8 @@ pub fn a_text_is_its_tokens()
     ensures { (bytes : List ℕ) → AreTokens [] bytes (tokens_of bytes) }
 {}
 
-/// Each token of a text stands in it: the bytes are a front, its own and a rest. Its line is 1 plus
-/// the LFs of the front, and its column 1 plus the bytes of the front after the last LF.
+/// Each token of a text stands in it: the bytes are a prefix, its own and a rest. Its line is 1 plus
+/// the LFs of the prefix, and its column 1 plus the bytes of the prefix after the last LF.
 pub fn each_token_stands_in_the_text()
     ensures { (bytes : List ℕ) (before behind : List Token) (t : Token) → tokens_of bytes ≡ before ++ t ∷ behind
         → IsTokenIn bytes t }

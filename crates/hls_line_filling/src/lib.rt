@@ -18,16 +18,18 @@
 //! `src/unit_laws`.
 //!
 //! Words:
-//! - chain (of a straight line): one more than the greatest number of strict edges on a walk over its items
+//! - chain (of a straight line): one more than the greatest number of strict edges on a walk over its items: the length of
+//!   its critical path
 //! - effects (of an item): which variables it reads and changes, as sets, and whether it emits
-//! - filling: rows that are filled one after another, each by the items of greatest height that may stand there
+//! - filling: rows that are filled one after another, each by the items of greatest height that may stand there: a list
+//!   schedule
 //! - height: the greatest number of strict edges on a walk from an item
 //! - item (of a straight line): the assignments of one of its transitions
 //! - move (of a row): a state whose one transition is the row
 //! - placing: a row for each item; valid where it is less on strict edges and not greater on weak ones
-//! - row: the items that a placing puts into one step, as one
+//! - row: the items that a placing puts into one step, as one: what is done in one control step
 //! - straight line: a longest list of states with one branch each, none of them the reset state, to each of which but
-//!   the first only the one before it leads
+//!   the first only the one before it leads: a basic block of states
 #![tactic(auto)]
 
 pub mod effects;

@@ -13,7 +13,8 @@
 //! - closed (of a table): nothing is next
 //! - effect (of a move): what it does to a table
 //! - legal list: moves of which each is next and changes the table
-//! - lone move: a move by which one machine moves alone, to a node from which the same machine moves alone
+//! - lone move: a move by which one machine moves alone, to a node from which the same machine moves alone: a stuttering
+//!   step of the other machine
 //! - move (of a search): one path of each side that moves, from a node
 //! - next: the first event, excess or change, looking from the first node
 //! - obstacle: why a legal list of moves ends without a certificate
