@@ -1,21 +1,16 @@
-//! Straight lines in rows: the edges between their items, what a valid placing keeps, and the filling of rows, by its
-//! laws and in code, over what each item reads, changes and uses; machines whose straight lines stand in the rows of their
-//! fillings, and their parts; and which transitions of a machine use more of a functional unit than is given.
+//! Straight lines and the rows that stand in their place: list scheduling under unit counts, as definitions, laws and code.
 //!
-//! Promises: the edges between the items of a straight line; a valid placing keeps the store; what items use, their
-//! heights and the chain; the filling of rows under unit counts is a valid placing; `make_plan`: the rows of a straight
-//! line under unit counts, and its chain, exactly; by sets of variables, in the square of its items; the straight lines of
-//! a machine; with rows in their place it behaves as before; a machine with its straight lines in the rows of their
-//! fillings behaves as before, is within the units, and its straight lines have their lengths; the parts of a scheduled
-//! machine, which the rows of its states decide; they spell it and keep all rules; `over_in`: the first transition that
-//! uses more of a functional unit than is given, exactly; where there is none, what is counted of the items of a straight
-//! line is exact.
+//! Promises: `make_plan`: the rows of a straight line under unit counts, and the length of its chain, exactly; of the items that
+//! are ready the highest goes first, and it takes time in the square of the items. `over_in`: the first state and unit of which
+//! too much is used, exactly. Laws: a valid placing leaves what the items leave one after another; a filling is a valid placing
+//! and a list schedule; a machine with its straight lines in the rows of their fillings behaves as before, is within the units,
+//! has lines of the lengths that are told, and is spelled by parts that keep all rules.
 //!
-//! Rules: `specs/Items`, `specs/Placings`, `src/placing_laws`, `specs/ItemUnits`, `specs/Heights`, `specs/Filling`,
-//! `src/filling_laws`, `specs/Plans`, `specs/EffectSets`, `specs/WaitingItems`, `specs/StraightLines`,
-//! `specs/RowMachines`, `specs/MachineSelections`, `specs/ScheduledMachines`, `src/line_laws`, `specs/Schedules`,
-//! `src/machine_laws`, `specs/SourceRows`, `specs/Sources`, `src/source_laws`, `specs/Over`, `specs/Counted`,
-//! `src/unit_laws`.
+//! Rules: edges and placings in `specs/Items`, `specs/Placings`, `src/placing_laws`; what items use in `specs/ItemUnits`,
+//! `specs/Over`, `specs/Counted`, `src/unit_laws`; heights and the order of ready items in `specs/Heights`, `specs/Filling`,
+//! `specs/Plans`, `src/filling_laws`; straight lines in `specs/StraightLines`, `src/line_laws`; machines in rows in
+//! `specs/RowMachines`, `specs/ScheduledMachines`, `specs/Schedules`, `src/machine_laws`; their parts in `specs/SourceRows`,
+//! `specs/Sources`, `src/source_laws`; sets of variables in `specs/EffectSets`, `specs/WaitingItems`, `specs/MachineSelections`.
 //!
 //! Words:
 //! - chain (of a straight line): one more than the greatest number of strict edges on a walk over its items: the length of

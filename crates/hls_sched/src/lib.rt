@@ -1,8 +1,9 @@
-//! List scheduling of the straight lines of a machine under unit counts. The lines are traced in time linear in the branches.
+//! A machine whose straight lines are scheduled: they are traced, in time linear in the branches, filled by `hls_line_filling`,
+//! and put in rows.
 //!
 //! Promises: `schedule`: the scheduled parts and their machine, which behaves as before and is within the units, with a
-//! report of each straight line; or the first transition that uses too much. `count_arrivals`, `firsts`, `trace_line`: exactly
-//! the straight lines of the definition.
+//! report of each straight line; or the first state and unit of which too much is used. `count_arrivals`, `firsts`,
+//! `trace_line`: exactly the straight lines of the definition.
 //!
 //! Rules: `specs/Arrivals`, `specs/Reports`, `specs/CodeLines`, `specs/RowMoves`.
 #![tactic(auto)]
