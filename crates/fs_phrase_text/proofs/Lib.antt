@@ -10,3 +10,4 @@ pub mod Called
 pub mod Steps
 pub mod Hosted
 pub mod PassedOn
+pub mod Joined

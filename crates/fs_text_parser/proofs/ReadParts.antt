@@ -1,7 +1,6 @@
--- What goes on behind parts that were read one after another.
+-- A part that stands behind others now, and what is read behind it.
 use Rattle.std.proofs.Common.{◌≡◌, ℕ, List, [], ◌∷◌, ◌++◌, map, cond, Bool, Option, Bor, Result, Ok, Err, IfOk, sym, ap, ap₂, subst, ◌∙◌}
 use Rattle.std.proofs.lemmas.List.{map-append}
-use Rattle.std.specs.Result.{result_map_both}
 use Rattle.fs_model.specs.Source.{Source}
 use Rattle.fs_model.specs.Terms.{Assignment, Guard}
 use Rattle.fs_grammar.specs.declared.fault.TextFault.{TextFault}
@@ -11,20 +10,7 @@ use Rattle.fs_grammar.specs.Tokens.{Fails, ParsesOn}
 use Rattle.fs_grammar.specs.Grammar.{OpenState, OpenTransition, with_transitions, close_transition, reading, at_assignment, at_transition}
 use Rattle.fs_text_parser.specs.ReadParts.{PushesRead}
 
--- ---- a part and what was read next
-
-pub joined : {X Y Z : Type 0} (r : Result (X × Y) ReadError) (x : X) (n : Result Y ReadError) {w v : Result Z TextFault} (on : X × Y → Result Z TextFault)
-    → r ≡ result_map_both (λ y. (x, y)) (λ e. e) n → w ≡ v → ParsesOn n v (λ y. on (x, y)) → ParsesOn r w on
-joined r x (Ok y) {w} on is s g = subst (λ q. ParsesOn q w on) (sym is) (s ∙ g)
-joined r x (Err d) {w} on is s g = subst (λ q. ParsesOn q w on) (sym is) (subst (λ q. Fails d q) (sym s) g)
-
-pub if_joined : {X Y : Type 0} (r : Result (X × Y) ReadError) (x : X) (n : Result Y ReadError) (P : X × Y → Type 0) (Q : Y → Type 0)
-    → r ≡ result_map_both (λ y. (x, y)) (λ e. e) n → IfOk n Q → ((y : Y) → Q y → P (x, y)) → IfOk r P
-if_joined r x (Ok y) P Q is h f = subst (λ q. IfOk q P) (sym is) (f y h)
-if_joined r x (Err d) P Q is h f = subst (λ q. IfOk q P) (sym is) tt
-
--- ---- a part that stands behind others now
-
+-- the list that ends in the part
 pushed : {X Y Z : Type 0} (r : Result (X × Y) ReadError) (y : Y) (old new : List X) {v : Result Z TextFault} (go : X × Y → Result Z TextFault)
     (on : List X → Y → Result Z TextFault) → PushesRead old new r (Ok y) → ParsesOn r v go → ((x : X × Y) → go x ≡ on (old ++ x.0 ∷ []) x.1) → v ≡ on new y
 pushed (Ok x) y old new go on is g same = g ∙ same x ∙ ap₂ on (sym is.0) (sym is.1)

@@ -1,6 +1,6 @@
 -- Readings that agree, and a token that is taken or refused.
-use Rattle.std.proofs.Common.{◌≡◌, ℕ, ◌<◌, length, Bool, true, false, cond, List, [], ◌∷◌, Option, Some, None, Bor, Result, Ok, Err}
-use Rattle.std.proofs.Common.{refl, ap, subst, arith, ◌∙◌}
+use Rattle.std.proofs.Common.{◌≡◌, ℕ, Bool, true, false, cond, List, [], ◌∷◌, Option, Some, None, Bor, Result, Ok, Err}
+use Rattle.std.proofs.Common.{refl, ◌∙◌}
 use Rattle.fs_expression_text.proofs.Steps.{taken}
 use Rattle.fs_model.specs.declared.parts.Role.TheVariants.{Output}
 use Rattle.fs_model.specs.declared.parts.Sort.TheVariants as sorts
@@ -194,18 +194,3 @@ pub name_reset : (ts : List Token) (f : Format) (ds : List Declaration) (m : ℕ
 name_reset ts f ds m =
     named_reading ts (at_reset f ds m) (λ x. after_reset f (record { declarations = ds; reset_line = m; reset = x; states = [] })) (λ n x. refl)
     (λ n. elim [ Name x ↦ λ i h. absurd h | _ ↦ λ i h. refl ]) refl
-
--- what a name leaves is shorter
-abbrev left_by_name : Result (List ℕ × List Token) TextFault → List Token
-left_by_name (Ok x) = x.1
-left_by_name (Err f) = []
-
-name_left : (w : TokenKind) (past_limit : Bool) (place : TextPlace) (ts rest : List Token) (x : List ℕ)
-    → name_in (record { kind = w; past_limit = past_limit; place = place } ∷ ts) ≡ Ok (x, rest) → ts ≡ rest
-name_left (Name y) true place ts rest x e = absurd cc
-name_left (Name y) false place ts rest x e = ap left_by_name e
-name_left w past_limit place ts rest x e = absurd cc
-
-pub name_shorter : (ts rest : List Token) (x : List ℕ) → name_in ts ≡ Ok (x, rest) → length rest < length ts
-name_shorter [] rest x e = absurd cc
-name_shorter (t ∷ ts) rest x e = subst (λ r. length r < length (t ∷ ts)) (name_left t.kind t.past_limit t.place ts rest x e) (omega arith)

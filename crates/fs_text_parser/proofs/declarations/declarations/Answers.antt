@@ -3,7 +3,8 @@ use Rattle.fs_model.specs.View.{declaration_of}
 use Rattle.fs_grammar.specs.Tokens.{line_at}
 use Rattle.fs_grammar.specs.Grammar.{reading, at_declaration, at_reset}
 use Rattle.fs_phrase_text.proofs.PassedOn.{refused}
-use Rattle.fs_text_parser.proofs.ReadParts.{not_pushed, if_pushed, joined, one_more}
+use Rattle.fs_phrase_text.proofs.Joined.{joined}
+use Rattle.fs_text_parser.proofs.ReadParts.{not_pushed, if_pushed, one_more}
 use Rattle.fs_text_parser.proofs.declarations.declarations.Goals as goal
 
 pub returns-in_err-rest : goal.returns-in_err-rest

@@ -5,8 +5,8 @@ use Rattle.fs_grammar.specs.declared.token.TokenKind.{TokenKind}
 use Rattle.fs_grammar.specs.declared.token.TokenKind.TheVariants.{Declare}
 use Rattle.fs_grammar.specs.Tokens.{kind_at, line_at}
 use Rattle.fs_grammar.specs.Grammar.{reading, at_declaration, at_sort, at_declared}
+use Rattle.fs_phrase_text.proofs.Joined.{joined, if_joined}
 use Rattle.fs_text_parser.proofs.Steps.{took}
-use Rattle.fs_text_parser.proofs.ReadParts.{joined, if_joined}
 use Rattle.fs_text_parser.proofs.declarations.kind.Goals as goal
 
 pub returns-in_ok-rest-in-Some-Declare-clause-goes : goal.returns-in_ok-rest-in-Some-Declare-clause-goes

@@ -3,8 +3,8 @@ use Rattle.fs_grammar.specs.PartEnds.{name_in}
 use Rattle.fs_grammar.specs.Tokens.{◌>>=◌}
 use Rattle.fs_grammar.specs.Grammar.{reading, after_reset, at_state}
 use Rattle.fs_text_parser.proofs.Steps.{name_reset}
-use Rattle.fs_text_parser.proofs.ReadParts.{joined}
 use Rattle.fs_phrase_text.proofs.PassedOn.{stopped}
+use Rattle.fs_phrase_text.proofs.Joined.{joined}
 use Rattle.fs_text_parser.proofs.declarations.reset.Goals as goal
 
 pub returns-in_err-name : goal.returns-in_err-name

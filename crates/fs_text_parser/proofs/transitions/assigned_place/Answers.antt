@@ -3,8 +3,9 @@ use Rattle.std.proofs.lemmas.Result.{IfOk-weaker}
 use Rattle.fs_grammar.specs.PartEnds.{name_in}
 use Rattle.fs_grammar.specs.Tokens.{◌>>=◌}
 use Rattle.fs_grammar.specs.Grammar.{reading, after_assignment_name}
-use Rattle.fs_text_parser.proofs.Steps.{name_assignment, name_shorter}
+use Rattle.fs_text_parser.proofs.Steps.{name_assignment}
 use Rattle.fs_phrase_text.proofs.PassedOn.{stopped, goes_after}
+use Rattle.fs_phrase_text.proofs.Joined.{name_shorter}
 use Rattle.fs_text_parser.proofs.transitions.assigned_place.Goals as goal
 
 pub returns-in_err-name-clause-goes : goal.returns-in_err-name-clause-goes

@@ -4,8 +4,8 @@ use Rattle.fs_grammar.specs.declared.token.TokenKind.{TokenKind}
 use Rattle.fs_grammar.specs.declared.token.TokenKind.TheVariants.{Goto}
 use Rattle.fs_grammar.specs.Tokens.{kind_at, line_at}
 use Rattle.fs_grammar.specs.Grammar.{reading, at_target, at_transition}
+use Rattle.fs_phrase_text.proofs.Joined.{joined, if_joined}
 use Rattle.fs_text_parser.proofs.Steps.{accepted}
-use Rattle.fs_text_parser.proofs.ReadParts.{joined, if_joined}
 use Rattle.fs_text_parser.proofs.transitions.condition.Goals as goal
 
 pub returns-in-Some-Goto-clause-goes : goal.returns-in-Some-Goto-clause-goes

@@ -4,8 +4,8 @@ use Rattle.fs_grammar.specs.declared.token.TokenKind.{TokenKind}
 use Rattle.fs_grammar.specs.declared.token.TokenKind.TheVariants.{Semicolon}
 use Rattle.fs_grammar.specs.Tokens.{kind_at}
 use Rattle.fs_grammar.specs.Grammar.{reading, after_target, with_assignments, at_transition, close_transition}
+use Rattle.fs_phrase_text.proofs.Joined.{joined, if_joined}
 use Rattle.fs_text_parser.proofs.Steps.{accepted}
-use Rattle.fs_text_parser.proofs.ReadParts.{joined, if_joined}
 use Rattle.fs_text_parser.proofs.transitions.effects.Goals as goal
 
 pub returns-in-Some-Semicolon-clause-goes : goal.returns-in-Some-Semicolon-clause-goes

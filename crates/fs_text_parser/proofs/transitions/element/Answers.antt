@@ -2,7 +2,7 @@ use Rattle.std.proofs.Common.{◌<◌, length, refl}
 use Rattle.fs_model.specs.View.{named_term}
 use Rattle.fs_grammar.specs.Grammar.{reading, at_sum, element, value}
 use Rattle.fs_phrase_text.proofs.PassedOn.{refused}
-use Rattle.fs_text_parser.proofs.ReadParts.{joined, if_joined}
+use Rattle.fs_phrase_text.proofs.Joined.{joined, if_joined}
 use Rattle.fs_text_parser.proofs.transitions.element.Goals as goal
 
 pub returns-in_err-name-clause-goes : goal.returns-in_err-name-clause-goes

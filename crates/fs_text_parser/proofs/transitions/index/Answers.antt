@@ -3,8 +3,8 @@ use Rattle.fs_model.specs.View.{named_term}
 use Rattle.fs_grammar.specs.declared.token.TokenKind.TheVariants.{OpenBracket}
 use Rattle.fs_grammar.specs.Grammar.{reading, after_assignment_name, at_sum, element, value, write_index}
 use Rattle.fs_phrase_text.proofs.PassedOn.{refused}
+use Rattle.fs_phrase_text.proofs.Joined.{joined, if_joined}
 use Rattle.fs_text_parser.proofs.Steps.{took}
-use Rattle.fs_text_parser.proofs.ReadParts.{joined, if_joined}
 use Rattle.fs_text_parser.proofs.transitions.index.Goals as goal
 
 pub returns-in_err-index-clause-goes : goal.returns-in_err-index-clause-goes

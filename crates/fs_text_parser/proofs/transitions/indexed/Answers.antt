@@ -1,10 +1,10 @@
 use Rattle.std.proofs.Common.{rules}
 use Rattle.fs_grammar.specs.PartEnds.{EndsName}
 use Rattle.fs_grammar.specs.Grammar.{reading, scalar, at_sum, value}
+use Rattle.fs_phrase_text.proofs.Joined.{joined, if_joined}
 use Rattle.fs_text_parser.specs.Destinations.{destination_of}
 use Rattle.fs_text_parser.specs.declared.transitions.Destination.TheVariants.{Scalar}
 use Rattle.fs_text_parser.proofs.Steps.{scalar_ends}
-use Rattle.fs_text_parser.proofs.ReadParts.{joined, if_joined}
 use Rattle.fs_text_parser.proofs.transitions.indexed.Goals as goal
 
 pub returns-in_default-clause-goes : goal.returns-in_default-clause-goes

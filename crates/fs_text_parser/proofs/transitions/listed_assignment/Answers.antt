@@ -3,7 +3,8 @@ use Rattle.fs_model.specs.View.{named_term}
 use Rattle.fs_grammar.specs.Grammar.{destination_assignment, with_assignments}
 use Rattle.fs_text_parser.specs.Destinations.{destination_of}
 use Rattle.fs_phrase_text.proofs.PassedOn.{refused}
-use Rattle.fs_text_parser.proofs.ReadParts.{joined, if_joined, after_assignment}
+use Rattle.fs_phrase_text.proofs.Joined.{joined, if_joined}
+use Rattle.fs_text_parser.proofs.ReadParts.{after_assignment}
 use Rattle.fs_text_parser.proofs.transitions.listed_assignment.Goals as goal
 
 pub returns-in_err-destination-clause-goes : goal.returns-in_err-destination-clause-goes

@@ -1,7 +1,7 @@
 use Rattle.std.proofs.Common.{[], ◌∷◌, cond, arith}
 use Rattle.fs_model.specs.View.{named_term}
 use Rattle.fs_grammar.specs.Grammar.{reading, destination_assignment, with_assignments, at_assignment, at_transition, close_transition, value}
-use Rattle.fs_text_parser.proofs.ReadParts.{joined, if_joined}
+use Rattle.fs_phrase_text.proofs.Joined.{joined, if_joined}
 use Rattle.fs_text_parser.proofs.transitions.listed_value.Goals as goal
 
 pub returns-clause-goes : goal.returns-clause-goes

@@ -2,8 +2,9 @@ use Rattle.std.proofs.Common.{ap, ◌∙◌}
 use Rattle.fs_grammar.specs.PartEnds.{name_in}
 use Rattle.fs_grammar.specs.Tokens.{◌>>=◌}
 use Rattle.fs_grammar.specs.Grammar.{port, value, at_sum, reading}
-use Rattle.fs_text_parser.proofs.Steps.{name_port, name_shorter}
+use Rattle.fs_text_parser.proofs.Steps.{name_port}
 use Rattle.fs_phrase_text.proofs.PassedOn.{stopped}
+use Rattle.fs_phrase_text.proofs.Joined.{name_shorter}
 use Rattle.fs_text_parser.proofs.transitions.port.Goals as goal
 
 pub returns-in_err-name-clause-goes : goal.returns-in_err-name-clause-goes

@@ -3,8 +3,9 @@ use Rattle.fs_grammar.specs.declared.token.TokenKind.{TokenKind}
 use Rattle.fs_grammar.specs.declared.token.TokenKind.TheVariants.{Comma, Semicolon}
 use Rattle.fs_grammar.specs.Tokens.{kind_at}
 use Rattle.fs_grammar.specs.Grammar.{after_sum, value, destination_assignment, with_assignments, at_assignment, at_transition, close_transition}
+use Rattle.fs_phrase_text.proofs.Joined.{joined, if_joined}
 use Rattle.fs_text_parser.proofs.Steps.{accepted}
-use Rattle.fs_text_parser.proofs.ReadParts.{joined, if_joined, after_assignment}
+use Rattle.fs_text_parser.proofs.ReadParts.{after_assignment}
 use Rattle.fs_text_parser.proofs.transitions.separator.Goals as goal
 
 pub returns-in-Some-Comma-clause-goes : goal.returns-in-Some-Comma-clause-goes

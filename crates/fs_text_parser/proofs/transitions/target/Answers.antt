@@ -3,9 +3,9 @@ use Rattle.fs_model.specs.View.{named_assignment}
 use Rattle.fs_grammar.specs.PartEnds.{name_in}
 use Rattle.fs_grammar.specs.Tokens.{◌>>=◌}
 use Rattle.fs_grammar.specs.Grammar.{reading, after_target, at_transition, close_transition}
-use Rattle.fs_text_parser.proofs.Steps.{name_target, name_shorter}
-use Rattle.fs_text_parser.proofs.ReadParts.{joined, if_joined}
+use Rattle.fs_text_parser.proofs.Steps.{name_target}
 use Rattle.fs_phrase_text.proofs.PassedOn.{stopped}
+use Rattle.fs_phrase_text.proofs.Joined.{joined, if_joined, name_shorter}
 use Rattle.fs_text_parser.proofs.transitions.target.Goals as goal
 
 pub returns-in_err-name-clause-goes : goal.returns-in_err-name-clause-goes

@@ -2,7 +2,8 @@ use Rattle.std.proofs.Common.{◌<◌, length, refl, ap, sym, map, option_map, �
 use Rattle.fs_model.specs.View.{named_guard, named_assignment}
 use Rattle.fs_grammar.specs.Tokens.{line_at}
 use Rattle.fs_phrase_text.proofs.PassedOn.{refused}
-use Rattle.fs_text_parser.proofs.ReadParts.{joined, if_joined, read_line}
+use Rattle.fs_phrase_text.proofs.Joined.{joined, if_joined}
+use Rattle.fs_text_parser.proofs.ReadParts.{read_line}
 use Rattle.fs_text_parser.proofs.transitions.transition.Goals as goal
 
 pub returns-in_err-guard-clause-goes : goal.returns-in_err-guard-clause-goes

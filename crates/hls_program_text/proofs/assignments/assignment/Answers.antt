@@ -6,7 +6,7 @@ use Rattle.fs_phrase_text.proofs.PassedOn.{refused}
 use Rattle.hls_program_parts.specs.Programs.{End, Do, join_blocks}
 use Rattle.hls_program_parts.specs.ProgramGrammar.{program_reading, at_statement}
 use Rattle.hls_program_text.specs.Fronts.{destination}
-use Rattle.hls_program_text.proofs.Joined.{joined, if_joined}
+use Rattle.fs_phrase_text.proofs.Joined.{joined, if_joined}
 use Rattle.hls_program_text.proofs.assignments.assignment.Goals as goal
 
 pub returns-in_err-target-clause-goes : goal.returns-in_err-target-clause-goes

@@ -7,7 +7,7 @@ use Rattle.fs_phrase_text.proofs.PassedOn.{stopped}
 use Rattle.hls_program_parts.specs.ProgramGrammar.{for_value, program_reading, after_name, inside}
 use Rattle.hls_program_text.specs.Fronts.{destination}
 use Rattle.hls_program_text.proofs.Readings.{name_read}
-use Rattle.hls_program_text.proofs.Joined.{joined, if_joined, name_shorter}
+use Rattle.fs_phrase_text.proofs.Joined.{joined, if_joined, name_shorter}
 use Rattle.hls_program_text.proofs.assignments.before_value.Goals as goal
 
 pub returns-in_err-name-clause-goes : goal.returns-in_err-name-clause-goes

@@ -3,7 +3,7 @@ use Rattle.fs_model.specs.View.{named_term}
 use Rattle.fs_grammar.specs.Grammar.{element}
 use Rattle.fs_expression_text.specs.Inside.{at_sum, sum_alone}
 use Rattle.hls_program_parts.specs.ProgramGrammar.{for_index, for_value, program_reading, inside}
-use Rattle.hls_program_text.proofs.Joined.{joined, if_joined}
+use Rattle.fs_phrase_text.proofs.Joined.{joined, if_joined}
 use Rattle.hls_program_text.proofs.assignments.index.Goals as goal
 
 pub returns-clause-goes : goal.returns-clause-goes

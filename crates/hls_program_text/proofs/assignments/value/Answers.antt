@@ -3,7 +3,7 @@ use Rattle.fs_model.specs.View.{named_term}
 use Rattle.fs_grammar.specs.Grammar.{destination_assignment}
 use Rattle.hls_program_parts.specs.Programs.{End, Do, join_blocks}
 use Rattle.hls_program_parts.specs.ProgramGrammar.{for_value, program_reading, at_statement}
-use Rattle.hls_program_text.proofs.Joined.{joined, if_joined}
+use Rattle.fs_phrase_text.proofs.Joined.{joined, if_joined}
 use Rattle.hls_program_text.proofs.assignments.value.Goals as goal
 
 pub returns-clause-goes : goal.returns-clause-goes

@@ -8,7 +8,7 @@ use Rattle.hls_program_parts.specs.View.{block_of}
 use Rattle.hls_program_parts.specs.ProgramGrammar.{depth_of, in_yes, in_no, in_body, program_reading, at_block, at_statement, at_no, close_block}
 use Rattle.hls_program_text.specs.Fronts.{tokens_behind_brace}
 use Rattle.hls_program_text.proofs.Readings.{opens_yes, opens_no, opens_body, else_taken}
-use Rattle.hls_program_text.proofs.Joined.{joined, if_joined}
+use Rattle.fs_phrase_text.proofs.Joined.{joined, if_joined}
 use Rattle.fs_phrase_text.proofs.PassedOn.{refused, stopped, goes_after}
 use Rattle.hls_program_text.proofs.blocks.+blocks.Goals as goal
 
