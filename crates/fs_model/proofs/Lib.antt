@@ -1,5 +1,6 @@
 pub mod Determined
 pub mod Filled
+pub mod Adding
 pub mod Behaviour
 pub mod Leaves
 pub mod Renamed

@@ -1,3 +1,4 @@
+pub mod Adding
 pub mod Codes
 pub mod Limits
 pub mod Machines

@@ -1,6 +1,7 @@
 //! Memory, which may be refused.
 
 ghost use Rattle.std.specs.Prelude.{◌≡◌, ◌++◌, ◌∷◌, [], IfOk, OnOk};
+ghost use Rattle.fs_model.specs.Adding.{AddsIfMade};
 
 use crate::name::NoMemory;
 use std::alloc::{AllocError, AllocFailed, Global};
@@ -45,5 +46,13 @@ pub fn push_value<T: Drop>(values: &mut Vec<T>, value: T) -> Result<(), NoMemory
     ensures { OnOk result (values.new.items ≡ values.old.items ++ value ∷ []) }
 {
     values.push(value)?;
+    Ok(())
+}
+
+/// Adds a value behind others, where it was made. The one refusal is out of memory.
+pub fn push_made<T: Drop>(values: &mut Vec<T>, made: Result<T, NoMemory>) -> Result<(), NoMemory>
+    ensures { OnOk result (AddsIfMade made values.old.items values.new.items) }
+{
+    values.push(made?)?;
     Ok(())
 }

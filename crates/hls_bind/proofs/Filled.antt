@@ -5,7 +5,7 @@ use Rattle.std.specs.Prelude.{◌==◌, Option, option_map}
 use Rattle.std.specs.Result.{IfOk}
 use Rattle.std.proofs.lemmas.List.{map_push, map_more, take_more, append-nil}
 use Rattle.std.proofs.lemmas.List.Elements.{filter-append}
-use Rattle.fs_model.proofs.Lists.{map_grown}
+use Rattle.fs_model.specs.Adding.{AddsIfMade}
 use Rattle.fs_model.specs.declared.name.NoMemory.{NoMemory}
 use Rattle.fs_model.specs.declared.parts.Decl.{Decl}
 use Rattle.fs_model.specs.Source.{Declaration, SourceTransition}
@@ -13,12 +13,6 @@ use Rattle.fs_model.specs.Terms.{Guard, Assignment}
 use Rattle.fs_model.specs.Renamed.{guard_over, assignment_over}
 use Rattle.fs_model.specs.View.{declaration_of}
 use Rattle.hls_bind.specs.Bindings.{declaration_without_bound, transition_renamed, remaining_declarations}
-use Rattle.hls_bind.specs.Pushed.{AddsIfMade}
-
-pub pushed : {T A : Type 0} (f : T → A) (made : Result T NoMemory) (old new : List T) (y : A) → AddsIfMade made old new → IfOk made (λ t. f t ≡ y)
-    → map f new ≡ map f old ++ y ∷ []
-pushed f (Ok x) old new y p e = map_grown f old new x y p e
-pushed f (Err e) old new y p h = absurd p
 
 pub put : {T : Type 0} (made : Result T NoMemory) (old new : List T) (y : T) → AddsIfMade made old new → IfOk made (λ t. t ≡ y) → new ≡ old ++ y ∷ []
 put (Ok x) old new y p e = p ∙ ap (λ z. old ++ z ∷ []) e

@@ -9,4 +9,3 @@ pub mod Live
 pub mod ConflictSearch
 pub mod Results
 pub mod Shared
-pub mod Pushed

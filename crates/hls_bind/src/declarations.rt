@@ -9,8 +9,8 @@ ghost use Rattle.hls_bind.specs.Bindings.{remaining_declarations};
 ghost use Rattle.hls_bind.specs.BindingEntries.{binding_entry};
 
 use crate::binding::BoundLocal;
-use crate::made::push_made;
 use crate::renaming::{Registers, place, register_at};
+use fs_model::memory::push_made;
 use fs_model::name::{Name, NoMemory};
 use fs_model::parts::Decl;
 use std::alloc::Global;

@@ -28,7 +28,6 @@ mod declarations;
 mod faults;
 mod flows;
 pub mod laws;
-mod made;
 mod outcome;
 mod reader;
 mod renaming;

@@ -8,8 +8,8 @@ ghost use Rattle.hls_bind.specs.Bindings.{register, transition_renamed, state_re
 ghost use Rattle.hls_bind.specs.BindingEntries.{binding_entry, name_for};
 
 use crate::binding::BoundLocal;
-use crate::made::push_made;
 use fs_model::copies::{Rename, renamed_assignments};
+use fs_model::memory::push_made;
 use fs_model::name::{Name, NoMemory};
 use fs_model::parts::{Guard, RawLine, RawState, VarInfo};
 use std::alloc::Global;

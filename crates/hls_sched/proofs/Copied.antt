@@ -5,8 +5,9 @@ use Rattle.std.specs.Result.{IfOk, OnOk}
 use Rattle.std.specs.List.{slice_index_or, flat_map}
 use Rattle.std.proofs.lemmas.Grind.{flat_map-append}
 use Rattle.std.proofs.lemmas.List.{map_more, get_or-map, take_all, append-nil}
-use Rattle.fs_model.proofs.Lists.{map_grown}
+use Rattle.fs_model.proofs.Adding.{map_push_made}
 use Rattle.fs_model.specs.declared.name.NoMemory.{NoMemory}
+use Rattle.fs_model.specs.Adding.{AddsIfMade}
 use Rattle.fs_model.specs.declared.parts.RawState.{RawState}
 use Rattle.fs_model.specs.Machines.{Fsmd}
 use Rattle.fs_model.specs.Source.{Source, SourceState, SourceTransition}
@@ -15,7 +16,6 @@ use Rattle.fs_model.specs.View.{source_state_of}
 use Rattle.hls_line_filling.specs.StraightLines.{is_straight}
 use Rattle.hls_line_filling.specs.SourceRows.{RowEffect, source_state}
 use Rattle.hls_line_filling.specs.Sources.{state_with_row, state_by, states_by}
-use Rattle.hls_sched.specs.Pushed.{AddsIfMade}
 use Rattle.hls_sched.specs.RowMoves.{transition_with_row}
 
 -- one item more of a list, behind others
@@ -23,12 +23,6 @@ pub one_more : {A C : Type 0} (g : A → C) (start : List C) (xs : List A) (i : 
     → new ≡ old ++ g x ∷ [] → old ≡ start ++ map g (take i xs) → new ≡ start ++ map g (take (i + 1) xs)
 one_more g start xs i x old new h e n o = n ∙ ap (λ l. l ++ g x ∷ []) o ∙ append_assoc start (map g (take i xs)) (g x ∷ [])
     ∙ ap (λ l. start ++ l) (sym (map_more g xs i x h ∙ ap (λ y. map g (take i xs) ++ g y ∷ []) (sym e)))
-
--- one item more, where it was made
-pub pushed : {T A : Type 0} (f : T → A) (made : Result T NoMemory) (old new : List T) (y : A) → AddsIfMade made old new → IfOk made (λ t. f t ≡ y)
-    → map f new ≡ map f old ++ y ∷ []
-pushed f (Ok x) old new y p e = map_grown f old new x y p e
-pushed f (Err e) old new y p h = absurd p
 
 -- what holds where a value is made, where it was made
 pub was_made : {T P : Type 0} (made : Result T NoMemory) (old new : List T) → AddsIfMade made old new → OnOk made P → P
@@ -86,7 +80,7 @@ module _ (p : Source) (m : Fsmd) (rows : ℕ → Option RowEffect) (q : ℕ) (s 
   row_added d made old new e h a =
       let is : states_by p m rows q ≡ state_with_row p s d ∷ [] = ap (state_by p m q) (sym found ∙ e)
       ∙ ap (λ (z : SourceState). state_with_row p z d ∷ []) (sym here) in
-      pushed source_state_of made old new (state_with_row p s d) a h ∙ ap (λ l. map source_state_of old ++ l) (sym is)
+      map_push_made source_state_of made old new (state_with_row p s d) a h ∙ ap (λ l. map source_state_of old ++ l) (sym is)
 
   pub state_added : (made : Result RawState NoMemory) (old new : List RawState) → o ≡ None → is_straight m q ≡ false
       → IfOk made (λ r. source_state_of r ≡ s) → AddsIfMade made old new
@@ -94,7 +88,7 @@ module _ (p : Source) (m : Fsmd) (rows : ℕ → Option RowEffect) (q : ℕ) (s 
   state_added made old new e f h a =
       let is : states_by p m rows q ≡ s ∷ [] = ap (state_by p m q) (sym found ∙ e) ∙ ap (λ t. cond t [] (source_state p q ∷ [])) f
       ∙ ap (λ (z : SourceState). z ∷ []) (sym here) in
-      pushed source_state_of made old new s a h ∙ ap (λ l. map source_state_of old ++ l) (sym is)
+      map_push_made source_state_of made old new s a h ∙ ap (λ l. map source_state_of old ++ l) (sym is)
 
   pub none_added : (old : List SourceState) → o ≡ None → is_straight m q ≡ true → old ≡ old ++ states_by p m rows q
   none_added old e f =

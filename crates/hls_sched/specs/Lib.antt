@@ -1,5 +1,4 @@
 pub mod Arrivals
-pub mod Pushed
 pub mod RowMoves
 pub mod CodeLines
 pub mod Reports

@@ -4,8 +4,8 @@ ghost use Rattle.std.specs.Prelude.{◌≡◌, ◌++◌, map, option_map, IfOk};
 ghost use Rattle.std.specs.Result.{OnOk};
 ghost use Rattle.fs_model.specs.View.{named_assignment, named_guard, source_transition_of, source_state_of, declaration_of};
 
-use crate::made::push_made;
 use fs_model::assignment_copies::{copied_assignment, copied_guard};
+use fs_model::memory::push_made;
 use fs_model::name::{Name, NoMemory};
 use fs_model::parts::{Assign, Decl, Guard, RawLine, RawState};
 use std::alloc::Global;

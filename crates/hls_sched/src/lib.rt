@@ -11,7 +11,6 @@
 pub mod arrivals;
 pub mod copies;
 pub mod lines;
-mod made;
 mod moves;
 mod parts;
 mod plans;

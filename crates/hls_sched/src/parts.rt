@@ -11,9 +11,9 @@ ghost use Rattle.hls_sched.specs.RowMoves.{joined_items, done_by, move_of, trans
 
 use crate::copies::{add_assignments, copied_declarations, copied_state};
 use crate::lines::is_straight;
-use crate::made::push_made;
 use crate::moves::Move;
 use fs_ast::machine::Machine;
+use fs_model::memory::push_made;
 use fs_model::name::{Name, NoMemory};
 use fs_model::parts::{Assign, Parts, RawLine, RawState, StateId};
 use std::alloc::Global;

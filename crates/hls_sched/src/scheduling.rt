@@ -23,12 +23,12 @@ ghost use Rattle.hls_sched.specs.declared.scheduling.SchedError.TheVariants as e
 
 use crate::arrivals::{Arrivals, count_arrivals};
 use crate::lines::{firsts, trace_line};
-use crate::made::push_made;
 use crate::moves::{Move, add_moves};
 use crate::parts::moved_parts;
 use crate::plans::plan_line;
 use fs_ast::lawful_machines::build_lawful;
 use fs_ast::machine::Machine;
+use fs_model::memory::push_made;
 use fs_model::name::NoMemory;
 use fs_model::parts::{Parts, StateId};
 use hls_line_filling::over::over_in;

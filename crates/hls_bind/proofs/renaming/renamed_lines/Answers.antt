@@ -3,14 +3,15 @@ use Rattle.fs_model.specs.View.{source_transition_of}
 use Rattle.hls_bind.specs.Bindings.{transition_renamed}
 use Rattle.hls_bind.specs.BindingEntries.{name_for}
 use Rattle.fs_model.proofs.Lists.{of_whole}
-use Rattle.hls_bind.proofs.Filled.{pushed, more_of}
+use Rattle.fs_model.proofs.Adding.{map_push_made}
+use Rattle.hls_bind.proofs.Filled.{more_of}
 use Rattle.hls_bind.proofs.renaming.renamed_lines.Goals as goal
 
 pub loop-line-preserved : goal.loop-line-preserved
 loop-line-preserved c =
     let r = transition_renamed (name_for c.args.registers.now) in
     more_of r source_transition_of [] c.args.lines.now c.loop-line.line-index c.line-item.result _ _ c.loop-line-test.true c.line-item.is
-    (pushed source_transition_of c.renamed_line.result _ _ (r (source_transition_of c.line-item.result)) c.in_ok-push_made.ensures c.renamed_line.ensures)
+    (map_push_made source_transition_of c.renamed_line.result _ _ (r (source_transition_of c.line-item.result)) c.in_ok-push_made.ensures c.renamed_line.ensures)
     c.loop-line.invariant
 
 pub returns : goal.returns
