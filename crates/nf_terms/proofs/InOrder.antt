@@ -45,10 +45,6 @@ pub second_fails : (a b : Bool) → b ≡ false → (a && b) ≡ false
 second_fails true b e = e
 second_fails false b e = refl
 
-pub both_hold : (a b : Bool) → a ≡ true → b ≡ true → (a && b) ≡ true
-both_hold true b e h = h
-both_hold false b e h = e
-
 -- what a chain of tests gives so far, with the last one that was made: all before it hold, or one of them fails
 pub one_more_test : (before last : Bool) {a v : Bool} → a ≡ before → a ≡ true → v ≡ last → v ≡ (before && last)
 one_more_test before last p h e = e ∙ ap (λ b. b && last) (sym (sym p ∙ h))

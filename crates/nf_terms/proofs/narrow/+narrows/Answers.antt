@@ -1,5 +1,6 @@
 use Rattle.std.proofs.Common.{◌≡◌, ◌+◌, Bool, ◌&&◌, List, refl, ap, sym, ◌∙◌, map, drop}
 use Rattle.std.proofs.lemmas.List.{at_drop_all}
+use Rattle.std.proofs.lemmas.Bool.{and_from}
 use Rattle.fs_model.proofs.Lists.{map_drop_next}
 use Rattle.nf_trees.specs.NormalTerms.{monomial_of, polynomial_of, writes_of}
 use Rattle.nf_terms.specs.Normal.{is_light, narrow_monomial, narrow_inside, narrow_writes, narrow_array, narrow_atom}
@@ -8,7 +9,7 @@ use Rattle.nf_trees.specs.declared.tree.PolyTree.{PolyTree}
 use Rattle.nf_trees.proofs.Compared.{polynomial_in-is}
 use Rattle.nf_trees.proofs.Degrees.{monomial_in-is}
 use Rattle.nf_trees.proofs.Compared.{array_in-is}
-use Rattle.nf_terms.proofs.InOrder.{fails, holds, second_fails, both_hold, one_more_test, no_more_test}
+use Rattle.nf_terms.proofs.InOrder.{fails, holds, second_fails, one_more_test, no_more_test}
 use Rattle.nf_trees.proofs.TreeParts.{atom_of_read, of_division}
 use Rattle.nf_terms.proofs.narrow.+narrows.Goals.{is_narrow_atom-then-is_narrow_arr, is_narrow_atom-else-is_narrow_arr}
 use Rattle.nf_terms.proofs.narrow.+narrows.Goals.{is_narrow_atom-then-is_light-2, is_narrow_atom-else-is_light-2}
@@ -112,7 +113,7 @@ is_narrow_arr-loop-index-preserved t c =
     let i = c.loop-index.index-index in
     let x = c.loop-index-item.result in
     holds write_test narrow_list (λ w ws. refl) xs i x c.loop-index-test.true c.loop-index-item.is
-    (both_hold _ _ (both_hold _ _ (both_hold _ _ (sym c.is_light.ensures ∙ c.if-not-is_light.false)
+    (and_from _ _ (and_from _ _ (and_from _ _ (sym c.is_light.ensures ∙ c.if-not-is_light.false)
     (sym c.is_narrow_inside.ensures ∙ c.if-not-is_narrow_inside.false)) (sym c.is_light-in-loop-index.ensures ∙ c.if-not-is_light-2.false))
     (sym c.is_narrow_inside-in-loop-index.ensures ∙ c.if-not-is_narrow_inside-2.false))
     ∙ c.loop-index.invariant

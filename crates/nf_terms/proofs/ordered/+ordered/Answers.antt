@@ -1,6 +1,7 @@
 use Rattle.std.proofs.Common.{rules, ◌≡◌, FitsSigned, ◌+◌, pos, not, ◌&&◌, map, drop, refl, ap, sym, ◌∙◌}
 use Rattle.std.specs.Int.{w128}
 use Rattle.std.specs.Ordering.{int_eq}
+use Rattle.std.proofs.lemmas.Bool.{and_from}
 use Rattle.nf_trees.specs.NormalTerms.{monomial_of, polynomial_of, writes_of}
 use Rattle.nf_terms.specs.Normal.{is_constant, stays_read, ordered_atom}
 use Rattle.nf_terms.specs.Normal.{atom_rises, monomial_rises, write_rises, is_written, ordered_monomial, ordered, ordered_writes, ordered_array}
@@ -8,7 +9,7 @@ use Rattle.nf_trees.specs.View.{atom_in, monomial_in, polynomial_in, array_in, t
 use Rattle.nf_trees.proofs.Compared.{polynomial_in-is}
 use Rattle.nf_trees.proofs.Degrees.{monomial_in-is}
 use Rattle.nf_trees.proofs.Compared.{array_in-is}
-use Rattle.nf_terms.proofs.InOrder.{atom_test, term_test, write_test, part_to_end, fails, holds, second_fails, both_hold, is_not_zero, is_zero}
+use Rattle.nf_terms.proofs.InOrder.{atom_test, term_test, write_test, part_to_end, fails, holds, second_fails, is_not_zero, is_zero}
 use Rattle.nf_terms.proofs.InOrder.{one_more_test, no_more_test}
 use Rattle.nf_trees.proofs.TreeParts.{atom_of_read, of_division}
 use Rattle.nf_terms.proofs.ordered.+ordered.Goals.{is_ordered_atom-then-is_ordered_arr, is_ordered_atom-else-is_ordered_arr}
@@ -41,7 +42,7 @@ is_ordered_mono-loop-i-preserved t c =
     let i = c.loop-i.i in
     let rest = part_to_end c.deref.result.now (i + 1) ∙ ap (drop (i + 1)) (c.deref.ensures.value ∙ sym c.deref-atom-items.ensures.value) in
     holds atom_test (λ as'. ordered_monomial (monomial_of (map atom_in as'))) (λ a as'. refl) xs i c.atom-item.result c.loop-i-test.true c.atom-item.is
-    (both_hold _ _ (sym c.is_ordered_atom.ensures ∙ c.if-not-is_ordered_atom.false)
+    (and_from _ _ (sym c.is_ordered_atom.ensures ∙ c.if-not-is_ordered_atom.false)
     (sym (c.atom_rises.ensures ∙ ap (λ as'. atom_rises (atom_in c.atom-item.result) (monomial_of (map atom_in as'))) rest) ∙ c.if-not-atom_rises.false))
     ∙ c.loop-i.invariant
 
@@ -74,7 +75,7 @@ is_ordered_poly-loop-i-preserved t c =
     let rest = part_to_end c.deref.result.now (i + 1) ∙ ap (drop (i + 1)) (c.deref.ensures.value ∙ sym c.deref-term-items.ensures.value) in
     let rises = c.monomial_rises.ensures ∙ ap (λ ts. monomial_rises (monomial_in x.0) (polynomial_of (map term_in ts))) rest in
     holds term_test (λ ts. ordered (polynomial_of (map term_in ts))) (λ t ts. refl) xs i x c.loop-i-test.true c.term-item.is
-    (both_hold _ _ (both_hold _ _ (is_not_zero x.1 c.if-term-eq0.false) (sym c.is_ordered_mono.ensures ∙ c.if-not-is_ordered_mono.false))
+    (and_from _ _ (and_from _ _ (is_not_zero x.1 c.if-term-eq0.false) (sym c.is_ordered_mono.ensures ∙ c.if-not-is_ordered_mono.false))
     (sym rises ∙ c.if-not-monomial_rises.false))
     ∙ c.loop-i.invariant
 
@@ -135,7 +136,7 @@ is_ordered_arr-loop-i-preserved t c =
     let again = c.is_written.ensures ∙ ap (λ ws. is_written (polynomial_in x.0) (writes_of (map write_in ws))) rest in
     let rises = c.write_rises.ensures ∙ ap (λ ws. write_rises (polynomial_in x.0) (writes_of (map write_in ws))) rest in
     holds write_test (λ ws. ordered_writes (writes_of (map write_in ws))) (λ w ws. refl) xs i x c.loop-i-test.true c.write-item.is
-    (both_hold _ _ (both_hold _ _ (both_hold _ _ (sym c.is_ordered_poly.ensures ∙ c.if-not-is_ordered_poly.false)
+    (and_from _ _ (and_from _ _ (and_from _ _ (sym c.is_ordered_poly.ensures ∙ c.if-not-is_ordered_poly.false)
     (sym c.is_ordered_poly-in-loop-i.ensures ∙ c.if-not-is_ordered_poly-2.false)) (ap not (sym again ∙ c.if-is_written.false)))
     (sym rises ∙ c.if-not-write_rises.false))
     ∙ c.loop-i.invariant
