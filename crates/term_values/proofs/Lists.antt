@@ -269,8 +269,5 @@ pub all_pass : {X Y : Type 0} (f : X → Y) (all : List Y → Bool) (xs : List X
     → all [] ≡ true → true ≡ whole
 all_pass f all xs i whole left h e = sym (left ∙ ap (λ l. all (map f l)) (drop_all i xs h) ∙ e)
 
-pub both : (a b : Bool) → a ≡ true → b ≡ true → (a && b) ≡ true
-both a b e h = ap (λ c. c && b) e ∙ h
-
 pub second_stops : (a b : Bool) → a ≡ true → b ≡ false → (a && b) ≡ false
 second_stops a b e h = ap (λ c. c && b) e ∙ h

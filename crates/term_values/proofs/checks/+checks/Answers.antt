@@ -1,9 +1,10 @@
 use Rattle.std.proofs.Common.{◌&&◌, map, ap, sym, ◌∙◌, refl}
+use Rattle.std.proofs.lemmas.Bool.{and_from}
 use Rattle.term_text.specs.declared.tree.WrittenArray.{out-WrittenArray}
 use Rattle.term_text.specs.View.{written_atom_in, written_monomial_in, written_polynomial_in, written_term_in, written_write_in, written_array_in}
 use Rattle.term_values.specs.Checks.{atom_passes, monomial_passes, polynomial_passes, array_passes}
 use Rattle.term_values.specs.ListParts.{stands, atoms_pass, monomials_pass, writes_pass}
-use Rattle.term_values.proofs.Lists.{passes, stops, all_pass, both, second_stops, atom_stands, monomial_stops, monomial_goes_on, polynomial_tree, array_tree}
+use Rattle.term_values.proofs.Lists.{passes, stops, all_pass, second_stops, atom_stands, monomial_stops, monomial_goes_on, polynomial_tree, array_tree}
 use Rattle.term_values.proofs.WrittenParts.{written_symbol, written_read, head_atom}
 use Rattle.term_values.proofs.checks.+checks.Goals as goal
 
@@ -54,7 +55,7 @@ array_passes-loop-index-preserved g t c =
     passes written_write_in (λ w. polynomial_passes r w.0 && polynomial_passes r w.1) (writes_pass r) (λ _ _. refl) c.deref-index-items.result.now
     c.loop-index.index-index x c.loop-index-test.true c.loop-index-item.is
     (array_passes r (written_array_in c.args.array.now)) c.loop-index.invariant
-    (both _ _ (sym c.polynomial_passes.ensures ∙ c.if-not-polynomial_passes.false)
+    (and_from _ _ (sym c.polynomial_passes.ensures ∙ c.if-not-polynomial_passes.false)
     (sym c.polynomial_passes-in-loop-index.ensures ∙ c.if-not-polynomial_passes-2.false))
 
 pub array_passes-returns-then-not-polynomial_passes : goal.array_passes-returns-then-not-polynomial_passes
