@@ -5,7 +5,7 @@ use Rattle.std.proofs.Common.{Ok, Err, refl, sym, ap, ap₂, ◌∙◌, subst, a
 use Rattle.std.specs.Prelude.{map, Result, is_ok, is_some, option_and_then}
 use Rattle.std.specs.List.{list_all, list_any, IsDistinct}
 use Rattle.std.specs.Str.{bytes_eq}
-use Rattle.std.proofs.lemmas.Bool.{and_from, and_parts, eqb-true, false≢true}
+use Rattle.std.proofs.lemmas.Bool.{and_from, and_parts, eqb-true, false≢true, or_left, or_right}
 use Rattle.std.proofs.lemmas.Cmp.{nat_list_eq_equiv}
 use Rattle.std.proofs.lemmas.List.{length-map}
 use Rattle.std.proofs.lemmas.Map.Made.{length-le_from_is_member}
@@ -42,14 +42,6 @@ position_key a b p = letter p.pos.side ∷ 46 ∷ position_name a b p.pos
 same_bytes : (x y : List ℕ) → x ≡ y → bytes_eq x y ≡ true
 same_bytes x y e = (bytes_eq-Decides x y).1 e
 
-or_true : (a b : Bool) → b ≡ true → (a || b) ≡ true
-or_true true b e = refl
-or_true false b e = e
-
-or_from : (a b : Bool) → a ≡ true → (a || b) ≡ true
-or_from true b e = refl
-or_from false b e = absurd (false≢true e)
-
 after_first : (o : Option ℕ) → is_some (option_map suc o) ≡ true → is_some o ≡ true
 after_first None e = e
 after_first (Some k) e = refl
@@ -67,8 +59,8 @@ module _ (a b : Fsmd) (side : Side) (c : ℕ) (cs : List ℕ) where
       → list_any (bytes_eq (letter side ∷ 46 ∷ c ∷ cs)) (map (position_key a b) ps) ≡ true)
       → is_some (cond t (Some 0) (option_map suc (first_place (names_on a b side ps) (c ∷ cs)))) ≡ true
       → list_any (bytes_eq (letter side ∷ 46 ∷ c ∷ cs)) (map (position_key a b) (p ∷ ps)) ≡ true
-  listed_at p ps true is more e = or_from _ _ (key_at p (same_side p.pos.side side) refl is)
-  listed_at p ps false is more e = or_true _ _ (more (after_first (first_place (names_on a b side ps) (c ∷ cs)) e))
+  listed_at p ps true is more e = or_left _ _ (key_at p (same_side p.pos.side side) refl is)
+  listed_at p ps false is more e = or_right _ _ (more (after_first (first_place (names_on a b side ps) (c ∷ cs)) e))
 
   listed : (ps : List Position) → is_some (first_place (names_on a b side ps) (c ∷ cs)) ≡ true
       → list_any (bytes_eq (letter side ∷ 46 ∷ c ∷ cs)) (map (position_key a b) ps) ≡ true
