@@ -1,8 +1,9 @@
 -- A state with one branch has one transition, which has no guard.
-use Rattle.std.proofs.Common.{◌≡◌, ℕ, ◌+◌, ◌≤◌, List, [], ◌∷◌, length, ap, sym, refl, ◌∙◌, arith, Option, Some, None, Bool, true, false}
-use Rattle.std.specs.Prelude.{not, ◌&&◌}
+use Rattle.std.proofs.Common.{◌≡◌, ℕ, ◌+◌, ◌≤◌, List, [], ◌∷◌, length, ap, sym, refl, ◌∙◌, arith, Option, Some, None, true, false}
+use Rattle.std.specs.Prelude.{not}
 use Rattle.std.specs.Option.{is_none}
-use Rattle.fs_model.proofs.Booleans.{and_second}
+use Rattle.std.proofs.lemmas.Bool.{not-true}
+use Rattle.fs_model.proofs.Booleans.{and_first, and_second}
 use Rattle.fs_rules.specs.SoundParts.{ends_open}
 use Rattle.fs_model.specs.Terms.{Guard, Test, Not, And, Or, Transition}
 use Rattle.fs_model.specs.Trees.{Tree, Empty, Leaf, Branch, tree_of_guard, tree_of_condition, tree_of_transitions, leaves, branches_of, count_leaves}
@@ -25,10 +26,6 @@ count-guarded (Some g) y n h = count-guard g y n
 open-guard : (o : Option (Guard ℕ)) → is_none o ≡ true → o ≡ None
 open-guard None h = refl
 open-guard (Some g) h = absurd (cc)
-
-not-true : (b c : Bool) → (not b && c) ≡ true → b ≡ false
-not-true true c h = absurd (cc)
-not-true false c h = refl
 
 pub count-lines : (ls : List (Transition ℕ ℕ)) → ends_open ls ≡ true → 1 ≤ count_leaves (tree_of_transitions ls)
 count-lines [] h = absurd (cc)
@@ -56,6 +53,7 @@ only_transition (l ∷ k ∷ rest) b h e =
       arith,
       ap length e,
       length_leaves (tree_of_transitions (l ∷ k ∷ rest)) [],
-      count-guarded l.guard (Leaf l.assignments l.target) (tree_of_transitions (k ∷ rest)) (not-true (is_none l.guard) (ends_open (k ∷ rest)) h),
+      count-guarded l.guard (Leaf l.assignments l.target) (tree_of_transitions (k ∷ rest))
+      (not-true (is_none l.guard) (and_first (not (is_none l.guard)) (ends_open (k ∷ rest)) h)),
       count-lines (k ∷ rest) (and_second (not (is_none l.guard)) (ends_open (k ∷ rest)) h),
     ))
