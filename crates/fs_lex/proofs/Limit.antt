@@ -2,7 +2,7 @@
 use Rattle.std.proofs.Common.{◌≡◌, ℕ, ◌+◌, ◌≤◌, List, [], ◌∷◌, ◌++◌, refl, sym, ap, subst, ◌∙◌, cond, inl, inr, append_assoc, append-nil, arith}
 use Rattle.std.specs.Prelude.{Bool, true, false, ◌&&◌, ◌⊎◌, nat_le, Option, Some, None, Ok, Err, IsTrue}
 use Rattle.std.specs.List.{AllByRecursion}
-use Rattle.std.proofs.lemmas.Bool.{leb-true}
+use Rattle.std.proofs.lemmas.Bool.{leb-true, and_parts}
 use Rattle.std.proofs.lemmas.List.Sums.{sum_by-cons}
 use Rattle.fs_model.specs.Source.{Source}
 use Rattle.fs_grammar.specs.declared.format.Format.{Format}
@@ -103,13 +103,9 @@ at_most ts part t behind n e o c =
 
 -- ---- the first token that is marked
 
-both_true : (a b : Bool) → (a && b) ≡ true → IsTrue a × IsTrue b
-both_true true b h = (refl, h)
-both_true false b h = absurd cc
-
 marked_counts : (ts : List Token) (t : Token) (behind : List Token) (n : ℕ) → AreCounted n (ts ++ t ∷ behind) → t.past_limit ≡ true
     → IsTrue (is_operator t.kind)
-marked_counts [] t behind n c h = (both_true (is_operator t.kind) (nat_le 128 n) (sym c.1 ∙ h)).0
+marked_counts [] t behind n c h = (and_parts (is_operator t.kind) (nat_le 128 n) (sym c.1 ∙ h)).0
 marked_counts (u ∷ ts) t behind n c h = marked_counts ts t behind (operators_up_to_token u.kind n) c.2 h
 
 -- the first marked token that can follow is one too many
@@ -118,7 +114,7 @@ first_marked : (ts : List Token) (t : Token) (behind : List Token) (n : ℕ) →
 first_marked ts t behind n c o f h =
     let i : IsTrue (is_operator t.kind) = marked_counts ts t behind n c h in
     let e : (part : List Token) × EndInExpression ts part = tokens_end ts t i f in
-    let two = both_true (is_operator t.kind) (nat_le 128 (operator_count e.0)) (sym (marked ts e.0 t behind n e.1 c) ∙ h) in
+    let two = and_parts (is_operator t.kind) (nat_le 128 (operator_count e.0)) (sym (marked ts e.0 t behind n e.1 c) ∙ h) in
     let least : 128 ≤ operator_count e.0 = leb-true 128 (operator_count e.0) two.1 in
     let most : operator_count e.0 ≤ 128 = at_most ts e.0 t behind n e.1 o c in
     record { operator = i; part = e.0; expression = e.1; full = omega arith }

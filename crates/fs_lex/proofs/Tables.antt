@@ -1,10 +1,10 @@
 -- Looking up bytes in a table of tokens.
 use Rattle.std.proofs.Common.{◌≡◌, ℕ, List, [], ◌∷◌, ◌++◌, length, refl, sym, ap, ◌∙◌, cond}
-use Rattle.std.specs.Prelude.{Bool, true, false, ◌&&◌, ◌==◌, Option, Some, None, IsTrue}
+use Rattle.std.specs.Prelude.{Bool, true, false, ◌==◌, Option, Some, None, IsTrue}
 use Rattle.std.specs.List.{list_all}
 use Rattle.std.specs.Map.{lookup}
 use Rattle.std.specs.Str.{bytes_eq}
-use Rattle.std.proofs.lemmas.Bool.{eqb-true}
+use Rattle.std.proofs.lemmas.Bool.{eqb-true, and_parts}
 use Rattle.std.proofs.lemmas.Slice.Eq.{bytes_eq-Decides}
 use Rattle.fs_grammar.specs.declared.token.TokenKind.{TokenKind}
 
@@ -43,16 +43,12 @@ missed : (b : Bool) (v : TokenKind) (o : Option TokenKind) → b ≡ false → o
 missed true v o e h = absurd cc
 missed false v o e h = h
 
-both_true : (a b : Bool) → IsTrue (a && b) → IsTrue a × IsTrue b
-both_true true b h = (refl, h)
-both_true false b h = absurd cc
-
 -- bytes of another length are not in a table
 pub other_length : (table : Table) (n : ℕ) (bs : List ℕ) → IsTrue (list_all (λ e. length e.0 == n) table) → (length bs ≡ n → ⊥)
     → lookup (bytes_eq bs) table ≡ None
 other_length [] n bs h f = refl
 other_length (e ∷ es) n bs h f =
-    let two = both_true (length e.0 == n) (list_all (λ (e : List ℕ × TokenKind). length e.0 == n) es) h in
+    let two = and_parts (length e.0 == n) (list_all (λ (e : List ℕ × TokenKind). length e.0 == n) es) h in
     missed (bytes_eq bs e.0) e.1 (lookup (bytes_eq bs) es)
     (false_unless (bytes_eq bs e.0) (λ q. f (ap length ((bytes_eq-Decides bs e.0).0 q) ∙ eqb-true (length e.0) n two.0))) (other_length es n bs two.1 f)
 
@@ -68,7 +64,7 @@ pub so_of_key : (q : List ℕ → Bool) (table : Table) (bs : List ℕ) (t : Tok
     → IsTrue (q bs)
 so_of_key q [] bs t h l = absurd cc
 so_of_key q (e ∷ es) bs t h l =
-    let two = both_true (q e.0) (list_all (λ (e : List ℕ × TokenKind). q e.0) es) h in
+    let two = and_parts (q e.0) (list_all (λ (e : List ℕ × TokenKind). q e.0) es) h in
     found (bytes_eq bs e.0) e.1 (lookup (bytes_eq bs) es) t (IsTrue (q bs)) (λ i same. ap q ((bytes_eq-Decides bs e.0).0 i) ∙ two.0)
     (λ i. so_of_key q es bs t two.1 i) l
 
@@ -77,5 +73,5 @@ pub so_of_token : (q : TokenKind → Bool) (table : Table) (bs : List ℕ) (t : 
     → lookup (bytes_eq bs) table ≡ Some t → IsTrue (q t)
 so_of_token q [] bs t h l = absurd cc
 so_of_token q (e ∷ es) bs t h l =
-    let two = both_true (q e.1) (list_all (λ (e : List ℕ × TokenKind). q e.1) es) h in
+    let two = and_parts (q e.1) (list_all (λ (e : List ℕ × TokenKind). q e.1) es) h in
     found (bytes_eq bs e.0) e.1 (lookup (bytes_eq bs) es) t (IsTrue (q t)) (λ i same. ap q (sym same) ∙ two.0) (λ i. so_of_token q es bs t two.1 i) l
