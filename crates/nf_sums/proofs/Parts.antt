@@ -1,5 +1,6 @@
 -- The parts of a normal polynomial.
-use Rattle.std.proofs.Common.{◌≡◌, ◌≤◌, ℤ, Bool, true, false, ◌&&◌, not, IsTrue, arith}
+use Rattle.std.proofs.Common.{◌≡◌, ◌≤◌, ℤ, true, ◌&&◌, not, arith}
+use Rattle.std.proofs.lemmas.Bool.{and_from}
 use Rattle.std.proofs.lemmas.Bool.Decides.{nat_tests}
 use Rattle.std.proofs.lemmas.Int.{fits_signed_from_abs}
 use Rattle.std.specs.Prelude.{pos, FitsSigned}
@@ -19,16 +20,12 @@ coefficient_fits m c p n = fits_signed_from_abs w128 c (omega (arith, light (Plu
 light_is : (p : Polynomial) → weight_of p ≤ weight_limit → is_light p ≡ true
 light_is p h = grind (arith, nat_tests)
 
-both_true : (a b : Bool) → a ≡ true → b ≡ true → IsTrue (a && b)
-both_true true b e f = f
-both_true false b e f = cc
-
 -- what follows the first monomial of a normal polynomial is normal
 pub rest_normal : (m : Monomial) (c : ℤ) (p : Polynomial) → IsNormal (Plus m c p) → IsNormal p
 rest_normal m c p n = record {
   ordered = and_second (not (int_eq c (pos 0)) && ordered_monomial m && monomial_rises m p) (ordered p) n.ordered;
   small = omega (arith, n.small);
   shallow = omega (arith, n.shallow);
-  narrow = both_true (is_light p) (narrow_inside p) (light_is p (omega (arith, light (Plus m c p) n)))
+  narrow = and_from (is_light p) (narrow_inside p) (light_is p (omega (arith, light (Plus m c p) n)))
       (and_second (narrow_monomial m) _ (and_second (is_light (Plus m c p)) _ n.narrow));
 }
