@@ -77,7 +77,7 @@ pub enum Ask {
 }
 
 /// Why nothing is asked.
-#[derive(Clone, Copy, Debug)]
+#[derive(Clone, Copy)]
 pub enum AskError {
     /// The words are no command, or ask for help.
     Usage,

@@ -7,7 +7,7 @@ pub use nf_trees::stop::NoMemory;
 use std::alloc::{AllocError, AllocFailed};
 
 /// Why an operation on normal forms gives none.
-#[derive(Clone, Copy, PartialEq, Eq)]
+#[derive(Clone, Copy)]
 pub enum NfStop {
     /// The operation's weight is past 2^127 - 1: the weights of its two sides.
     Wide { left: u128, right: u128 },

@@ -17,7 +17,7 @@ pub(crate) struct Frame {
 }
 
 /// A node on a path: its targets before `next` were looked at.
-#[derive(Clone, Copy, PartialEq, Eq)]
+#[derive(Clone, Copy)]
 pub(crate) struct Step {
     pub(crate) node: u32,
     pub(crate) next: usize,
