@@ -1,6 +1,6 @@
 //! The equations and the conditions of a node.
 
-ghost use Rattle.std.specs.Prelude.{◌≡◌, ◌<◌, [], Ok, Some, length, map, IsTrue, IfOk, OnOk};
+ghost use Rattle.std.specs.Prelude.{◌≡◌, ◌<◌, [], length, map, IsTrue, IfOk, OnOk};
 ghost use Rattle.std.specs.List.{list_all, AllByRecursion};
 ghost use Rattle.cert_values.specs.JsonTexts.{named_texts_of};
 ghost use Rattle.cert_values.specs.View.{items_view, members_view};

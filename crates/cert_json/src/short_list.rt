@@ -1,6 +1,6 @@
 //! Lists of which is kept what a certificate may have.
 
-ghost use Rattle.std.specs.Prelude.{◌≡◌, ◌&&◌, ◌||◌, false, is_some, IsTrue, OnOk};
+ghost use Rattle.std.specs.Prelude.{◌≡◌, ◌&&◌, false, is_some, IsTrue, OnOk};
 ghost use Rattle.std.specs.Result.{result_map_both};
 ghost use Rattle.serde_json.specs.Data.{Items, no_items};
 ghost use Rattle.serde_json.specs.Find.{as_str};

@@ -1,6 +1,6 @@
 //! Nodes.
 
-ghost use Rattle.std.specs.Prelude.{◌≡◌, ◌≤◌, ◌+◌, [], true, false, Ok, codes, length, map, IfOk, OnOk};
+ghost use Rattle.std.specs.Prelude.{◌≡◌, ◌≤◌, ◌+◌, [], true, false, codes, length, map, IfOk, OnOk};
 ghost use Rattle.std.specs.List.{list_any};
 ghost use Rattle.cert_values.specs.View.{view, items_view};
 ghost use Rattle.cert_values.specs.Shape.{is_node, are_nodes, has_many_conditions, some_has_many};

@@ -1,6 +1,6 @@
 //! The form of a certificate.
 
-ghost use Rattle.std.specs.Prelude.{◌≡◌, Option, option_map, option_and_then};
+ghost use Rattle.std.specs.Prelude.{◌≡◌, option_map, option_and_then};
 ghost use Rattle.cert_values.specs.View.{view, items_view, members_view};
 ghost use Rattle.serde_json.specs.Find.{as_array, as_object, as_str};
 ghost use Rattle.cert_values.specs.Shape.{has_members, is_text, are_texts, name_texts, is_list_of_texts, is_map_of_texts};

@@ -1,5 +1,5 @@
 //! What the program reaches outside itself, by trait.
-ghost use Rattle.std.specs.Prelude.{◌≡◌, ◌<◌, ◌≤◌, [], ◌∷◌, length, take, Option, IfOk, OnOk};
+ghost use Rattle.std.specs.Prelude.{◌≡◌, ◌<◌, ◌≤◌, [], ◌∷◌, length, take, IfOk, OnOk};
 ghost use Rattle.std.specs.Result.{IfErr, OnErr};
 
 use std::alloc::Global;

@@ -1,5 +1,5 @@
 //! Sinks in memory. Each takes its memory before it is put to, by `reserve`.
-ghost use Rattle.std.specs.Prelude.{◌≡◌, ◌+◌, ◌<◌, ◌≤◌, [], ◌++◌, length, take, OnOk, IfOk, vec_len, vec_capacity};
+ghost use Rattle.std.specs.Prelude.{◌≡◌, ◌+◌, ◌<◌, ◌≤◌, [], ◌++◌, length, OnOk, IfOk, vec_len, vec_capacity};
 ghost use Rattle.std.specs.Result.{OnErr};
 ghost use Rattle.fs_base.specs.Sinks.{RoomySink, with_room, ScriptedSink, no_puts, with_room_scripted, taken_next, after_taking};
 ghost use Rattle.fs_base.specs.Sinks.{after_failed_put};

@@ -1,7 +1,7 @@
 //! Parts that a text can spell: no number is negative, each declaration has a name, each port is an output, and each guard and
 //! each assignment has at most 128 operators and needed brackets.
 
-ghost use Rattle.std.specs.Prelude.{◌≡◌, ◌+◌, min, ◌||◌, map, option_map};
+ghost use Rattle.std.specs.Prelude.{◌≡◌, ◌+◌, min, map, option_map};
 ghost use Rattle.std.specs.List.{list_all};
 ghost use Rattle.fs_model.specs.View.{named_term, named_guard, named_assignment, declaration_of, source_transition_of};
 ghost use Rattle.fs_model.specs.View.{source_state_of, source_of};

@@ -15,7 +15,6 @@ ghost use Rattle.fs_rules.specs.SoundParts.{scalars_in_assignments};
 ghost use Rattle.fs_rules.specs.SoundParts.{arrays_in_assignments, port_in, ports_in_assignments, emits_of, emit_count, input_at};
 ghost use Rattle.fs_rules.specs.SoundParts.{changed_by, assigned_in, all_differ, occurs};
 ghost use Rattle.fs_rules.specs.Rules.{at_lines, transition_faults, transitions_faults, after_else, state_faults};
-ghost use Rattle.fs_rules.specs.Rules.{changes_input};
 ghost use Rattle.std.specs.List.{flat_map};
 ghost use Rattle.fs_rules.specs.FirstFault.{earliest};
 ghost use Rattle.fs_rules.specs.Places.{names_stated};

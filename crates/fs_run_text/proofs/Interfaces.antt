@@ -1,5 +1,5 @@
 -- The outputs of machines with the same interface.
-use Rattle.std.proofs.Common.{◌≡◌, ◌≢◌, ℕ, Bool, true, false, cond, List, [], ◌∷◌, Option, refl, sym, ◌∙◌, ap, subst, inl, inr}
+use Rattle.std.proofs.Common.{◌≡◌, ℕ, Bool, true, false, cond, List, [], ◌∷◌, Option, refl, sym, ◌∙◌, ap, subst, inl, inr}
 use Rattle.std.specs.Prelude.{Some, None, IsSome, map, ◌&&◌, not, ◌⊎◌}
 use Rattle.std.specs.List.{filter, AllByRecursion}
 use Rattle.std.specs.Str.{bytes_eq}

@@ -1,6 +1,6 @@
 //! The texts of guards.
 
-ghost use Rattle.std.specs.Prelude.{◌≡◌, ◌++◌, ◌||◌, IsTrue, OnOk, option_map};
+ghost use Rattle.std.specs.Prelude.{◌≡◌, ◌++◌, IsTrue, OnOk, option_map};
 ghost use Rattle.fs_model.specs.View.{named_guard};
 ghost use Rattle.fs_write.specs.Canonical.{relation_text, guard_text, when_text};
 ghost use Rattle.fs_write.specs.Spellable.{is_spellable_guard, is_spellable_condition};

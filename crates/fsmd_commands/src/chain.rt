@@ -20,7 +20,6 @@ ghost use Rattle.fsmd_commands.specs.HoldingLinks.{LinkHolds};
 use cert_model::cert::Cert;
 use fs_ast::machine::Machine;
 use fs_base::outside::Files;
-use fs_pair::positions::Pairing;
 use fsmd_machine_commands::links::{add_link, at_link, chain_answer};
 use fsmd_machine_commands::load::{load_certificate, load_machine};
 use fsmd_machine_commands::memory::made_answer;

@@ -9,7 +9,7 @@ use Rattle.fs_rules.specs.Rules.{declared_names}
 use Rattle.fs_rules.proofs.Naming.{names_declared}
 use Rattle.fs_ast.proofs.Kept.{differ, all_kept}
 use Rattle.fs_pair.specs.Interfaces.{interface_fault}
-use Rattle.cert_bisimulation.specs.Alike.{Alike, WhereAlike}
+use Rattle.cert_bisimulation.specs.Alike.{WhereAlike}
 use Rattle.fsmd_tool.proofs.Interfaces.{OwnNames, one_interface}
 use Rattle.fsmd_tool.proofs.Alike.{closes_where_same, has_limit, no_counterexample}
 use Rattle.fsmd_replies.specs.declared.answer.Answer.{Answer}

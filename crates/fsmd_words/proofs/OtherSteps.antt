@@ -1,5 +1,5 @@
 -- Words that spell no number of steps, behind `--steps`.
-use Rattle.std.proofs.Common.{◌≡◌, ◌∙◌, ◌++◌, ap, ℕ, ◌<◌, ◌≤◌, ◌+◌, Bool, true, false, refl, arith, List, [], ◌∷◌, Some, codes}
+use Rattle.std.proofs.Common.{◌≡◌, ◌∙◌, ◌++◌, ap, ℕ, ◌<◌, ◌≤◌, ◌+◌, true, false, refl, arith, List, [], ◌∷◌, Some, codes}
 use Rattle.std.specs.Str.Parse.{digits_value, without_leading_plus}
 use Rattle.std.proofs.lemmas.Bool.{leb-true, false_from_ne_true}
 use Rattle.clap.specs.Words.{Shape, Text}

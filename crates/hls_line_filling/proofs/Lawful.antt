@@ -1,5 +1,5 @@
 -- The scheduled parts break no rule.
-use Rattle.std.proofs.Common.{◌≡◌, inl, inr, ℕ, zero, suc, ◌+◌, ◌<◌, ◌≤◌, refl, sym, ◌∙◌, ap, subst, arith, Bool, true, List, [], ◌∷◌, ◌++◌}
+use Rattle.std.proofs.Common.{◌≡◌, inl, inr, ℕ, zero, suc, ◌<◌, ◌≤◌, refl, sym, ◌∙◌, ap, subst, arith, true, List, [], ◌∷◌, ◌++◌}
 use Rattle.std.proofs.Common.{append_assoc, map, length, Some, None}
 use Rattle.std.specs.Prelude.{◌&&◌, not, nat_le, slice_get}
 use Rattle.std.proofs.lemmas.List.{same_lists, get_or-map}

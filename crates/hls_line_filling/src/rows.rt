@@ -1,6 +1,6 @@
 //! All rows, one after another.
 
-ghost use Rattle.std.specs.Prelude.{◌≡◌, ◌<◌, ◌≤◌, ℕ, suc, cond, true, None, length, IfOk};
+ghost use Rattle.std.specs.Prelude.{◌≡◌, ◌≤◌, ℕ, suc, cond, true, length, IfOk};
 ghost use Rattle.hls_line_filling.specs.Filling.{all_placed, filled_from, filling_of};
 ghost use Rattle.hls_line_filling.specs.ItemUnits.{units_in};
 ghost use Rattle.hls_line_filling.specs.Profiles.{graph_in};

@@ -1,6 +1,6 @@
 //! The units that items use.
 
-ghost use Rattle.std.specs.Prelude.{◌≡◌, ◌+◌, ◌-◌, map};
+ghost use Rattle.std.specs.Prelude.{◌≡◌, ◌+◌, map};
 ghost use Rattle.fs_model.specs.View.{term_of, assignment_of};
 ghost use Rattle.hls_line_filling.specs.ItemUnits.{one_of, used_by_term, used_by_assignment, used_by, units_in, suffice};
 ghost use Rattle.hls_unit_counts.specs.declared.units.Unit.{Unit as Kind};

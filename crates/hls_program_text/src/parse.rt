@@ -1,6 +1,6 @@
 //! A program, from its tokens.
 
-ghost use Rattle.std.specs.Prelude.{◌≡◌, ◌<◌, List, None, []};
+ghost use Rattle.std.specs.Prelude.{◌≡◌, List, None, []};
 ghost use Rattle.fs_model.specs.Source.{Declaration};
 ghost use Rattle.fs_grammar.specs.Tokens.{Gives, ParsesOn};
 ghost use Rattle.hls_program_parts.specs.Programs as plain;

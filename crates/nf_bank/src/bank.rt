@@ -1,6 +1,6 @@
 //! Atoms, each once, by their numbers.
 
-ghost use Rattle.std.specs.Prelude.{◌≡◌, ◌<◌, ◌≤◌, [], length, take, slice_get, Some, None};
+ghost use Rattle.std.specs.Prelude.{◌≡◌, ◌<◌, ◌≤◌, [], length, take, slice_get, Some};
 ghost use Rattle.std.specs.Prelude.{IfOk, OnOk, OnErr};
 ghost use Rattle.nf_terms.specs.View.{atom_in};
 ghost use Rattle.nf_bank.specs.Atoms.{atom_place, with_one, with_atom, IsBank, IsFront};

@@ -1,6 +1,6 @@
 //! Products of ordered lists of terms.
 
-ghost use Rattle.std.specs.Prelude.{◌≡◌, ◌*ℤ◌, ◌+◌, ◌*◌, ◌≤◌, ◌++◌, ◌∷◌, [], map, OnOk, IfOk, IsTrue, unsigned_abs, length};
+ghost use Rattle.std.specs.Prelude.{◌≡◌, ◌*ℤ◌, ◌*◌, ◌≤◌, ◌++◌, ◌∷◌, [], map, OnOk, IfOk, IsTrue, unsigned_abs, length};
 ghost use Rattle.nf_terms.specs.NormalTerms.{polynomial_of};
 ghost use Rattle.nf_terms.specs.View.{monomial_in, term_in};
 ghost use Rattle.nf_terms.specs.Measures.{weight_of};

@@ -1,6 +1,6 @@
 //! Where the moves lead by which one machine moves alone.
 
-ghost use Rattle.std.specs.Prelude.{◌≡◌, ◌≤◌, ◌++◌, ◌&&◌, true, length, map, IsTrue, IfOk, OnOk};
+ghost use Rattle.std.specs.Prelude.{◌≡◌, ◌≤◌, ◌++◌, ◌&&◌, length, map, IsTrue, IfOk, OnOk};
 ghost use Rattle.fs_model.specs.Limits.{most_branches};
 ghost use Rattle.fs_cut.specs.Paths.{is_point};
 ghost use Rattle.fs_cut.specs.View.{point_of, path_of};

@@ -1,5 +1,5 @@
 -- Pairs of points as keys: equal where both points are the same, and then hashed alike.
-use Rattle.std.specs.Prelude.{◌≡◌, ◌+◌, Bool, true, false, ◌&&◌, ◌++◌}
+use Rattle.std.specs.Prelude.{◌≡◌, Bool, true, false, ◌&&◌, ◌++◌}
 use Rattle.std.specs.Hash as fed
 use Rattle.std.proofs.Common.{refl, ap, ap₂, sym, ◌∙◌}
 use Rattle.std.proofs.lemmas.Bool.{eq-eqb, and_from}

@@ -4,7 +4,6 @@ use crate::solution::Solution;
 use fs_model::parts::Role;
 use fs_pair::positions::Position;
 use nf_substitution::subst::Subst;
-use nf_substitution::vector::Vector;
 use nf_symbols::gathering::symbols_of_nf;
 use nf_terms::form::Nf;
 use nf_terms::stop::NoMemory;

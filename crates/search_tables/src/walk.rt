@@ -1,6 +1,6 @@
 //! Depth-first search: each node gets its rank once its targets have theirs, or an edge leads back to the stack.
 
-ghost use Rattle.std.specs.Prelude.{◌≡◌, ℕ, List, ◌+◌, ◌<◌, ◌≤◌, ◌++◌, ◌∷◌, [], Some, None, length, drop, IfNone, IfSome, IfOk};
+ghost use Rattle.std.specs.Prelude.{◌≡◌, ℕ, List, ◌<◌, ◌≤◌, ◌++◌, ◌∷◌, [], Some, length, drop, IfNone, IfSome, IfOk};
 ghost use Rattle.std.specs.Prelude.{OnOk, slice_get, map};
 ghost use Rattle.search_tables.specs.Graphs.{IsCycle, BeginsLeast};
 ghost use Rattle.search_tables.specs.Walks.{AreRight, IsStack, InRange, NoneOpen, StepsWalk, Visits, IsRanking, lists_in};

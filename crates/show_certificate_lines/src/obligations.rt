@@ -1,6 +1,6 @@
 //! The obligations of a certificate, by number.
 
-ghost use Rattle.std.specs.Prelude.{◌≡◌, ◌++◌, ◌<◌, ◌+◌, IfOk, OnOk, map};
+ghost use Rattle.std.specs.Prelude.{◌≡◌, ◌++◌, IfOk, OnOk, map};
 ghost use Rattle.cert_model.specs.View.{node_of};
 ghost use Rattle.search_tables.specs.SearchTables.{machines};
 ghost use Rattle.show_certificate_lines.specs.Demands.{numbered_line, numbered_lines, obligation_lines};

@@ -5,7 +5,6 @@ ghost use Rattle.fs_pair.specs.Interfaces.{interface_fault};
 ghost use Rattle.fs_pair.specs.Positions.{positions};
 ghost use Rattle.cert_model.specs.Lawful.{IsLawful};
 ghost use Rattle.cert_model.specs.View.{node_of};
-ghost use Rattle.show_search_views.specs.Demands.{obligation_lines};
 ghost use Rattle.fsmd_tool.specs.ComparisonAnswers.{IsOfPair};
 ghost use Rattle.fsmd_replies.specs.declared.answer.Answer.TheVariants.{Differs};
 ghost use Rattle.fsmd_replies.specs.Replies.{equivalent_text};

@@ -1,4 +1,4 @@
-use Rattle.std.proofs.Common.{◌∙◌, arith}
+use Rattle.std.proofs.Common.{arith}
 use Rattle.fs_rules.proofs.Walks.{all_reach, none_settled_in, seen_more}
 use Rattle.fs_rules.proofs.Rounds.{all_found}
 use Rattle.fs_rules.proofs.uncut_cycles.find_endless.Goals as goal

@@ -1,7 +1,5 @@
 //! Literals, clashes and implication.
 
-ghost use Rattle.std.specs.Prelude.{◌<◌};
-
 use crate::layers::terms::forms::{form, put_each};
 use crate::layers::terms::rows::number;
 use crate::layers::terms::trees::put_last;

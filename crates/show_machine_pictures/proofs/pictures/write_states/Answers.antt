@@ -1,4 +1,4 @@
-use Rattle.std.proofs.Common.{◌-◌, ◌<◌, ◌∙◌, arith, length}
+use Rattle.std.proofs.Common.{◌<◌, ◌∙◌, arith, length}
 use Rattle.show_machine_pictures.specs.Pictures.{state_lines}
 use Rattle.show_machine_pictures.proofs.Loops.{flat_step}
 use Rattle.show_machine_pictures.proofs.pictures.write_states.Goals as goal

@@ -1,4 +1,4 @@
-use Rattle.std.proofs.Common.{◌≡◌, ◌+◌, ◌*◌, map, drop}
+use Rattle.std.proofs.Common.{◌≡◌, ◌+◌, map, drop}
 use Rattle.nf_rel.specs.View.{literal_in}
 use Rattle.sym_facts.specs.Facts.{size_of_literals}
 use Rattle.sym_facts.proofs.fact.size_of_literals.Given as goal

@@ -1,8 +1,8 @@
-use Rattle.std.proofs.Common.{◌≡◌, List, length, map, ap, ap₂, sym, subst, ◌∙◌, arith}
+use Rattle.std.proofs.Common.{◌≡◌, length, map, ap, ap₂, sym, subst, ◌∙◌, arith}
 use Rattle.std.proofs.lemmas.List.{length-map}
 use Rattle.std.specs.List.{position_from}
 use Rattle.nf_rel.specs.View.{literal_in}
-use Rattle.sym_facts.specs.Facts.{Fact, is_unsolved}
+use Rattle.sym_facts.specs.Facts.{is_unsolved}
 use Rattle.sym_facts.specs.Pairings.{IsFactOf}
 use Rattle.sym_facts.specs.FactParts.{with_equations, fact_of, IsKept}
 use Rattle.sym_facts.specs.View.{position_in}
