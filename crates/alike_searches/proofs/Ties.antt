@@ -1,18 +1,12 @@
 -- What a position with the same values as another is tied to.
 use Rattle.std.proofs.Common.{◌≡◌, cond, Bool, true, false, refl, ap, ap₂, sym, subst, ◌∙◌, List, [], ◌∷◌, ◌++◌, Option, Some, None}
 use Rattle.std.specs.Prelude.{◌&&◌}
-use Rattle.std.specs.declared.cmp.Ordering.{Ordering}
-use Rattle.std.specs.declared.cmp.Ordering.TheVariants.{Less, Equal, Greater}
-use Rattle.std.specs.Ordering.{is_eq, ordering_reverse}
 use Rattle.std.proofs.lemmas.Bool.{and_from}
 use Rattle.fs_model.specs.declared.parts.Sort.{Sort}
 use Rattle.fs_model.specs.declared.parts.Sort.TheVariants as sort
 use Rattle.nf_terms.specs.NormalTerms.{Polynomial, Zero, polynomial_of_symbol}
 use Rattle.nf_terms.specs.Order.{same_polynomial}
-use Rattle.nf_terms.specs.Lists.{ListTerm, cmp_list}
 use Rattle.nf_terms.specs.Forms.{same_form}
-use Rattle.nf_terms.specs.TermKeys.{polynomial_same, array_same}
-use Rattle.nf_terms.specs.ListComparison.{lists_total}
 use Rattle.nf_terms.specs.Computed.{Computed, Done, after}
 use Rattle.fs_model.specs.declared.sides.Pos.{Pos}
 use Rattle.nf_terms.specs.declared.form.Nf.{Nf}
@@ -26,26 +20,14 @@ use Rattle.sym_facts.specs.Facts.{own_symbol, has_its_sort}
 use Rattle.sym_facts.specs.Entailment.{form_like}
 use Rattle.search_tables.specs.Rebases.{value_at}
 use Rattle.search_tables.specs.Joins.{Freed, symbol_like, number_tied_to, number_tied, is_alike, form_tied, tied_equation}
+use Rattle.search_tables.proofs.StartEntailed.{own_form}
 use Rattle.alike_searches.proofs.Computing.{sum_is}
 use Rattle.alike_searches.proofs.RisenSubstitutions.{self_difference}
 
 -- ---- forms and sorts
 
-list_self : (l : ListTerm) → cmp_list l l ≡ Equal
-list_self l = by_order (cmp_list l l) (lists_total.antisymm l l)
-  where
-    by_order : (r : Ordering) → r ≡ ordering_reverse r → r ≡ Equal
-    by_order Less e = absurd (cc e)
-    by_order Equal e = refl
-    by_order Greater e = absurd (cc e)
-
-form_self : (f : Nf) → same_form f f ≡ true
-form_self (Num p) = ap is_eq (polynomial_same p p refl)
-form_self (Arr a) = ap is_eq (array_same a a refl)
-form_self (Seq l) = ap is_eq (list_self l)
-
 pub same_of_equal : (f g : Nf) → f ≡ g → same_form f g ≡ true
-same_of_equal f g e = subst (λ z. same_form f z ≡ true) e (form_self f)
+same_of_equal f g e = subst (λ z. same_form f z ≡ true) e (own_form f)
 
 -- of the sort of a form, what a vector has at a position is its value
 pub value_like : (v : List (Pos × Nf)) (s : Sort) (p : Pos) (f : Nf) → has_its_sort s (Some f) ≡ true → form_like v p f ≡ value_at v s p
@@ -190,7 +172,7 @@ module _ (v : List (Pos × Nf)) where
 
   form_tied_self : (p : Pos) (t : Nf) → form_tied v p t (record { pos = p; old = t } ∷ []) ≡ Some (symbol_like p t)
   form_tied_self p t = ap (λ b. cond {A = Option Nf} b (Some (symbol_like p t)) None)
-      (and_from (same_form t t) (same_form (form_like v p t) (form_like v p t)) (form_self t) (form_self (form_like v p t)))
+      (and_from (same_form t t) (same_form (form_like v p t) (form_like v p t)) (own_form t) (own_form (form_like v p t)))
 
   -- where a position is not tied and is freed, one with its values is tied to it
   pub tied_to_freed : (p q : Pos) (t : Nf) (fs : List Freed) (r : Option Nf) → form_like v p t ≡ form_like v q t → tied_equation v p t fs ≡ Done None
