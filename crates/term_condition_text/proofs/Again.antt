@@ -1,6 +1,7 @@
 -- What a reader answers for the text of a term.
-use Rattle.std.proofs.Common.{◌≡◌, nat_le, true, List, ℕ, Result, Ok, Err, Some, None, sym, ap, ◌∙◌}
+use Rattle.std.proofs.Common.{◌≡◌, nat_le, true, List, ℕ, Result, Ok, Err, Some, sym, ap, ◌∙◌}
 use Rattle.std.specs.Prelude.{IfOk}
+use Rattle.std.proofs.lemmas.Option.{none-some}
 use Rattle.nf_terms.specs.TermLimits.{depth_limit}
 use Rattle.term_text.specs.declared.fault.ReadError.{ReadError}
 use Rattle.term_text.specs.declared.fault.ReadError.TheVariants.{BadTerm, NoMemory}
@@ -13,14 +14,11 @@ use Rattle.term_text.specs.Brackets.{most_open}
 same_term : (t u : TermSyntax) → Some t ≡ Some u → t ≡ u
 same_term t u e = cc
 
-none_is_no_term : (t : TermSyntax) → None ≡ Some t → ⊥
-none_is_no_term t e = cc
-
 -- a term that is spelled is what is read
 pub again : {X : Type 0} (start : Owed) (term_of : X → TermSyntax) (r : Result X ReadError) (bytes : List ℕ) (t : TermSyntax)
     → term_reading (term_text t) start ≡ Some t → IsRead start term_of r bytes → SpellsTermText bytes t → TermMadeAs r (λ x. term_of x ≡ t)
 again start term_of (Ok x) bytes t w h s = same_term (term_of x) t (sym h ∙ ap (λ (bs : List ℕ). term_reading bs start) s.text ∙ w)
-again start term_of (Err BadTerm) bytes t w h s = none_is_no_term t (sym h ∙ ap (λ (bs : List ℕ). term_reading bs start) s.text ∙ w)
+again start term_of (Err BadTerm) bytes t w h s = none-some t (sym h ∙ ap (λ (bs : List ℕ). term_reading bs start) s.text ∙ w)
 again start term_of (Err NoMemory) bytes t w h s = tt
 
 -- what is read is spelled

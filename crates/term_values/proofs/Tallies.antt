@@ -3,6 +3,7 @@ use Rattle.std.proofs.Common.{◌≡◌, ℕ, suc, ◌≤◌, ◌<◌, nat_le, B
 use Rattle.std.proofs.Common.{Some, None, Bor, Result, Ok, Err, length, refl, sym, ap, subst, ◌∙◌, arith}
 use Rattle.std.specs.Result.{IfOk, IfErr, IsErrAnd}
 use Rattle.std.specs.Option.{option_or}
+use Rattle.std.proofs.lemmas.Option.{none-some}
 use Rattle.nf_terms.specs.TermLimits.{size_limit, depth_limit}
 use Rattle.nf_terms.specs.declared.symbols.Sort.TheVariants as sort
 use Rattle.nf_rel.specs.NormalLiterals.{is_normal}
@@ -10,7 +11,7 @@ use Rattle.term_text.specs.declared.fault.ReadError.{ReadError}
 use Rattle.term_text.specs.declared.fault.ReadError.TheVariants as unread
 use Rattle.term_text.specs.AtomStarts.{MadeFrom}
 use Rattle.term_text.specs.Machine.{ForPolynomial, Goes, rest_after, term_reading, at_polynomial, whole_polynomial, after_sum, at_sign}
-use Rattle.term_text.specs.TermTexts.{Monomial, Sum, TermSyntax, Of, polynomial, array, list}
+use Rattle.term_text.specs.TermTexts.{Monomial, Sum, Of, polynomial, array, list}
 use Rattle.term_text.specs.declared.tree.WrittenMonomial.{WrittenMonomial}
 use Rattle.term_text.specs.View.{written_monomial_in, first_sum, more_sum}
 use Rattle.term_text.specs.Brackets.{most_open}
@@ -203,13 +204,10 @@ long_refused find bytes t shallow h l =
       first = long_fault find bytes t h l;
     })
 
-none_is_no_term : (t : TermSyntax) → None ≡ Some t → ⊥
-none_is_no_term t e = cc
-
 pub unread_refused : (find : Find) (bytes : List ℕ) → term_reading bytes (at_polynomial whole_polynomial) ≡ None
     → IsRefusedAsTerm find sort.Scalar bytes BadTerm
 unread_refused find bytes e (polynomial p) f s =
-    none_is_no_term (polynomial p) (sym e ∙ ap (λ (bs : List ℕ). term_reading bs (at_polynomial whole_polynomial)) s.text ∙ read_again (polynomial p) s.spelled)
+    none-some (polynomial p) (sym e ∙ ap (λ (bs : List ℕ). term_reading bs (at_polynomial whole_polynomial)) s.text ∙ read_again (polynomial p) s.spelled)
 unread_refused find bytes e (array a) f s = absurd cc
 unread_refused find bytes e (list l) f s = absurd cc
 
