@@ -1,9 +1,10 @@
 -- Members of lists.
 use Rattle.std.proofs.Common.{◌≡◌, ◌⊎◌, inl, inr, ℕ, zero, suc, ◌+◌, ◌<◌, ◌≤◌, refl, sym, ◌∙◌, ap, subst, arith, Bool, true, false, List, [], ◌∷◌, ◌++◌}
-use Rattle.std.specs.Prelude.{◌==◌, ◌≢◌, ◌||◌, cond, filter}
+use Rattle.std.specs.Prelude.{◌==◌, ◌≢◌, ◌||◌, cond, filter, slice_get, Some}
 use Rattle.std.specs.List.{range_with_len, list_any, flat_map}
 use Rattle.std.proofs.lemmas.Bool.Decides.{nat_tests}
 use Rattle.std.proofs.lemmas.Bool.{or_left, or_right}
+use Rattle.std.proofs.lemmas.Option.{same_Some}
 use Rattle.fs_ast.specs.SoundParts.{occurs}
 
 abbrev pub Among : {X : Type 0} → X → List X → Type 0
@@ -13,6 +14,11 @@ Among x (y ∷ ys) = (x ≡ y) ⊎ Among x ys
 range_step : (a n q : ℕ) (t : Bool) → (q == a) ≡ t → a ≤ q → (a + 1 ≤ q → Among q (range_with_len (a + 1) n)) → (q ≡ a) ⊎ Among q (range_with_len (a + 1) n)
 range_step a n q true e h w = inl (grind (arith, nat_tests))
 range_step a n q false e h w = inr (w (let d : q ≢ a = grind (arith, nat_tests) in omega (arith, d)))
+
+pub among_at : {X : Type 0} (xs : List X) (j : ℕ) (x : X) → slice_get xs j ≡ Some x → Among x xs
+among_at [] j x e = absurd (cc e)
+among_at (y ∷ ys) zero x e = inl (sym (same_Some y x e))
+among_at (y ∷ ys) (suc j) x e = inr (among_at ys j x e)
 
 module _ {X : Type 0} where
   among_left : (x : X) (xs ys : List X) → Among x xs → Among x (xs ++ ys)

@@ -10,7 +10,8 @@ use Rattle.std.proofs.lemmas.List.FromFn.{get_or-map-range_with_len}
 use Rattle.std.proofs.lemmas.Map.Steps.{le-length_from_below}
 use Rattle.std.proofs.lemmas.Option.{same_Some}
 use Rattle.fs_model.proofs.Booleans.{and_first, and_second, or_other}
-use Rattle.fs_model.proofs.Lists.{one_element, length_map}
+use Rattle.fs_model.proofs.Lists.{one_element, length_map, element_at}
+use Rattle.fs_model.proofs.Quantifiers.{list_any_map}
 use Rattle.fs_model.specs.Terms.{Literal, Guard, Test, Not, And, Or, Transition}
 use Rattle.fs_model.specs.Machines.{State, Fsmd, transitions_of}
 use Rattle.fs_model.specs.Trees.{Tree, Empty, Leaf, Node, Branch, tree_of_guard, tree_of_condition, tree_of_transitions, leaves, branches_of, negated_literal}
@@ -23,7 +24,7 @@ use Rattle.hls_line_filling.specs.StraightLines.{exit_of, is_inner, is_first_of_
 use Rattle.hls_line_filling.specs.RowMachines.{Move, after_row, moves, all_moves, move_transition, transitions_by, machine_with_rows, state_at, KeepsStores}
 use Rattle.hls_line_filling.specs.MachineSelections.{selected_place, transition_renumbered, IsClosedUnderTargets}
 use Rattle.hls_line_filling.specs.ScheduledMachines.{is_kept, kept_states, scheduled_machine}
-use Rattle.hls_line_filling.proofs.Among.{Among, passes_test, was_among, joined_from, in_range, range_within, some_of, any_of, occurs_among}
+use Rattle.hls_line_filling.proofs.Among.{Among, passes_test, was_among, joined_from, in_range, range_within, some_of, any_of, occurs_among, among_at}
 use Rattle.hls_line_filling.proofs.Trails.{member, is_source, has_source, is_the_only, follows_only, follows_straight, follows_on, comes_before, Trail, inner}
 use Rattle.hls_line_filling.proofs.Trails.{apart, next_in, enters_from, leaves_line, first_straight, first_outer}
 use Rattle.hls_line_filling.proofs.Covering.{only_among, constant_is, stands}
@@ -84,24 +85,10 @@ place_filtered test a (suc n) k h =
     (range_with_len (a + 1) n) (member zs j 0 i)) in omega (arith, u)))
     h (λ j i. place_filtered test (a + 1) n j i)
 
-among_at : {X : Type 0} (xs : List X) (j : ℕ) (x : X) → slice_get xs j ≡ Some x → Among x xs
-among_at [] j x e = absurd (cc e)
-among_at (y ∷ ys) zero x e = inl (sym (same_Some y x e))
-among_at (y ∷ ys) (suc j) x e = inr (among_at ys j x e)
-
-some_at : {X : Type 0} (xs : List X) (j : ℕ) → j < length xs → (x : X) × (slice_get xs j ≡ Some x)
-some_at [] j h = absurd (omega (arith, h))
-some_at (x ∷ xs) zero h = (x, refl)
-some_at (x ∷ xs) (suc j) h = some_at xs j (omega (arith, h))
-
 index_of : {X : Type 0} (x : X) (xs : List X) (d : X) → Among x xs → (k : ℕ) × (k < length xs) × (slice_index_or xs k d ≡ x)
 index_of x [] d h = absurd h
 index_of x (y ∷ ys) d (inl e) = (0, omega arith, sym e)
 index_of x (y ∷ ys) d (inr h) = let w = index_of x ys d h in (suc w.0, (let i : w.0 < length ys = w.1 in omega (arith, i)), w.2)
-
-any_mapped : {X Y : Type 0} (p : Y → Bool) (f : X → Y) (xs : List X) → list_any p (map f xs) ≡ list_any (λ x. p (f x)) xs
-any_mapped p f [] = refl
-any_mapped p f (x ∷ xs) = ap (λ b. p (f x) || b) (any_mapped p f xs)
 
 only_itself : (k : ℕ) → is_only k (k ∷ []) ≡ true
 only_itself k = grind (arith, nat_tests)
@@ -171,7 +158,7 @@ leads_up keep bs r h =
     let w = some_of (λ (b : Branch). b.target == r) bs h in
     let e : w.0.target ≡ r = (let f : (w.0.target == r) ≡ true = w.2 in grind (arith, nat_tests)) in
     let g : selected_place keep w.0.target ≡ selected_place keep r = ap (selected_place keep) e in
-    any_mapped (λ (b : Branch). b.target == selected_place keep r) (renumbered_branch keep) bs
+    list_any_map (λ (b : Branch). b.target == selected_place keep r) (renumbered_branch keep) bs
     ∙ any_of (λ (b : Branch). selected_place keep b.target == selected_place keep r) w.0 bs w.1 (grind (arith, nat_tests))
 
 -- ---- moves that follow one another, and the last
@@ -386,7 +373,7 @@ module _ (m : Fsmd) (sound : IsSound m) (rows : ℕ → List Item) (keeps : Keep
       → leads (map (renumbered_branch Keep) (branches_of (transitions_of m q))) (to t) ≡ true → Among q (sources m t)
   led_by_other q t h s k e =
       let w = some_of (λ (b : Branch). to b.target == to t) (branches_of (transitions_of m q))
-      (sym (any_mapped (λ (b : Branch). b.target == to t) (renumbered_branch Keep) (branches_of (transitions_of m q))) ∙ e) in
+      (sym (list_any_map (λ (b : Branch). b.target == to t) (renumbered_branch Keep) (branches_of (transitions_of m q))) ∙ e) in
       let b : Branch = w.0 in
       let i = index_of b (branches_of (transitions_of m q)) (record { literals = []; assignments = []; target = 0 }) w.1 in
       let at_target : target_of m q i.0 ≡ b.target = ap (λ (c : Branch). c.target) i.2 in
@@ -497,7 +484,7 @@ module _ (m : Fsmd) (sound : IsSound m) (rows : ℕ → List Item) (keeps : Keep
   last_row h i f =
       let r = some_row (rows h) (keeps.some h i f) in
       let n : length (moves_at h) ≡ suc r.0 = moves_count (exit_of m h) (straight_line_at m h) (rows h) (keeps.no_more h i f) ∙ r.1 in
-      let x = some_at (moves_at h) r.0 (omega (arith, n)) in
+      let x = element_at (moves_at h) r.0 (omega (arith, n)) in
       (r.0, x.0, x.1, last_leads (exit_of m h) (straight_line_at m h) (rows h) r.0 x.0 x.1 n)
 
   -- what leads to the exit of a line in the new machine, where that follows the last row
@@ -607,7 +594,7 @@ module _ (m : Fsmd) (sound : IsSound m) (rows : ℕ → List Item) (keeps : Keep
       ap (λ t. suc (length (cond t (line_from New n (next_state New (to x.state))) []))) none
   line_length zero (suc r) h j x i f e l u = absurd (omega (arith, u))
   line_length (suc n) (suc r) h j x i f e l u =
-      let y = some_at (moves_at h) (suc j) (omega (arith, l)) in
+      let y = element_at (moves_at h) (suc j) (omega (arith, l)) in
       let next : next_state New (to x.state) ≡ to y.0.state = next_moved x (of_line h j x i f e)
       ∙ ap (selected_place Keep) (target_next (exit_of m h) (straight_line_at m h) (rows h) j x y.0 e y.1) in
       let goes_on : follows New (to x.state) (next_state New (to x.state)) ≡ true =
@@ -657,7 +644,7 @@ module _ (m : Fsmd) (sound : IsSound m) (rows : ℕ → List Item) (keeps : Keep
         let o : occurs x.state states_at ≡ true = occurs_among x.state states_at (among_states (moves_at h) x (among_at (moves_at h) q x e)) in
         let k : ℕ = selected_place states_at x.state in
         let l : k < length states_at = place_below states_at x.state o in
-        let z = some_at (moves_at h) k (omega (arith, l, length_map (λ (y : Move). y.state) (moves_at h))) in
+        let z = element_at (moves_at h) k (omega (arith, l, length_map (λ (y : Move). y.state) (moves_at h))) in
         let s : z.0.state ≡ x.state = sym (state_in (moves_at h) k z.0 z.1) ∙ own_at o in
         (apart m k q h h x.state (first_outer m h f) (first_outer m h f)
         (subst (λ v. Trail m h k v) s (trail_of h k z.0 i f z.1)) (trail_of h q x i f e)).1
@@ -673,9 +660,9 @@ module _ (m : Fsmd) (sound : IsSound m) (rows : ℕ → List Item) (keeps : Keep
     few_rows =
         let n : length (moves_at h) ≤ length (map (selected_place states_at) Keep) =
         le-length_from_below (map (selected_place states_at) Keep) (length (moves_at h))
-        (λ q u. (let x = some_at (moves_at h) q u in
+        (λ q u. (let x = element_at (moves_at h) q u in
         let a = of_line h q x.0 i f x.1 in
-        any_mapped (eqb q) (selected_place states_at) Keep
+        list_any_map (eqb q) (selected_place states_at) Keep
         ∙ any_of (λ k. eqb q (selected_place states_at k)) x.0.state Keep (among_kept x.0.state (has_place x.0 a))
         (eq-eqb q (selected_place states_at x.0.state) (sym (own_place q x.0 x.1))))) in
         omega (arith, n, length_map (selected_place states_at) Keep)
@@ -690,7 +677,7 @@ module _ (m : Fsmd) (sound : IsSound m) (rows : ℕ → List Item) (keeps : Keep
     has_rows =
         let r = some_row (rows h) (keeps.some h i f) in
         let n : length (moves_at h) ≡ suc r.0 = moves_count (exit_of m h) (straight_line_at m h) (rows h) (keeps.no_more h i f) ∙ r.1 in
-        let x = some_at (moves_at h) 0 (omega (arith, n)) in
+        let x = element_at (moves_at h) 0 (omega (arith, n)) in
         ap (λ q. length (straight_line_at New (to q))) (starts_with x.0 x.1)
         ∙ line_length (length New.states) r.0 h 0 x.0 i f x.1 (omega (arith, n)) (omega (arith, n, few_rows, states_count)) ∙ sym r.1
 
@@ -736,7 +723,7 @@ module _ (m : Fsmd) (sound : IsSound m) (rows : ℕ → List Item) (keeps : Keep
     is_first =
         let r = some_row (rows h) (keeps.some h i f) in
         let n : length (moves_at h) ≡ suc r.0 = moves_count (exit_of m h) (straight_line_at m h) (rows h) (keeps.no_more h i f) ∙ r.1 in
-        let x = some_at (moves_at h) 0 (omega (arith, n)) in
+        let x = element_at (moves_at h) 0 (omega (arith, n)) in
         let s : is_straight New (to h) ≡ true =
         subst (λ q. is_straight New (to q) ≡ true) (sym (starts_with x.0 x.1)) (straight_moved x.0 (of_line h 0 x.0 i f x.1)) in
         let inside : is_inner New (to h) ≡ false = false_from_ne_true (is_inner New (to h))

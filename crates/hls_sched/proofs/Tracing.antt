@@ -7,7 +7,7 @@ use Rattle.std.proofs.lemmas.Bool.Decides.{nat_tests}
 use Rattle.std.proofs.lemmas.List.{get_or-map, length-map}
 use Rattle.std.proofs.lemmas.Option.{slice_get-map, slice_get-get_or}
 use Rattle.std.proofs.lemmas.Bool.{false_from_ne_true, not-true}
-use Rattle.fs_model.proofs.Booleans.{and_second, or_other}
+use Rattle.fs_model.proofs.Booleans.{or_other}
 use Rattle.fs_model.specs.declared.parts.StateId.{StateId}
 use Rattle.fs_model.specs.declared.parts.Branch.{Branch as CodeBranch}
 use Rattle.fs_model.specs.Machines.{Fsmd, transitions_of}
@@ -18,14 +18,8 @@ use Rattle.fs_cut.proofs.Branches.{first_target, no_branch}
 use Rattle.fs_cut.proofs.Loops.{range_step, has_first, more}
 use Rattle.hls_line_filling.specs.StraightLines.{all_states, sources, is_only, is_straight, follows, next_state, line_from, straight_line_at, exit_from}
 use Rattle.hls_line_filling.specs.StraightLines.{is_inner, is_first_of_line, firsts, item_of}
-use Rattle.hls_line_filling.proofs.Among.{Among, joined_from, some_of, passes_test, was_among, range_within}
-use Rattle.hls_line_filling.proofs.Trails.{inner, follows_straight, follows_on, next_in, line_in}
-
--- ---- lists
-among_at : (xs : List ℕ) (k x : ℕ) → slice_get xs k ≡ Some x → Among x xs
-among_at [] k x e = absurd (cc e)
-among_at (y ∷ xs) zero x e = inl (cc e)
-among_at (y ∷ xs) (suc k) x e = inr (among_at xs k x e)
+use Rattle.hls_line_filling.proofs.Among.{Among, joined_from, some_of, passes_test, was_among, range_within, among_at}
+use Rattle.hls_line_filling.proofs.Trails.{inner, follows_straight, follows_on, next_in, line_in, follows_only}
 
 -- what holds of the numbers of states
 each_of : (P : ℕ → Type 0) (qs : List StateId) (xs : List ℕ) → map (λ q. q.0) qs ≡ xs → ((k r : ℕ) → slice_get xs k ≡ Some r → P r) → All (λ q. P q.0) qs
@@ -58,15 +52,12 @@ module _ (m : Fsmd) where
   pub only_source_in : (p r : ℕ) → sources m r ≡ p ∷ [] → p < length m.states
   only_source_in p r e = source_in p r (subst (λ l. Among p l) (sym e) (inl refl))
 
-  only_of : (q r : ℕ) → follows m q r ≡ true → is_only q (sources m r) ≡ true
-  only_of q r e = and_second _ (is_only q (sources m r)) e
-
   inner_step : (p r : ℕ) (t : Bool) → follows m p r ≡ t → sources m r ≡ p ∷ [] → is_inner m r ≡ t
   inner_step p r true f e = inner m p r (only_source_in p r e) f
   inner_step p r false f e =
       false_from_ne_true (is_inner m r) (λ g. (
       let w = some_of (λ q. follows m q r) (all_states m) g in
-      let o : (p == w.0) ≡ true = ap (is_only w.0) (sym e) ∙ only_of w.0 r w.2 in
+      let o : (p == w.0) ≡ true = ap (is_only w.0) (sym e) ∙ follows_only m w.0 r w.2 in
       let s : w.0 ≡ p = grind (arith, nat_tests) in
       let u : follows m p r ≡ true = subst (λ z. follows m z r ≡ true) s w.2 in
       cc (sym f ∙ u)))
@@ -76,7 +67,8 @@ module _ (m : Fsmd) where
   inner_by p r e = sym (inner_step p r (follows m p r) refl e)
 
   pub not_inner : (r : ℕ) → ((q : ℕ) → false ≡ is_only q (sources m r)) → false ≡ is_inner m r
-  not_inner r h = sym (false_from_ne_true (is_inner m r) (λ g. (let w = some_of (λ q. follows m q r) (all_states m) g in cc (h w.0 ∙ only_of w.0 r w.2))))
+  not_inner r h =
+      sym (false_from_ne_true (is_inner m r) (λ g. (let w = some_of (λ q. follows m q r) (all_states m) g in cc (h w.0 ∙ follows_only m w.0 r w.2))))
 
   -- ---- first states
   first_taken : (k n : ℕ) → k < n → is_first_of_line m k ≡ true
