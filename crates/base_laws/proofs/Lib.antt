@@ -1,5 +1,6 @@
 pub mod Booleans
 pub mod Numbers
+pub mod Digits
 pub mod Integers
 pub mod Orderings
 pub mod Options

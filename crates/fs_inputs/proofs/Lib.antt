@@ -1,4 +1,3 @@
-pub mod Decimal
 pub mod Readings
 pub mod Steps
 pub mod Places

@@ -11,7 +11,7 @@ use Rattle.fs_model.proofs.Booleans.{and_three}
 use Rattle.fs_model.specs.Digits.{with_digit, value_of_digits}
 use Rattle.fs_model.specs.Words.{is_digit}
 use Rattle.fs_inputs.specs.Numbers.{is_positive, is_natural, number_in}
-use Rattle.fs_inputs.proofs.Decimal.{grows}
+use Rattle.fs_model.proofs.Digits.{grows}
 
 in_range : (b : ℕ) → is_digit b ≡ true → (48 ≤ b) × (b ≤ 57)
 in_range b e = let p = and_parts (nat_le 48 b) (nat_le b 57) e in (grind (arith, nat_tests, p.0), grind (arith, nat_tests, p.1))

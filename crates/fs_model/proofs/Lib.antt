@@ -16,5 +16,6 @@ pub use Rattle.base_laws.proofs.Options
 pub use Rattle.base_laws.proofs.Quantifiers
 pub use Rattle.base_laws.proofs.Integers
 pub use Rattle.base_laws.proofs.Numbers
+pub use Rattle.base_laws.proofs.Digits
 pub use Rattle.base_laws.proofs.Orderings
 pub use Rattle.base_laws.proofs.Ring

@@ -4,10 +4,6 @@ use Rattle.std.specs.List.{fold}
 use Rattle.std.proofs.Math.ListN.{drop_of_length-le}
 use Rattle.fs_model.specs.Digits.{with_digit}
 
-grows : (n : ℕ) (bs : List ℕ) → n ≤ fold with_digit n bs
-grows n [] = omega arith
-grows n (b ∷ bs) = omega (arith, grows (with_digit n b) bs)
-
 -- what stops now stops in the end
 stops : (n m : ℕ) (bs : List ℕ) → min n (2 ^ 128 - 1) ≡ min m (2 ^ 128 - 1)
     → min (fold with_digit n bs) (2 ^ 128 - 1) ≡ min (fold with_digit m bs) (2 ^ 128 - 1)

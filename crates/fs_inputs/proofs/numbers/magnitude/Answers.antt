@@ -1,5 +1,5 @@
 use Rattle.std.proofs.Common.{arith}
-use Rattle.fs_inputs.proofs.Decimal.{bigger}
+use Rattle.fs_model.proofs.Digits.{bigger}
 use Rattle.fs_inputs.proofs.numbers.magnitude.Goals as goal
 
 pub returns-then-n : goal.returns-then-n

@@ -1,5 +1,5 @@
 use Rattle.std.proofs.Common.{arith}
-use Rattle.fs_lex.proofs.Decimal.{bigger}
+use Rattle.fs_model.proofs.Digits.{bigger}
 use Rattle.fs_lex.proofs.lexemes.value.Goals as goal
 
 pub returns-then-n : goal.returns-then-n

@@ -1,7 +1,7 @@
 -- Numbers grow with each digit.
 use Rattle.std.proofs.Common.{ℕ, suc, ◌<◌, ◌≤◌, ◌+◌, ◌*◌, ◌-◌, List, [], ◌∷◌, length, get_or, drop, arith, drop-cons}
 use Rattle.std.specs.List.{fold}
-use Rattle.fs_model.specs.Digits.{with_digit}
+use Rattle.base_laws.specs.Digits.{with_digit}
 
 pub grows : (n : ℕ) (bs : List ℕ) → n ≤ fold with_digit n bs
 grows n [] = omega arith
