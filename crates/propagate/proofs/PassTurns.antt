@@ -11,7 +11,7 @@ use Rattle.nf_terms.specs.declared.form.Nf.{Nf}
 use Rattle.nf_terms.specs.declared.stop.NfStop.{NfStop}
 use Rattle.nf_substitution.proofs.Following.{stops}
 use Rattle.sym_paths.specs.View.{answer_in_data}
-use Rattle.sym_paths.proofs.Loops.{followed}
+use Rattle.sym_paths.proofs.Loops.{followed, more_done}
 use Rattle.sym_facts.specs.Facts.{FactPosition}
 use Rattle.propagate.specs.Joins.{Freed, with_equation as with_joined}
 use Rattle.propagate.specs.JoinSteps.{equation_joined, freed_by_join, is_first_place, left_behind, joined_from}
@@ -31,11 +31,6 @@ told_stop f (Ok x) event whole h a = absurd h
 told_stop {T = T} f (Err d) event whole h a = subst (λ e. Answers {T = T} (Err e) whole) (sym h) a
 
 -- what is done with one more, and what the rest gives
-more_done : {T : Type 0} (done : List T) (w : T) (rest : Computed (List T)) → followed (done ++ w ∷ []) rest ≡ followed done (after rest (λ ys. Done (w ∷ ys)))
-more_done done w (Done ys) = ap Done (append_assoc done (w ∷ []) ys)
-more_done done w (Wide left right) = refl
-more_done done w (Large units depth) = refl
-
 more_marked : (done : List Bool) (b : Bool) (rest : Computed RebaseState)
     → after rest (λ h. Done (before_others (done ++ b ∷ []) h)) ≡ after (after rest (λ h. Done (with_mark b h))) (λ h. Done (before_others done h))
 more_marked done b (Done h) = ap (λ bs. Done (record { free = bs; meanings = h.meanings })) (append_assoc done (b ∷ []) h.free)

@@ -9,10 +9,10 @@ use Rattle.sym_paths.specs.Sequences.{each}
 abbrev pub followed : {T : Type 0} → List T → Computed (List T) → Computed (List T)
 followed done c = after c (λ ys. Done (done ++ ys))
 
-first_done : {T : Type 0} (done : List T) (y : T) (c : Computed (List T)) → followed (done ++ y ∷ []) c ≡ followed done (after c (λ ys. Done (y ∷ ys)))
-first_done done y (Done ys) = ap Done (append_assoc done (y ∷ []) ys)
-first_done done y (Wide l r) = refl
-first_done done y (Large u d) = refl
+pub more_done : {T : Type 0} (done : List T) (y : T) (c : Computed (List T)) → followed (done ++ y ∷ []) c ≡ followed done (after c (λ ys. Done (y ∷ ys)))
+more_done done y (Done ys) = ap Done (append_assoc done (y ∷ []) ys)
+more_done done y (Wide l r) = refl
+more_done done y (Large u d) = refl
 
 nothing_left : {T : Type 0} (done : List T) → followed done (Done []) ≡ Done done
 nothing_left done = ap Done (append-nil done)
@@ -23,7 +23,7 @@ module _ {A B S T : Type 0} (g : A → B) (f : B → Computed T) (h : S → T) (
       → followed (map h old) (each f (map g (drop i xs))) ≡ whole → followed (map h new) (each f (map g (drop (i + 1) xs))) ≡ whole
   one_followed x old new y within is given put so_far =
       ap (λ l. followed l (each f (map g (drop (i + 1) xs)))) (ap (map h) put ∙ map_push h old y)
-      ∙ first_done (map h old) (h y) (each f (map g (drop (i + 1) xs)))
+      ∙ more_done (map h old) (h y) (each f (map g (drop (i + 1) xs)))
       ∙ ap (λ c. followed (map h old) (after c (λ z. after (each f (map g (drop (i + 1) xs))) (λ ys. Done (z ∷ ys))))) (sym given)
       ∙ ap (λ l. followed (map h old) (each f l)) (sym (map_drop_next g xs i x within is))
       ∙ so_far
