@@ -7,6 +7,7 @@ pub mod Renamed
 pub mod Passing
 pub mod Ranges
 pub mod SameCopies
+pub mod SameSides
 pub mod Roles
 pub mod Stores
 pub mod Words

@@ -12,11 +12,12 @@ use Rattle.fs_model.specs.Machines.{Fsmd}
 use Rattle.fs_model.specs.declared.sides.Side.{Side}
 use Rattle.fs_model.specs.declared.sides.Side.TheVariants.{Left, Right}
 use Rattle.fs_model.specs.Sides.{same_side}
+use Rattle.fs_model.proofs.SameSides.{same_side_self}
 use Rattle.fs_pair.specs.declared.positions.Position.{Position}
 use Rattle.fs_pair.specs.SidedVariables.{SidedVariable, same_name_and_sort, all_sided_variables, is_partner}
 use Rattle.fs_pair.specs.Positions.{positions}
 use Rattle.fs_pair.specs.Partners.{variables_on}
-use Rattle.fs_pair.proofs.Tests.{same_side_self, third_side, same_name, same_back}
+use Rattle.fs_pair.proofs.Tests.{third_side, same_name, same_back}
 use Rattle.fs_pair.proofs.Variables.{comes_from, position_found, stands_at}
 use Rattle.fs_pair.proofs.Once.{many, own_number, once}
 use Rattle.fs_pair.proofs.Once as places

@@ -16,10 +16,11 @@ use Rattle.fs_model.specs.Machines.{Fsmd}
 use Rattle.fs_model.specs.declared.sides.Side.{Side}
 use Rattle.fs_model.specs.declared.sides.Side.TheVariants.{Left, Right}
 use Rattle.fs_model.specs.Sides.{same_side}
+use Rattle.fs_model.proofs.SameSides.{same_side_self}
 use Rattle.fs_pair.specs.SidedVariables.{SidedVariable, sided_variables, same_name_and_sort, partner_among, with_partners, is_alone, all_sided_variables}
 use Rattle.fs_pair.specs.Positions.{position_of, positions}
 use Rattle.fs_pair.specs.Partners.{variables_on, is_position_of}
-use Rattle.fs_pair.proofs.Tests.{as_often, same_side_self, same_name, same_back, same_both_ways}
+use Rattle.fs_pair.proofs.Tests.{as_often, same_name, same_back, same_both_ways}
 use Rattle.fs_pair.proofs.Variables.{all_numbered}
 
 -- whether it is variable x of a side

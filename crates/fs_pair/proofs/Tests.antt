@@ -35,16 +35,6 @@ same_sort_self Scalar = refl
 same_sort_self Array = refl
 same_sort_self Port = refl
 
-pub same_side_self : (d : Side) → same_side d d ≡ true
-same_side_self Left = refl
-same_side_self Right = refl
-
-pub same_side_is : (d e : Side) → same_side d e ≡ true → d ≡ e
-same_side_is Left Left h = refl
-same_side_is Left Right h = absurd (cc h)
-same_side_is Right Left h = absurd (cc h)
-same_side_is Right Right h = refl
-
 -- of two sides, both others of a third are one
 pub third_side : (d e f : Side) → same_side d e ≡ false → same_side e f ≡ false → d ≡ f
 third_side Left Left f h g = absurd (cc h)

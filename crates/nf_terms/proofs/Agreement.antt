@@ -2,6 +2,7 @@
 use Rattle.std.proofs.Common.{◌≡◌, ◌+ℤ◌, ◌*ℤ◌, Bool, true, ◌||◌, ◌==◌, List, [], ◌∷◌, ◌++◌, map, refl}
 use Rattle.std.proofs.lemmas.Bool.{or_left, and_from, or_right}
 use Rattle.fs_model.proofs.Numbers.{eqb_self}
+use Rattle.fs_model.proofs.SameSides.{same_side_self}
 use Rattle.fs_model.specs.Division.{quotient, remainder}
 use Rattle.nf_trees.specs.NormalTerms.{Atom, Monomial, Polynomial, ArrayTerm, Writes, Symbol, Read, Quotient, Remainder, One, Times, Zero, Plus, Over, NoWrites}
 use Rattle.nf_trees.specs.NormalTerms.{Write}
@@ -10,8 +11,6 @@ use Rattle.nf_terms.specs.TermMeaning.{items_of_base, items_in}
 use Rattle.nf_terms.specs.Lists.{ListTerm, mentions_items, mentions_list_base, mentions_list}
 use Rattle.nf_trees.specs.Mentions.{same_pos, mentions_base, mentions_atom, mentions_monomial, mentions, mentions_writes, mentions_array}
 use Rattle.nf_terms.specs.ValuationAgreement.{AgreeOn}
-use Rattle.fs_model.specs.declared.sides.Side.{Side}
-use Rattle.fs_model.specs.declared.sides.Side.TheVariants.{Left, Right}
 use Rattle.fs_model.specs.declared.sides.Pos.{Pos}
 use Rattle.fs_model.specs.Sides.{same_side}
 use Rattle.nf_trees.specs.declared.tree.Base.{Base}
@@ -19,12 +18,8 @@ use Rattle.nf_trees.specs.declared.tree.Base.TheVariants as starts
 use Rattle.nf_terms.specs.declared.tree.SeqBase.{SeqBase}
 use Rattle.nf_terms.specs.declared.tree.SeqBase.TheVariants as list
 
-own_side : (s : Side) → same_side s s ≡ true
-own_side Left = refl
-own_side Right = refl
-
 pub own_pos : (p : Pos) → same_pos p p ≡ true
-own_pos p = and_from (same_side p.side p.side) (p.var == p.var) (own_side p.side) (eqb_self p.var)
+own_pos p = and_from (same_side p.side p.side) (p.var == p.var) (same_side_self p.side) (eqb_self p.var)
 
 module _ (v w : Valuation) where
   fewer : (f g : Pos → Bool) → ((q : Pos) → g q ≡ true → f q ≡ true) → AgreeOn f v w → AgreeOn g v w

@@ -5,9 +5,8 @@ use Rattle.std.proofs.lemmas.Bool.{eqb-true, eq-eqb, and_from}
 use Rattle.std.specs.Bool.{Decides}
 use Rattle.std.specs.Cmp.{IsPartialEquivalence, IsEquivalence}
 use Rattle.fs_model.proofs.Booleans.{and_first, and_second}
+use Rattle.fs_model.proofs.SameSides.{same_side_self, same_side_is}
 use Rattle.nf_terms.specs.Mentions.{same_pos}
-use Rattle.fs_model.specs.declared.sides.Side.{Side}
-use Rattle.fs_model.specs.declared.sides.Side.TheVariants.{Left, Right}
 use Rattle.fs_model.specs.declared.sides.Pos.{Pos}
 use Rattle.fs_model.specs.Sides.{same_side}
 use Rattle.nf_terms.specs.declared.symbols.Sort.{Sort}
@@ -19,24 +18,14 @@ use Rattle.nf_vectors.specs.declared.place.Place.{Place}
 abbrev pub same_place : Place → Place → Bool
 same_place a b = same_pos a.pos b.pos && same_term_sort a.sort b.sort
 
-sides_equal : (a b : Side) → same_side a b ≡ true → a ≡ b
-sides_equal Left Left e = refl
-sides_equal Left Right e = cc
-sides_equal Right Left e = cc
-sides_equal Right Right e = refl
-
-own_side : (s : Side) → same_side s s ≡ true
-own_side Left = refl
-own_side Right = refl
-
 pub pos_equal : (a b : Pos) → same_pos a b ≡ true → a ≡ b
 pos_equal a b e = λ k. record {
-  side = sides_equal a.side b.side (and_first (same_side a.side b.side) (a.var == b.var) e) k;
+  side = same_side_is a.side b.side (and_first (same_side a.side b.side) (a.var == b.var) e) k;
   var = eqb-true a.var b.var (and_second (same_side a.side b.side) (a.var == b.var) e) k;
 }
 
 pub own_pos : (p : Pos) → same_pos p p ≡ true
-own_pos p = and_from (same_side p.side p.side) (p.var == p.var) (own_side p.side) (eq-eqb p.var p.var refl)
+own_pos p = and_from (same_side p.side p.side) (p.var == p.var) (same_side_self p.side) (eq-eqb p.var p.var refl)
 
 pub sorts_equal : (a b : Sort) → same_term_sort a b ≡ true → a ≡ b
 sorts_equal sort.Scalar sort.Scalar e = refl

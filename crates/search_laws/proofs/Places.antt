@@ -20,7 +20,6 @@ use Rattle.fs_pair.specs.declared.positions.Position.{Position}
 use Rattle.fs_pair.specs.Positions.{positions}
 use Rattle.fs_pair.specs.Partners.{variables_on, is_position_of, position_name}
 use Rattle.fs_pair.proofs.Once.{names_of, own_number, position_once}
-use Rattle.fs_pair.proofs.Tests.{same_side_self, same_side_is}
 use Rattle.fs_pair.proofs.Variables.{stands_for}
 use Rattle.nf_terms.specs.Mentions.{same_pos}
 use Rattle.fs_model.specs.declared.sides.Side.{Side}
@@ -29,6 +28,7 @@ use Rattle.fs_model.specs.declared.sides.Pos.{Pos}
 use Rattle.fs_model.specs.Sides.{same_side}
 use Rattle.fs_model.specs.Runs.{is_port}
 use Rattle.fs_model.specs.VariableNames.{name_or_nothing}
+use Rattle.fs_model.proofs.SameSides.{same_side_self, same_side_is}
 use Rattle.nf_terms.specs.declared.symbols.Sort.{Sort as TermSort}
 use Rattle.nf_terms.specs.TermSorts.{same_term_sort}
 use Rattle.nf_vectors.specs.SamePlaces.{pos_equal, sorts_equal}

@@ -15,7 +15,6 @@ use Rattle.fs_model.specs.Runs.{is_scalar, is_array, is_port}
 use Rattle.fs_pair.specs.declared.positions.Position.{Position}
 use Rattle.fs_pair.specs.Positions.{positions}
 use Rattle.fs_pair.specs.Partners.{variables_on, is_position_of as stands_at}
-use Rattle.fs_pair.proofs.Tests.{same_side_is}
 use Rattle.fs_pair.proofs.Once.{position_once}
 use Rattle.fs_pair.proofs.Variables.{stands_for}
 use Rattle.nf_terms.specs.Mentions.{same_pos}
@@ -25,6 +24,7 @@ use Rattle.nf_terms.specs.declared.symbols.Sort.TheVariants as term
 use Rattle.fs_model.specs.declared.sides.Pos.{Pos}
 use Rattle.fs_model.specs.declared.sides.Side.{Side}
 use Rattle.fs_model.specs.Sides.{same_side}
+use Rattle.fs_model.proofs.SameSides.{same_side_is}
 use Rattle.nf_terms.specs.declared.form.Nf.{Nf}
 use Rattle.nf_terms.specs.TermSorts.{same_term_sort}
 use Rattle.nf_symbols.specs.Vectors.{is_entry_at, with_form}
