@@ -10,7 +10,7 @@ use Rattle.sym_facts.specs.Facts.{Fact}
 use Rattle.cert_model.specs.View.{node_of}
 use Rattle.cert_model.proofs.AllHold.{same_where_yes}
 use Rattle.search_tables.specs.declared.moves.Move.{Move}
-use Rattle.search_tables.specs.SearchTables.{MachinePair, Table, first_table, TooWide, TooLarge, machines}
+use Rattle.search_tables.specs.SearchTables.{MachinePair, Table, first_table, WideEvent, LargeEvent, machines}
 use Rattle.search_tables.specs.Next.{Next, Nothing, Change, Stop, Excess, next_move, IsClosed}
 use Rattle.search_tables.specs.Legal.{Difference, stuck}
 use Rattle.search_tables.specs.Graphs.{AreRanks}
@@ -82,8 +82,8 @@ abbrev plain_obstacle : Option Difference → Next → Option Obstacle
 plain_obstacle (Some d) n = Some (Stuck d.node d.output)
 plain_obstacle None Nothing = None
 plain_obstacle None (Change x V) = None
-plain_obstacle None (Stop x (TooWide l r)) = Some (Wide x)
-plain_obstacle None (Stop x (TooLarge u d)) = Some (Large x)
+plain_obstacle None (Stop x (WideEvent l r)) = Some (Wide x)
+plain_obstacle None (Stop x (LargeEvent u d)) = Some (Large x)
 plain_obstacle None (Excess x b) = Some (Exhausted x b)
 
 record IsCycle (o : Obstacle) : Type 0 where

@@ -5,7 +5,7 @@ use Rattle.std.specs.List.{AllByRecursion}
 use Rattle.nf_terms.specs.Computed.{Done, Wide, Large}
 use Rattle.cert_model.specs.declared.reason.Reason.{Reason}
 use Rattle.cert_model.specs.Obligations.{Judged, Verdict, Yes, No, IsWide, IsLarge, verdict_by, verdict_from}
-use Rattle.search_laws.specs.Deciding.{IsFulfilled, FailsFor, IsTooWide, IsTooLarge, IsDecidedFirst}
+use Rattle.search_laws.specs.Deciding.{IsFulfilled, FailsFor, IsWideEvent, IsLargeEvent, IsDecidedFirst}
 
 -- ---- all hold
 
@@ -75,20 +75,20 @@ module _ (r : Reason) where
 
 -- ---- it is wide, or large
 
-wide_here : (k n : ℕ) (j : Judged) (later : Verdict) → verdict_by k j later ≡ IsWide n → ((k ≡ n) × IsTooWide j) ⊎ (IsFulfilled j × (later ≡ IsWide n))
+wide_here : (k n : ℕ) (j : Judged) (later : Verdict) → verdict_by k j later ≡ IsWide n → ((k ≡ n) × IsWideEvent j) ⊎ (IsFulfilled j × (later ≡ IsWide n))
 wide_here k n (Done None) later e = inr (refl, e)
 wide_here k n (Done (Some x)) later e = absurd (cc e)
 wide_here k n (Wide left right) later e = inl (cc e, (left, right, refl))
 wide_here k n (Large units depth) later e = absurd (cc e)
 
-pub wide_where_first : (js : List Judged) (k : ℕ) → (verdict_from 1 js ≡ IsWide k) ↔ IsDecidedFirst js k IsTooWide
-wide_where_first = said_where_first IsWide IsTooWide (λ n e. cc e) wide_here (λ k j later d. ap (λ z. verdict_by k z later) d.2)
+pub wide_where_first : (js : List Judged) (k : ℕ) → (verdict_from 1 js ≡ IsWide k) ↔ IsDecidedFirst js k IsWideEvent
+wide_where_first = said_where_first IsWide IsWideEvent (λ n e. cc e) wide_here (λ k j later d. ap (λ z. verdict_by k z later) d.2)
 
-large_here : (k n : ℕ) (j : Judged) (later : Verdict) → verdict_by k j later ≡ IsLarge n → ((k ≡ n) × IsTooLarge j) ⊎ (IsFulfilled j × (later ≡ IsLarge n))
+large_here : (k n : ℕ) (j : Judged) (later : Verdict) → verdict_by k j later ≡ IsLarge n → ((k ≡ n) × IsLargeEvent j) ⊎ (IsFulfilled j × (later ≡ IsLarge n))
 large_here k n (Done None) later e = inr (refl, e)
 large_here k n (Done (Some x)) later e = absurd (cc e)
 large_here k n (Wide left right) later e = absurd (cc e)
 large_here k n (Large units depth) later e = inl (cc e, (units, depth, refl))
 
-pub large_where_first : (js : List Judged) (k : ℕ) → (verdict_from 1 js ≡ IsLarge k) ↔ IsDecidedFirst js k IsTooLarge
-large_where_first = said_where_first IsLarge IsTooLarge (λ n e. cc e) large_here (λ k j later d. ap (λ z. verdict_by k z later) d.2)
+pub large_where_first : (js : List Judged) (k : ℕ) → (verdict_from 1 js ≡ IsLarge k) ↔ IsDecidedFirst js k IsLargeEvent
+large_where_first = said_where_first IsLarge IsLargeEvent (λ n e. cc e) large_here (λ k j later d. ap (λ z. verdict_by k z later) d.2)

@@ -14,12 +14,12 @@ abbrev pub FailsFor : Reason → Judged → Type 0
 FailsFor r j = j ≡ Done (Some r)
 
 -- an operation of an obligation is not narrow
-abbrev pub IsTooWide : Judged → Type 0
-IsTooWide j = (left : ℕ) × (right : ℕ) × (j ≡ Wide left right)
+abbrev pub IsWideEvent : Judged → Type 0
+IsWideEvent j = (left : ℕ) × (right : ℕ) × (j ≡ Wide left right)
 
 -- an operation of an obligation is narrow and not small
-abbrev pub IsTooLarge : Judged → Type 0
-IsTooLarge j = (units : ℕ) × (depth : ℕ) × (j ≡ Large units depth)
+abbrev pub IsLargeEvent : Judged → Type 0
+IsLargeEvent j = (units : ℕ) × (depth : ℕ) × (j ≡ Large units depth)
 
 -- obligation number k, counted from 1, decides so, and all earlier ones hold
 pub record IsDecidedFirst (js : List Judged) (k : ℕ) (Decides : Judged → Type 0) : Type 0 where

@@ -15,7 +15,7 @@ ghost use Rattle.cert_writer.specs.CertificateLimits.{most_bytes};
 ghost use Rattle.cert_writer.specs.WrittenCertificates.{file_written, certificate_text};
 ghost use Rattle.cert_text.specs.Refusals.{SpellsNodes};
 ghost use Rattle.cert_model.specs.Kept.{AreNormal};
-ghost use Rattle.search_laws.specs.Deciding.{IsFulfilled, FailsFor, IsTooWide, IsTooLarge, IsDecidedFirst};
+ghost use Rattle.search_laws.specs.Deciding.{IsFulfilled, FailsFor, IsWideEvent, IsLargeEvent, IsDecidedFirst};
 
 use term_writer::laws::{
     written_literals_are_spelled, written_literals_mean_themselves, written_terms_are_spelled,
@@ -50,7 +50,7 @@ pub fn verdicts_are_of_the_first_that_decides()
     ensures no { (a b : Fsmd) (start : Fact) (ns : List (Node Fact)) (k : ℕ) (r : Reason)
         → (verdict a b start ns ≡ No k r) ↔ IsDecidedFirst (obligations a b start ns) k (FailsFor r) }
     ensures wide { (a b : Fsmd) (start : Fact) (ns : List (Node Fact)) (k : ℕ)
-        → (verdict a b start ns ≡ IsWide k) ↔ IsDecidedFirst (obligations a b start ns) k IsTooWide }
+        → (verdict a b start ns ≡ IsWide k) ↔ IsDecidedFirst (obligations a b start ns) k IsWideEvent }
     ensures large { (a b : Fsmd) (start : Fact) (ns : List (Node Fact)) (k : ℕ)
-        → (verdict a b start ns ≡ IsLarge k) ↔ IsDecidedFirst (obligations a b start ns) k IsTooLarge }
+        → (verdict a b start ns ≡ IsLarge k) ↔ IsDecidedFirst (obligations a b start ns) k IsLargeEvent }
 {}

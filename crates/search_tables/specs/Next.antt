@@ -10,7 +10,7 @@ use Rattle.fs_model.specs.declared.sides.Side.TheVariants as side
 use Rattle.propagate.specs.Modes.{Traced, Found, WideAt, LargeAt, mode_of}
 use Rattle.search_tables.specs.declared.moves.Move.{Move}
 use Rattle.search_tables.specs.declared.outcome.Budget.{Budget}
-use Rattle.search_tables.specs.SearchTables.{MachinePair, SearchNode, Table, PathPair, Event, TooWide, TooLarge, MoveEffect}
+use Rattle.search_tables.specs.SearchTables.{MachinePair, SearchNode, Table, PathPair, Event, WideEvent, LargeEvent, MoveEffect}
 use Rattle.search_tables.specs.SearchTables.{Keeps, Changes, Meets, Exceeds, effect}
 
 -- the mode of a node under its fact
@@ -56,8 +56,8 @@ first_change_of m T i n (x ∷ xs) = next_by (move_by i x) (effect m T n x) (fir
 
 abbrev pub next_in : MachinePair → Table → ℕ → SearchNode → Traced Mode → Next
 next_in m T i n (Found x) = first_change_of m T i n (paths_in m n x)
-next_in m T i n (WideAt d k left right) = Stop (path_at i d k) (TooWide left right)
-next_in m T i n (LargeAt d k units depth) = Stop (path_at i d k) (TooLarge units depth)
+next_in m T i n (WideAt d k left right) = Stop (path_at i d k) (WideEvent left right)
+next_in m T i n (LargeAt d k units depth) = Stop (path_at i d k) (LargeEvent units depth)
 
 -- what is next at a node: its mode is found, and then its moves are valued in order
 abbrev pub next_at : MachinePair → Table → ℕ → SearchNode → Next

@@ -3,7 +3,7 @@ use Rattle.std.specs.Prelude.{◌≡◌, ℕ, List, Some, None}
 use Rattle.fs_model.specs.declared.sides.Side.{Side}
 use Rattle.search_tables.specs.declared.moves.Move.{Move}
 use Rattle.search_tables.specs.declared.outcome.Budget.{Budget}
-use Rattle.search_tables.specs.SearchTables.{MachinePair, Table, TooWide, TooLarge}
+use Rattle.search_tables.specs.SearchTables.{MachinePair, Table, WideEvent, LargeEvent}
 use Rattle.search_tables.specs.Next.{Stop, Excess, next_move, IsClosed}
 use Rattle.search_tables.specs.Legal.{stuck, Makes}
 use Rattle.search_tables.specs.LoneMoves.{Spins}
@@ -19,8 +19,8 @@ pub data Obstacle : Type 0 where
 abbrev pub StandsIn : MachinePair → Table → Obstacle → Type 0
 StandsIn m T (Stuck node output) = stuck m T ≡ Some (record { node = node; output = output })
 StandsIn m T (Spin d cycle) = (stuck m T ≡ None) × IsClosed m T × Spins m T d cycle
-StandsIn m T (Wide at) = (stuck m T ≡ None) × (left : ℕ) × (right : ℕ) × (next_move m T ≡ Stop at (TooWide left right))
-StandsIn m T (Large at) = (stuck m T ≡ None) × (units : ℕ) × (depth : ℕ) × (next_move m T ≡ Stop at (TooLarge units depth))
+StandsIn m T (Wide at) = (stuck m T ≡ None) × (left : ℕ) × (right : ℕ) × (next_move m T ≡ Stop at (WideEvent left right))
+StandsIn m T (Large at) = (stuck m T ≡ None) × (units : ℕ) × (depth : ℕ) × (next_move m T ≡ Stop at (LargeEvent units depth))
 StandsIn m T (Exhausted at what) = (stuck m T ≡ None) × (next_move m T ≡ Excess at what)
 
 -- a legal list of moves makes a table with this obstacle

@@ -70,8 +70,8 @@ node_target T P Q = target_from P Q 0 T
 -- the first event of a move: an operation that is not narrow, by the weights of its sides, or one that is narrow and not small,
 -- by its raw size and depth
 pub data Event : Type 0 where
-  TooWide : (left right : ℕ) → Event
-  TooLarge : (units depth : ℕ) → Event
+  WideEvent : (left right : ℕ) → Event
+  LargeEvent : (units depth : ℕ) → Event
 
 -- what a move does: it keeps the table, changes it, meets an event, or is over a budget
 pub data MoveEffect : Type 0 where
@@ -83,8 +83,8 @@ pub data MoveEffect : Type 0 where
 -- goes on with what is computed
 abbrev pub with_computed : {T : Type 0} → Computed T → (T → MoveEffect) → MoveEffect
 with_computed (Done t) next = next t
-with_computed (Wide left right) next = Meets (TooWide left right)
-with_computed (Large units depth) next = Meets (TooLarge units depth)
+with_computed (Wide left right) next = Meets (WideEvent left right)
+with_computed (Large units depth) next = Meets (LargeEvent units depth)
 
 -- the table, where it is within the budget of units
 abbrev pub within_units : Table → MoveEffect

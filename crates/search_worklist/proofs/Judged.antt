@@ -24,9 +24,9 @@ use Rattle.cert_model.specs.Lawful.{most_nodes}
 use Rattle.search_tables.specs.declared.moves.Move.{Move}
 use Rattle.search_tables.specs.declared.outcome.Budget.{Budget}
 use Rattle.search_tables.specs.declared.outcome.Budget.TheVariants.{Nodes, Units}
-use Rattle.search_tables.specs.SearchTables.{MachinePair, positions_of, SearchNode, Table, units, most_units, Unknown, Known, node_target, with_fact, TooWide}
+use Rattle.search_tables.specs.SearchTables.{MachinePair, positions_of, SearchNode, Table, units, most_units, Unknown, Known, node_target, with_fact, WideEvent}
 use Rattle.search_tables.specs.SearchTables.{arrival}
-use Rattle.search_tables.specs.SearchTables.{TooLarge, MoveEffect, Keeps, Changes, Meets, Exceeds, within_units, add_node, weaken_node, keep_or_join}
+use Rattle.search_tables.specs.SearchTables.{LargeEvent, MoveEffect, Keeps, Changes, Meets, Exceeds, within_units, add_node, weaken_node, keep_or_join}
 use Rattle.search_tables.specs.SearchTables.{look_up_target, effect_of_arrival, PathPair, effect}
 use Rattle.search_tables.specs.Next.{mode_at, path_at, next_by, or_next, next_move}
 use Rattle.search_tables.specs.Legal.{stuck}
@@ -233,8 +233,8 @@ module _ (m : MachinePair) (T : Table) (at : Move) (e : MoveEffect) (c : Comes m
   comes_so d h = c.is ∙ ap (λ z. or_next (next_by at z c.rest) c.after) h
 
   pub end_next : stuck m T ≡ None → (s : NfStop) (x : End) → IsEndAt at s x → IsMet s e → IsNext m T (step.Ends x)
-  end_next f (stop.Wide l r) x i h = subst (EndsSo m T) (sym i) (f, l, r, comes_so (Meets (TooWide l r)) h)
-  end_next f (stop.Large u d) x i h = subst (EndsSo m T) (sym i) (f, u, d, comes_so (Meets (TooLarge u d)) h)
+  end_next f (stop.Wide l r) x i h = subst (EndsSo m T) (sym i) (f, l, r, comes_so (Meets (WideEvent l r)) h)
+  end_next f (stop.Large u d) x i h = subst (EndsSo m T) (sym i) (f, u, d, comes_so (Meets (LargeEvent u d)) h)
   end_next f stop.NoMemory x i h = absurd i
 
 pub change_next : (m : MachinePair) (ls : List NodeRecord) (at : Move) (c : MadeChange) → IsFirst m ls at (Ok (tried.Changes c))

@@ -7,9 +7,8 @@ use Rattle.nf_terms.specs.declared.stop.NfStop.TheVariants as stop
 use Rattle.nf_rel.specs.Literals.{is_refuted}
 use Rattle.sym_paths.specs.Execution.{Post, end_of}
 use Rattle.search_tables.specs.declared.moves.Move.{Move}
-use Rattle.search_tables.specs.SearchTables.{MachinePair, SearchNode, Table, units, TooWide, TooLarge, MoveEffect, Changes, Meets}
-use Rattle.search_tables.specs.SearchTables.{arrival}
-use Rattle.search_tables.specs.SearchTables.{Exceeds, PathPair, effect}
+use Rattle.search_tables.specs.SearchTables.{MachinePair, SearchNode, Table, units, WideEvent, LargeEvent, MoveEffect}
+use Rattle.search_tables.specs.SearchTables.{Changes, Meets, Exceeds, PathPair, effect, arrival}
 use Rattle.search_worklist.specs.declared.trial.Trial.{Trial}
 use Rattle.search_worklist.specs.declared.trial.Trial.TheVariants as tried
 use Rattle.search_places.specs.NodeLines.{NodeRecord, table_of}
@@ -33,8 +32,8 @@ GivesTrial T P Q post e (tried.Exceeds b) = GivesChange T e (tried.Exceeds b)
 
 -- an event that is told is that of the effect; memory may be refused
 abbrev pub IsMet : NfStop → MoveEffect → Type 0
-IsMet (stop.Wide left right) e = e ≡ Meets (TooWide left right)
-IsMet (stop.Large units depth) e = e ≡ Meets (TooLarge units depth)
+IsMet (stop.Wide left right) e = e ≡ Meets (WideEvent left right)
+IsMet (stop.Large units depth) e = e ≡ Meets (LargeEvent units depth)
 IsMet stop.NoMemory e = Unit {0}
 
 -- an effect that does not keep the table, or its event
