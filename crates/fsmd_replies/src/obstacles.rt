@@ -11,8 +11,8 @@ use fs_ast::machine::Machine;
 use nf_terms::stop::NoMemory;
 use nf_terms::tree::Side;
 use search_tables::moves::Move;
-use search_tables::nodes::NodePoints;
 use search_tables::outcome::Budget;
+use search_tables::pairs::PointPair;
 use std::alloc::Global;
 
 // The line of what is met at a place.
@@ -53,7 +53,7 @@ pub fn stuck_line(
     a: &Machine,
     b: &Machine,
     moves: &[Move],
-    points: &[NodePoints],
+    points: &[PointPair],
     output: u32,
 ) -> Result<Vec<u8>, NoMemory>
     ensures { IfOk result
@@ -70,7 +70,7 @@ pub fn spin_line(
     alloc: Global,
     a: &Machine,
     b: &Machine,
-    points: &[NodePoints],
+    points: &[PointPair],
     side: Side,
     cycle: &[u32],
 ) -> Result<Vec<u8>, NoMemory>
@@ -88,7 +88,7 @@ fn operation_line(
     a: &Machine,
     b: &Machine,
     what: &[u8],
-    points: &[NodePoints],
+    points: &[PointPair],
     at: Move,
 ) -> Result<Vec<u8>, NoMemory>
     ensures { IfOk result
@@ -103,7 +103,7 @@ pub fn wide_line(
     alloc: Global,
     a: &Machine,
     b: &Machine,
-    points: &[NodePoints],
+    points: &[PointPair],
     at: Move,
 ) -> Result<Vec<u8>, NoMemory>
     ensures { IfOk result
@@ -118,7 +118,7 @@ pub fn large_line(
     alloc: Global,
     a: &Machine,
     b: &Machine,
-    points: &[NodePoints],
+    points: &[PointPair],
     at: Move,
 ) -> Result<Vec<u8>, NoMemory>
     ensures { IfOk result

@@ -17,7 +17,7 @@ use fs_cut::path_text::{point_text, write_named_path};
 use fs_model::parts::VarId;
 use nf_terms::stop::NoMemory;
 use search_tables::moves::Move;
-use search_tables::nodes::NodePoints;
+use search_tables::pairs::PointPair;
 use std::alloc::{AllocError, Global};
 
 fn path_text(
@@ -80,7 +80,7 @@ pub fn move_text(
     alloc: Global,
     a: &Machine,
     b: &Machine,
-    points: &[NodePoints],
+    points: &[PointPair],
     at: Move,
 ) -> Result<Vec<u8>, NoMemory>
     ensures { IfOk result (λ text. text.items ≡ move_text (machines a.now b.now) (map points_in points.now) at) }
@@ -98,7 +98,7 @@ pub fn last_move_text(
     alloc: Global,
     a: &Machine,
     b: &Machine,
-    points: &[NodePoints],
+    points: &[PointPair],
     moves: &[Move],
 ) -> Result<Vec<u8>, NoMemory>
     ensures { IfOk result (λ text. text.items ≡ last_move_text (machines a.now b.now) (map points_in points.now) moves.now) }
@@ -113,7 +113,7 @@ fn node_text(
     alloc: Global,
     a: &Machine,
     b: &Machine,
-    points: &[NodePoints],
+    points: &[PointPair],
     node: u32,
 ) -> Result<Vec<u8>, NoMemory>
     ensures { IfOk result (λ text. text.items ≡ node_points_text (machines a.now b.now) (map points_in points.now) node) }
@@ -129,7 +129,7 @@ pub fn first_node_text(
     alloc: Global,
     a: &Machine,
     b: &Machine,
-    points: &[NodePoints],
+    points: &[PointPair],
     nodes: &[u32],
 ) -> Result<Vec<u8>, NoMemory>
     ensures { IfOk result (λ text. text.items ≡ first_node_text (machines a.now b.now) (map points_in points.now) nodes.now) }

@@ -22,18 +22,19 @@ use fs_pair::positions::Pairing;
 use nf_terms::stop::NoMemory;
 use search_closing::closing::{Closing, close};
 use search_tables::moves::Move;
-use search_tables::nodes::{NodePoints, TableNode};
+use search_tables::nodes::SearchNode;
 use search_tables::outcome::Outcome;
+use search_tables::pairs::PointPair;
 use search_worklist::ends::{End, Ended};
 use std::alloc::Global;
 
 // The points of nodes, in order. The one refusal is out of memory.
-fn points_of(alloc: Global, nodes: &[TableNode]) -> Result<Vec<NodePoints>, NoMemory>
+fn points_of(alloc: Global, nodes: &[SearchNode]) -> Result<Vec<PointPair>, NoMemory>
     ensures { IfOk result (λ points. map points_at (table_in nodes.now) ≡ map points_in points.items) }
 {
     let mut out = Vec::new(alloc);
     for node in nodes {
-        out.push(NodePoints {
+        out.push(PointPair {
             left: node.left,
             right: node.right,
         })?;
@@ -48,9 +49,9 @@ fn close_table(
     b: &Machine,
     ca: &Cover,
     cb: &Cover,
-    nodes: Vec<TableNode>,
+    nodes: Vec<SearchNode>,
     moves: Vec<Move>,
-    points: Vec<NodePoints>,
+    points: Vec<PointPair>,
 ) -> Result<Outcome, NoMemory>
     requires interface { interface_fault a.now b.now ≡ None }
     requires left_cover { ca.now ≡ cover_of a.now }

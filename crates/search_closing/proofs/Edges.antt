@@ -18,8 +18,8 @@ use Rattle.sym_paths.specs.Execution.{Post, end_of}
 use Rattle.search_tables.specs.Modes.{Traced, Found, WideAt, LargeAt}
 use Rattle.cert_model.specs.Obligations.{same_alone}
 use Rattle.search_tables.specs.Walks.{InRange, lists_in}
-use Rattle.search_tables.specs.declared.nodes.TableNode.{TableNode}
-use Rattle.search_tables.specs.View.{table_in, table_node_in}
+use Rattle.search_tables.specs.declared.nodes.SearchNode.{SearchNode as CodeNode}
+use Rattle.search_tables.specs.View.{table_in, search_node_in}
 use Rattle.search_tables.specs.SearchTables.{MachinePair, SearchNode, Table, Target, Unknown, Known, node_target, Keeps, PathPair, effect, arrival}
 use Rattle.search_tables.specs.Next.{mode_at, paths_in}
 use Rattle.search_tables.specs.LoneMoves.{moves_alone, if_alone, lone_target, lone_targets, lone_in, lone_from, lone_moves}
@@ -131,10 +131,10 @@ all_in_range m T (Err z) few e short = tt
 abbrev items : Vec ℕ Global → List ℕ
 items v = v.items
 
-pub edges_more : (m : MachinePair) (T : Table) (ns : List TableNode) (old new : List (Vec ℕ Global)) (v : Vec ℕ Global) (i : ℕ) (n : TableNode)
+pub edges_more : (m : MachinePair) (T : Table) (ns : List CodeNode) (old new : List (Vec ℕ Global)) (v : Vec ℕ Global) (i : ℕ) (n : CodeNode)
     (whole : List (List ℕ)) → i < length ns → n ≡ slice_index_or ns i n
-    → v.items ≡ lone_in m T (table_node_in n) (mode_at m (table_node_in n)) → new ≡ old ++ v ∷ [] → lists_in old ++ lone_from m T (table_in (drop i ns)) ≡ whole
-    → lists_in new ++ lone_from m T (table_in (drop (i + 1) ns)) ≡ whole
+    → v.items ≡ lone_in m T (search_node_in n) (mode_at m (search_node_in n)) → new ≡ old ++ v ∷ []
+    → lists_in old ++ lone_from m T (table_in (drop i ns)) ≡ whole → lists_in new ++ lone_from m T (table_in (drop (i + 1) ns)) ≡ whole
 edges_more m T ns old new v i n whole lt e g h w =
     let rest = lone_from m T (table_in (drop (i + 1) ns)) in
     ap (λ l. lists_in l ++ rest) h ∙ ap (λ l. l ++ rest) (map-append items old (v ∷ [])) ∙ append_assoc (lists_in old) (v.items ∷ []) rest

@@ -11,8 +11,8 @@ use Rattle.cert_bisimulation.specs.declared.mode.Mode.{Mode}
 use Rattle.search_tables.specs.Modes.{Traced, Found}
 use Rattle.search_tables.specs.SearchTables.{MachinePair, SearchNode, Table}
 use Rattle.search_tables.specs.Next.{mode_at, paths_in, IsClosed}
-use Rattle.search_tables.specs.declared.nodes.TableNode.{TableNode}
-use Rattle.search_tables.specs.View.{table_in, table_node_in}
+use Rattle.search_tables.specs.declared.nodes.SearchNode.{SearchNode as CodeNode}
+use Rattle.search_tables.specs.View.{table_in, search_node_in}
 use Rattle.search_tables.proofs.Closing.{quiet}
 use Rattle.search_closing.specs.ClosedModes.{IsWithoutEvent, AreModes}
 use Rattle.search_closing.specs.LoneSideMoves.{Keep}
@@ -35,8 +35,8 @@ passes test (x ∷ T) zero n h g = let s : x ≡ n = cc g in ap test (sym s) ∙
 passes test (x ∷ T) (suc k) n h g = passes test T k n (and_second (test x) (list_all test T) h) g
 
 -- the node of a table that is read at a place
-pub node_read : (ns : List TableNode) (k : ℕ) (n : TableNode) → k < length ns → n ≡ slice_index_or ns k n → slice_get (table_in ns) k ≡ Some (table_node_in n)
-node_read ns k n h e = slice_get-map table_node_in ns k ∙ ap (λ o. option_map table_node_in o) (slice_get_read ns (length ns) k n refl h e)
+pub node_read : (ns : List CodeNode) (k : ℕ) (n : CodeNode) → k < length ns → n ≡ slice_index_or ns k n → slice_get (table_in ns) k ≡ Some (search_node_in n)
+node_read ns k n h e = slice_get-map search_node_in ns k ∙ ap (λ o. option_map search_node_in o) (slice_get_read ns (length ns) k n refl h e)
 
 abbrev found : Mode → Traced Mode
 found x = Found x
@@ -66,8 +66,8 @@ mode_place m T xs k n x e g f =
     (sym (slice_get-map found xs k) ∙ ap (λ l. slice_get l k) e ∙ slice_get-map (mode_at m) T k ∙ ap (option_map (mode_at m)) g ∙ ap Some f)
 
 -- one more mode, in front of those of the nodes that are left
-pub modes_more : (m : MachinePair) (ns : List TableNode) (old new : List Mode) (i : ℕ) (n : TableNode) (x : Mode) (whole : List (Traced Mode))
-    → i < length ns → n ≡ slice_index_or ns i n → mode_at m (table_node_in n) ≡ Found x → new ≡ old ++ x ∷ []
+pub modes_more : (m : MachinePair) (ns : List CodeNode) (old new : List Mode) (i : ℕ) (n : CodeNode) (x : Mode) (whole : List (Traced Mode))
+    → i < length ns → n ≡ slice_index_or ns i n → mode_at m (search_node_in n) ≡ Found x → new ≡ old ++ x ∷ []
     → map found old ++ map (mode_at m) (table_in (drop i ns)) ≡ whole → map found new ++ map (mode_at m) (table_in (drop (i + 1) ns)) ≡ whole
 modes_more m ns old new i n x whole h at e g w =
     let rest = map (mode_at m) (table_in (drop (i + 1) ns)) in

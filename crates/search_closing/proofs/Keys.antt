@@ -12,8 +12,8 @@ use Rattle.fs_model.proofs.Lists.{drop_next}
 use Rattle.indexmap.specs.IndexSet.{insert_key}
 use Rattle.fs_cut.specs.Paths.{Point}
 use Rattle.fs_cut.specs.Covers.{same_point}
-use Rattle.search_tables.specs.declared.nodes.TableNode.{TableNode}
-use Rattle.search_tables.specs.View.{table_in, table_node_in}
+use Rattle.search_tables.specs.declared.nodes.SearchNode.{SearchNode as CodeNode}
+use Rattle.search_tables.specs.View.{table_in, search_node_in}
 use Rattle.search_tables.specs.SearchTables.{SearchNode, Table, Unknown, Known, is_at, target_from}
 use Rattle.search_tables.specs.TableInvariants.{nodes_differ}
 use Rattle.cert_model.specs.PointKeys.{key_of}
@@ -80,14 +80,14 @@ stands T P Q key keys o k e h =
 next_done : {X : Type 0} (xs : List X) (i : ℕ) (x : X) → i < length xs → x ≡ slice_index_or xs i x → take (i + 1) xs ≡ take i xs ++ x ∷ []
 next_done xs i x h e = ap (λ j. take j xs) (add-one i) ∙ take-suc xs i x h ∙ ap (λ y. take i xs ++ y ∷ []) (sym e)
 
-pub key_more : (ns : List TableNode) (i : ℕ) (n : TableNode) (key : ℕ × ℕ) (old new : List (ℕ × ℕ)) → i < length ns → n ≡ slice_index_or ns i n
-    → nodes_differ (table_in ns) ≡ true → key ≡ key_at (table_node_in n)
+pub key_more : (ns : List CodeNode) (i : ℕ) (n : CodeNode) (key : ℕ × ℕ) (old new : List (ℕ × ℕ)) → i < length ns → n ≡ slice_index_or ns i n
+    → nodes_differ (table_in ns) ≡ true → key ≡ key_at (search_node_in n)
     → old ≡ keys_in (table_in (take i ns)) → new ≡ insert_key same_key old key → new ≡ keys_in (table_in (take (i + 1) ns))
 key_more ns i n key old new lt e h k o g =
-    let split : table_in ns ≡ table_in (take i ns) ++ table_node_in n ∷ table_in (drop (i + 1) ns) =
-    ap table_in (sym (take-append-drop i ns)) ∙ map-append table_node_in (take i ns) (drop i ns)
+    let split : table_in ns ≡ table_in (take i ns) ++ search_node_in n ∷ table_in (drop (i + 1) ns) =
+    ap table_in (sym (take-append-drop i ns)) ∙ map-append search_node_in (take i ns) (drop i ns)
     ∙ ap (λ xs. table_in (take i ns) ++ table_in xs) (drop_next ns i n lt e) in
-    let more : table_in (take (i + 1) ns) ≡ table_in (take i ns) ++ table_node_in n ∷ [] = ap table_in (next_done ns i n lt e)
-    ∙ map-append table_node_in (take i ns) (n ∷ []) in
-    one_more (table_in (take i ns)) (table_in (drop (i + 1) ns)) (table_node_in n) old new (ap nodes_differ (sym split) ∙ h) o
+    let more : table_in (take (i + 1) ns) ≡ table_in (take i ns) ++ search_node_in n ∷ [] = ap table_in (next_done ns i n lt e)
+    ∙ map-append search_node_in (take i ns) (n ∷ []) in
+    one_more (table_in (take i ns)) (table_in (drop (i + 1) ns)) (search_node_in n) old new (ap nodes_differ (sym split) ∙ h) o
     (g ∙ ap (insert_key same_key old) k) ∙ ap keys_in (sym more)

@@ -14,7 +14,7 @@ use Rattle.search_tables.specs.Walks.{IsRanking}
 use Rattle.search_tables.specs.declared.ranking.Ranking.{Ranking}
 use Rattle.search_tables.specs.declared.ranking.Ranking.TheVariants as rankings
 use Rattle.search_tables.specs.SearchTables.{MachinePair, Table}
-use Rattle.search_tables.specs.declared.nodes.TableNode.{TableNode}
+use Rattle.search_tables.specs.declared.nodes.SearchNode.{SearchNode as CodeNode}
 use Rattle.search_tables.specs.View.{table_in}
 use Rattle.search_tables.specs.Next.{mode_at}
 use Rattle.search_tables.specs.LoneMoves.{lone_moves, Spins}
@@ -68,7 +68,7 @@ answered m T modes r E (Ok c) a e h b = gives m T modes r E c a e h b
 answered m T modes r E (Err z) a e h b = tt
 
 -- what holds of two machines and nodes holds of the machines that are read, and of the slice
-pub at_machines : (P : MachinePair → Table → Type 0) (m : MachinePair) (a b : Fsmd) (ns slice : List TableNode) → m.left ≡ a → m.right ≡ b → slice ≡ ns
+pub at_machines : (P : MachinePair → Table → Type 0) (m : MachinePair) (a b : Fsmd) (ns slice : List CodeNode) → m.left ≡ a → m.right ≡ b → slice ≡ ns
     → P (record { left = a; right = b }) (table_in ns) → P m (table_in slice)
 at_machines P m a b ns slice l r e h =
     subst (λ xs. P m (table_in xs)) (sym e)

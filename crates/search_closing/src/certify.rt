@@ -8,13 +8,13 @@ ghost use Rattle.search_tables.specs.View.{table_in};
 use cert_bisimulation::mode::Mode;
 use cert_model::cert::Node;
 use nf_terms::stop::NoMemory;
-use search_tables::nodes::TableNode;
+use search_tables::nodes::SearchNode;
 use std::alloc::Global;
 
 /// The nodes of a table, each with its mode and its rank. The facts are moved. The one refusal is out of memory.
 pub(crate) fn certify(
     alloc: Global,
-    nodes: Vec<TableNode>,
+    nodes: Vec<SearchNode>,
     modes: &[Mode],
     ranks: &[u32],
 ) -> Result<Vec<Node>, NoMemory>

@@ -23,7 +23,7 @@ use fs_ast::machine::Machine;
 use fs_cut::cover::Cover;
 use nf_terms::stop::NoMemory;
 use nf_terms::tree::Side;
-use search_tables::nodes::TableNode;
+use search_tables::nodes::SearchNode;
 use search_tables::ranking::Ranking;
 use search_tables::walk::rank_all;
 use std::alloc::Global;
@@ -42,7 +42,7 @@ pub enum Closing {
 fn lone_graph<'t>(
     alloc: Global,
     machines: &'t Covered<'t>,
-    nodes: &'t [TableNode],
+    nodes: &'t [SearchNode],
     modes: &'t [Mode],
 ) -> Result<Vec<Vec<u32>>, NoMemory>
     requires formed { IsWellFormed (covered_machines machines.now) (table_in nodes.now) }
@@ -66,7 +66,7 @@ fn lone_graph<'t>(
 fn rank<'t>(
     alloc: Global,
     machines: &'t Covered<'t>,
-    nodes: &'t [TableNode],
+    nodes: &'t [SearchNode],
     modes: &'t [Mode],
 ) -> Result<Ranking, NoMemory>
     requires formed { IsWellFormed (covered_machines machines.now) (table_in nodes.now) }
@@ -84,7 +84,7 @@ fn rank<'t>(
 // What a closed table gives, where its nodes have these modes.
 fn close_by(
     alloc: Global,
-    nodes: Vec<TableNode>,
+    nodes: Vec<SearchNode>,
     modes: &[Mode],
     ranking: Ranking,
 ) -> Result<Closing, NoMemory>
@@ -113,7 +113,7 @@ pub fn close(
     b: &Machine,
     ca: &Cover,
     cb: &Cover,
-    nodes: Vec<TableNode>,
+    nodes: Vec<SearchNode>,
 ) -> Result<Closing, NoMemory>
     requires left_cover { ca.now ≡ cover_of a.now }
     requires right_cover { cb.now ≡ cover_of b.now }

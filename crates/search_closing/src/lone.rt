@@ -14,7 +14,7 @@ ghost use Rattle.search_tables.specs.Walks.{lists_in};
 ghost use Rattle.search_tables.specs.SearchTables.{Keeps, node_target, effect, arrival};
 ghost use Rattle.search_tables.specs.Next.{mode_at, paths_in, IsClosed};
 ghost use Rattle.search_tables.specs.LoneMoves.{lone_mode, if_alone, lone_targets as targets_by, lone_in, lone_moves as graph_of};
-ghost use Rattle.search_tables.specs.View.{table_in, table_node_in};
+ghost use Rattle.search_tables.specs.View.{table_in, search_node_in};
 ghost use Rattle.search_closing.specs.LoneSideMoves.{lone_path, Keep, lone_move_target as target_by, AreShort};
 ghost use Rattle.search_closing.specs.View.{covered_machines, as_list};
 
@@ -27,7 +27,7 @@ use fs_cut::cover::{Path, Point};
 use nf_refutation::refutation::is_refuted;
 use nf_terms::stop::{NfStop, NoMemory};
 use nf_terms::tree::Side;
-use search_tables::nodes::TableNode;
+use search_tables::nodes::SearchNode;
 use std::alloc::Global;
 use sym_entailment::arrival::arrive;
 use sym_paths::execution::Post;
@@ -56,7 +56,7 @@ fn alone_at(table: &NodeTable<'_>, side: Side, left: Point, right: Point) -> Opt
 }
 
 // The points to which a side moves alone.
-fn ends(node: &TableNode, side: Side, path: &Path) -> (Point, Point)
+fn ends(node: &SearchNode, side: Side, path: &Path) -> (Point, Point)
     ensures left { point_of result.0 ≡ end_of (point_of node.now.left) (lone_path side (path_of path.now)).left }
     ensures right { point_of result.1 ≡ end_of (point_of node.now.right) (lone_path side (path_of path.now)).right }
 {
@@ -70,12 +70,12 @@ fn ends(node: &TableNode, side: Side, path: &Path) -> (Point, Point)
 fn arrive_alone(
     alloc: Global,
     m: &Covered<'_>,
-    node: &TableNode,
+    node: &SearchNode,
     side: Side,
     path: &Path,
 ) -> Result<Post, NfStop>
     ensures { Answers (answer_in_data post_in result)
-        (arrival (covered_machines m.now) (table_node_in node.now) (lone_path side (path_of path.now))) }
+        (arrival (covered_machines m.now) (search_node_in node.now) (lone_path side (path_of path.now))) }
 {
     match side {
         Side::Left => arrive(alloc, m.a, m.b, &node.fact, Some(path), None),
@@ -87,12 +87,12 @@ fn arrive_alone(
 fn is_refuted_alone(
     alloc: Global,
     m: &Covered<'_>,
-    node: &TableNode,
+    node: &SearchNode,
     side: Side,
     path: &Path,
 ) -> Result<bool, NfStop>
     ensures { Answers result
-        (after (arrival (covered_machines m.now) (table_node_in node.now) (lone_path side (path_of path.now)))
+        (after (arrival (covered_machines m.now) (search_node_in node.now) (lone_path side (path_of path.now)))
         (λ post. Done (refuted post.conditions))) }
 {
     let post = arrive_alone(alloc, m, node, side, path)?;
@@ -106,15 +106,15 @@ fn is_refuted_alone(
 fn lone_target(
     alloc: Global,
     table: &NodeTable<'_>,
-    node: &TableNode,
+    node: &SearchNode,
     side: Side,
     path: &Path,
 ) -> Result<Option<u32>, NoMemory>
-    requires { effect (covered_machines table.now.machines.now) (table_in table.now.nodes.now) (table_node_in node.now)
+    requires { effect (covered_machines table.now.machines.now) (table_in table.now.nodes.now) (search_node_in node.now)
         (lone_path side (path_of path.now)) ≡ Keeps }
     ensures { IfOk result
         (λ target. as_list target ≡ target_by (covered_machines table.now.machines.now) (table_in table.now.nodes.now)
-        (table_node_in node.now) (lone_mode side) (lone_path side (path_of path.now))) }
+        (search_node_in node.now) (lone_mode side) (lone_path side (path_of path.now))) }
 {
     let (left, right) = ends(node, side, path);
     let Some(number) = alone_at(table, side, left, right) else {
@@ -142,15 +142,15 @@ fn push(out: &mut Vec<u32>, target: Option<u32>) -> Result<(), NoMemory>
 fn lone_targets(
     alloc: Global,
     table: &NodeTable<'_>,
-    node: &TableNode,
+    node: &SearchNode,
     side: Side,
     paths: &[Path],
 ) -> Result<Vec<u32>, NoMemory>
-    requires { Keep (covered_machines table.now.machines.now) (table_in table.now.nodes.now) (table_node_in node.now)
+    requires { Keep (covered_machines table.now.machines.now) (table_in table.now.nodes.now) (search_node_in node.now)
         (map (lone_path side) (map path_of paths.now)) }
     ensures targets { IfOk result
         (λ out. out.items ≡ targets_by (covered_machines table.now.machines.now) (table_in table.now.nodes.now)
-        (table_node_in node.now) (lone_mode side) (map (lone_path side) (map path_of paths.now))) }
+        (search_node_in node.now) (lone_mode side) (map (lone_path side) (map path_of paths.now))) }
     ensures few { IfOk result (λ out. length out.items ≤ length paths.now) }
 {
     let mut out = Vec::new(alloc);
@@ -165,18 +165,18 @@ fn lone_targets(
 fn targets_at(
     alloc: Global,
     table: &NodeTable<'_>,
-    node: &TableNode,
+    node: &SearchNode,
     mode: Mode,
 ) -> Result<Vec<u32>, NoMemory>
     requires points { IsTrue
         (is_point table.now.machines.now.a.now (point_of node.now.left)
         && is_point table.now.machines.now.b.now (point_of node.now.right)) }
-    requires mode { mode_at (covered_machines table.now.machines.now) (table_node_in node.now) ≡ Found mode }
-    requires keep { Keep (covered_machines table.now.machines.now) (table_in table.now.nodes.now) (table_node_in node.now)
-        (paths_in (covered_machines table.now.machines.now) (table_node_in node.now) mode) }
+    requires mode { mode_at (covered_machines table.now.machines.now) (search_node_in node.now) ≡ Found mode }
+    requires keep { Keep (covered_machines table.now.machines.now) (table_in table.now.nodes.now) (search_node_in node.now)
+        (paths_in (covered_machines table.now.machines.now) (search_node_in node.now) mode) }
     ensures targets { IfOk result
         (λ out. out.items ≡ lone_in (covered_machines table.now.machines.now) (table_in table.now.nodes.now)
-        (table_node_in node.now) (mode_at (covered_machines table.now.machines.now) (table_node_in node.now))) }
+        (search_node_in node.now) (mode_at (covered_machines table.now.machines.now) (search_node_in node.now))) }
     ensures few { IfOk result (λ out. length out.items ≤ most_branches) }
 {
     let m = table.machines;

@@ -6,7 +6,7 @@ ghost use Rattle.fs_cut.specs.View.{point_of};
 ghost use Rattle.search_tables.specs.Modes.{Found};
 ghost use Rattle.search_tables.specs.Next.{mode_at, IsClosed};
 ghost use Rattle.search_tables.specs.TableInvariants.{IsWellFormed};
-ghost use Rattle.search_tables.specs.View.{table_in, table_node_in};
+ghost use Rattle.search_tables.specs.View.{table_in, search_node_in};
 ghost use Rattle.search_closing.specs.ClosedModes.{IsWithoutEvent, AreModes, cycle_side};
 ghost use Rattle.search_closing.specs.View.{covered_machines};
 
@@ -15,14 +15,14 @@ use cert_bisimulation::mode::Mode;
 use nf_terms::stop::{NfStop, NoMemory};
 use nf_terms::tree::Side;
 use search_tables::modes::mode;
-use search_tables::nodes::TableNode;
+use search_tables::nodes::SearchNode;
 use std::alloc::Global;
 
 // The mode of a node at which it is found. The one refusal is out of memory.
-fn mode_of(alloc: Global, m: &Covered<'_>, node: &TableNode) -> Result<Mode, NoMemory>
+fn mode_of(alloc: Global, m: &Covered<'_>, node: &SearchNode) -> Result<Mode, NoMemory>
     requires points { IsTrue (is_point m.now.a.now (point_of node.now.left) && is_point m.now.b.now (point_of node.now.right)) }
-    requires found { IsWithoutEvent (mode_at (covered_machines m.now) (table_node_in node.now)) }
-    ensures { IfOk result (λ x. mode_at (covered_machines m.now) (table_node_in node.now) ≡ Found x) }
+    requires found { IsWithoutEvent (mode_at (covered_machines m.now) (search_node_in node.now)) }
+    ensures { IfOk result (λ x. mode_at (covered_machines m.now) (search_node_in node.now) ≡ Found x) }
 {
     match mode(
         alloc, m.a, m.b, m.left, m.right, &node.fact, node.left, node.right,
@@ -39,7 +39,7 @@ fn mode_of(alloc: Global, m: &Covered<'_>, node: &TableNode) -> Result<Mode, NoM
 pub(crate) fn modes_of(
     alloc: Global,
     m: &Covered<'_>,
-    nodes: &[TableNode],
+    nodes: &[SearchNode],
 ) -> Result<Vec<Mode>, NoMemory>
     requires formed { IsWellFormed (covered_machines m.now) (table_in nodes.now) }
     requires closed { IsClosed (covered_machines m.now) (table_in nodes.now) }

@@ -10,13 +10,13 @@ ghost use Rattle.search_closing.specs.View.{covered_machines};
 use crate::covered::Covered;
 use cert_bisimulation::mode::Mode;
 use indexmap::IndexSet;
-use search_tables::nodes::TableNode;
+use search_tables::nodes::SearchNode;
 
 /// The nodes of a table of two machines, with their modes and the places of their points.
 #[derive(Drop)]
 pub(crate) struct NodeTable<'a> {
     pub(crate) machines: &'a Covered<'a>,
-    pub(crate) nodes: &'a [TableNode],
+    pub(crate) nodes: &'a [SearchNode],
     pub(crate) modes: &'a [Mode],
     pub(crate) places: IndexSet<(u64, u64)>,
     ghost formed: { IsWellFormed (covered_machines machines.now) (table_in nodes.now) },

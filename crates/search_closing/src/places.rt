@@ -11,13 +11,13 @@ use cert_model::keys::key_of;
 use fs_cut::cover::Point;
 use indexmap::IndexSet;
 use nf_terms::stop::NoMemory;
-use search_tables::nodes::TableNode;
+use search_tables::nodes::SearchNode;
 use std::alloc::Global;
 
 /// The keys of nodes at different pairs of points, in order: a key is found in constant time. The one refusal is out of memory.
 pub(crate) fn places_of(
     alloc: Global,
-    nodes: &[TableNode],
+    nodes: &[SearchNode],
 ) -> Result<IndexSet<(u64, u64)>, NoMemory>
     requires { IsTrue (nodes_differ (table_in nodes.now)) }
     ensures { IfOk result (λ places. places.keys ≡ keys_in (table_in nodes.now)) }

@@ -12,10 +12,10 @@ use Rattle.indexmap.specs.IndexMap.{insert_entry}
 use Rattle.fs_cut.specs.View.{point_of}
 use Rattle.sym_facts.specs.Facts.{Fact}
 use Rattle.search_tables.specs.SearchTables.{SearchNode, Unknown, Known, target_from}
-use Rattle.search_places.specs.declared.pairs.PointPair.{PointPair}
+use Rattle.search_tables.specs.declared.pairs.PointPair.{PointPair}
 use Rattle.search_waiting.specs.declared.item.Item.{Item}
 use Rattle.search_places.specs.declared.entry.Entry.{Entry}
-use Rattle.search_places.specs.Pairs.{same_pair}
+use Rattle.search_tables.specs.Pairs.{same_pair}
 use Rattle.search_places.specs.NodeLines.{record_of_node, node_records, table_of}
 use Rattle.search_places.specs.NodeChanges.{StandsAt, fresh, PutsNode}
 

@@ -4,7 +4,7 @@ use Rattle.std.proofs.lemmas.List.{map-set}
 use Rattle.std.specs.Prelude.{Some, slice_get, slice_set}
 use Rattle.fs_model.proofs.Lists.{slice_get-of_map}
 use Rattle.indexmap.specs.IndexMap.{set_value_at}
-use Rattle.search_places.specs.declared.pairs.PointPair.{PointPair}
+use Rattle.search_tables.specs.declared.pairs.PointPair.{PointPair}
 use Rattle.search_places.specs.declared.entry.Entry.{Entry}
 use Rattle.search_places.specs.NodeLines.{record_of_node, node_records}
 use Rattle.search_tables.proofs.RankLists.{get_map_back}

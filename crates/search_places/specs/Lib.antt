@@ -1,4 +1,3 @@
-pub mod Pairs
 pub mod NodeLines
 pub mod NodeChanges
 pub mod View

@@ -5,7 +5,7 @@ use Rattle.fs_cut.specs.View.{point_of}
 use Rattle.sym_facts.specs.Facts.{Fact}
 use Rattle.search_tables.specs.declared.moves.Move.{Move}
 use Rattle.search_tables.specs.SearchTables.{SearchNode, Table}
-use Rattle.search_places.specs.declared.pairs.PointPair.{PointPair}
+use Rattle.search_tables.specs.declared.pairs.PointPair.{PointPair}
 use Rattle.search_waiting.specs.declared.item.Item.{Item}
 use Rattle.search_places.specs.declared.entry.Entry.{Entry}
 

@@ -11,4 +11,3 @@
 pub mod entry;
 pub mod moves;
 pub mod nodes;
-pub mod pairs;

@@ -9,12 +9,12 @@ ghost use Rattle.search_places.specs.NodeChanges.{StandsAt, PutsNode, SetsMoves,
 ghost use Rattle.search_places.specs.View.{standing_in};
 
 use crate::entry::Entry;
-use crate::pairs::PointPair;
 use fs_cut::cover::Point;
 use indexmap::IndexMap;
 use nf_terms::stop::NoMemory;
 use search_tables::moves::Move;
-use search_tables::nodes::TableNode;
+use search_tables::nodes::SearchNode;
+use search_tables::pairs::PointPair;
 use search_waiting::item::Item;
 use std::alloc::Global;
 use sym_facts::fact::Fact;
@@ -115,12 +115,12 @@ pub fn list_arrival(
 }
 
 /// The nodes alone, in order. The one refusal is out of memory.
-pub fn table(alloc: Global, nodes: IndexMap<PointPair, Entry>) -> Result<Vec<TableNode>, NoMemory>
+pub fn table(alloc: Global, nodes: IndexMap<PointPair, Entry>) -> Result<Vec<SearchNode>, NoMemory>
     ensures { IfOk result (λ out. table_in out.items ≡ table_of (node_records nodes.entries)) }
 {
     let mut out = Vec::new(alloc);
     for (points, entry) in nodes {
-        out.push(TableNode {
+        out.push(SearchNode {
             left: points.left,
             right: points.right,
             fact: entry.fact,

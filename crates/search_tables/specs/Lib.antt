@@ -9,6 +9,7 @@ pub mod TableInvariants
 pub mod Certifying
 pub mod Obstacles
 pub mod View
+pub mod Pairs
 pub use Rattle.cert_model.specs.Obligations
 pub use Rattle.propagate.specs.Modes
 pub use Rattle.cert_model.specs.PointKeys

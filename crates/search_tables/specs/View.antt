@@ -2,8 +2,8 @@
 use Rattle.std.specs.Prelude.{List, map}
 use Rattle.fs_cut.specs.Paths.{Point}
 use Rattle.fs_cut.specs.View.{point_of}
-use Rattle.search_tables.specs.declared.nodes.NodePoints.{NodePoints}
-use Rattle.search_tables.specs.declared.nodes.TableNode.{TableNode}
+use Rattle.search_tables.specs.declared.pairs.PointPair.{PointPair}
+use Rattle.search_tables.specs.declared.nodes.SearchNode.{SearchNode as CodeNode}
 use Rattle.search_tables.specs.SearchTables.{SearchNode, Table}
 
 -- the points of a node of a table
@@ -11,15 +11,15 @@ pub record Points : Type 0 where
   pub left : Point
   pub right : Point
 
-abbrev pub points_in : NodePoints → Points
+abbrev pub points_in : PointPair → Points
 points_in n = record { left = point_of n.left; right = point_of n.right }
 
 abbrev pub points_at : SearchNode → Points
 points_at n = record { left = n.left; right = n.right }
 
-abbrev pub table_node_in : TableNode → SearchNode
-table_node_in n = record { left = point_of n.left; right = point_of n.right; fact = n.fact }
+abbrev pub search_node_in : CodeNode → SearchNode
+search_node_in n = record { left = point_of n.left; right = point_of n.right; fact = n.fact }
 
 -- the table of these nodes
-abbrev pub table_in : List TableNode → Table
-table_in ns = map table_node_in ns
+abbrev pub table_in : List CodeNode → Table
+table_in ns = map search_node_in ns

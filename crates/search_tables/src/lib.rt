@@ -30,6 +30,7 @@ pub mod memory;
 pub mod moves;
 pub mod nodes;
 pub mod outcome;
+pub mod pairs;
 pub mod rank_laws;
 pub mod ranking;
 pub mod walk;

@@ -1,7 +1,7 @@
 //! How a search ends.
 
 use crate::moves::Move;
-use crate::nodes::NodePoints;
+use crate::pairs::PointPair;
 use cert_model::cert::Cert;
 use nf_terms::tree::Side;
 
@@ -23,33 +23,33 @@ pub enum Outcome {
     /// At this node both machines are done, and the two terms of this left output differ.
     Stuck {
         moves: Vec<Move>,
-        points: Vec<NodePoints>,
+        points: Vec<PointPair>,
         node: u32,
         var: u32,
     },
     /// These nodes follow one another by moves of this side alone, the last leading back to the first.
     Spin {
         moves: Vec<Move>,
-        points: Vec<NodePoints>,
+        points: Vec<PointPair>,
         side: Side,
         cycle: Vec<u32>,
     },
     /// An operation of this move is not narrow; where a mode was being found, of this one path.
     Wide {
         moves: Vec<Move>,
-        points: Vec<NodePoints>,
+        points: Vec<PointPair>,
         at: Move,
     },
     /// An operation of this move is narrow and not small; where a mode was being found, of this one path.
     Large {
         moves: Vec<Move>,
-        points: Vec<NodePoints>,
+        points: Vec<PointPair>,
         at: Move,
     },
     /// This move would pass a budget.
     Exhausted {
         moves: Vec<Move>,
-        points: Vec<NodePoints>,
+        points: Vec<PointPair>,
         at: Move,
         what: Budget,
     },

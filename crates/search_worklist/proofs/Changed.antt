@@ -10,7 +10,7 @@ use Rattle.fs_cut.specs.Paths.{Point}
 use Rattle.sym_facts.specs.Facts.{Fact}
 use Rattle.search_tables.specs.SearchTables.{MachinePair, units}
 use Rattle.search_waiting.specs.declared.item.Item.{Item}
-use Rattle.search_places.specs.declared.pairs.PointPair.{PointPair}
+use Rattle.search_tables.specs.declared.pairs.PointPair.{PointPair}
 use Rattle.search_places.specs.declared.entry.Entry.{Entry}
 use Rattle.search_places.specs.NodeLines.{NodeRecord, node_with_fact, node_records, table_of}
 use Rattle.search_places.specs.NodeChanges.{fresh, PutsLast, PutsAgain, PutsNode}

@@ -20,7 +20,7 @@ use Rattle.search_tables.specs.Legal.{stuck, MovesLead, Makes}
 use Rattle.search_tables.proofs.Forming.{well_formed}
 use Rattle.search_tables.proofs.Bounded.{legal_short}
 use Rattle.search_tables.specs.View.{table_in}
-use Rattle.search_places.specs.declared.pairs.PointPair.{PointPair}
+use Rattle.search_tables.specs.declared.pairs.PointPair.{PointPair}
 use Rattle.search_places.specs.declared.entry.Entry.{Entry}
 use Rattle.search_places.specs.NodeLines.{NodeRecord, record_of_node, node_records, table_of}
 use Rattle.search_worklist.specs.declared.ends.End.{End}

@@ -1,7 +1,7 @@
 //! How the moves of a search end.
 
 use search_tables::moves::Move;
-use search_tables::nodes::TableNode;
+use search_tables::nodes::SearchNode;
 use search_tables::outcome::Budget;
 
 /// Why no further move is made.
@@ -22,7 +22,7 @@ pub enum End {
 /// The table that moves made, in order, and why no further move is made.
 #[derive(Drop)]
 pub struct Ended {
-    pub nodes: Vec<TableNode>,
+    pub nodes: Vec<SearchNode>,
     pub moves: Vec<Move>,
     pub end: End,
 }

@@ -20,7 +20,7 @@ use nf_terms::stop::NoMemory;
 use nf_vectors::vector::Vector;
 use search_places::entry::Entry;
 use search_places::nodes::node_at;
-use search_places::pairs::PointPair;
+use search_tables::pairs::PointPair;
 use std::alloc::Global;
 
 // Whether a left variable is an output that has another form than the right variable of its name.

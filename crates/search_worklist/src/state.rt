@@ -15,7 +15,7 @@ use indexmap::IndexMap;
 use nf_terms::stop::NoMemory;
 use search_places::entry::Entry;
 use search_places::nodes::put;
-use search_places::pairs::PointPair;
+use search_tables::pairs::PointPair;
 use search_waiting::item::Item;
 use search_waiting::waiting::{add, add_all};
 use std::alloc::Global;

@@ -4,7 +4,7 @@ use Rattle.fs_cut.specs.View.{point_of}
 use Rattle.sym_paths.specs.View.{post_in}
 use Rattle.sym_facts.specs.View.{missing_in}
 use Rattle.search_tables.specs.SearchTables.{MachinePair, Target, Unknown, Known}
-use Rattle.search_tables.specs.View.{table_node_in}
+use Rattle.search_tables.specs.View.{search_node_in}
 use Rattle.show_move_lines.specs.declared.sides.Sides.{Sides}
 use Rattle.show_move_lines.specs.declared.points.Standing.{Standing}
 use Rattle.show_move_lines.specs.declared.turn.Turn.{Turn as CodeTurn}
@@ -16,7 +16,7 @@ side_machines s = record { left = s.left.now; right = s.right.now }
 
 abbrev pub target_in : Option Standing → Target
 target_in None = Unknown
-target_in (Some s) = Known s.number (table_node_in s.node.now)
+target_in (Some s) = Known s.number (search_node_in s.node.now)
 
 abbrev pub turn_in : CodeTurn → Turn
 turn_in code.Idle = Idle

@@ -19,20 +19,20 @@ use fs_cut::cover::{Cover, Point};
 use fs_pair::positions::Pairing;
 use nf_terms::stop::NoMemory;
 use search_tables::moves::Move;
-use search_tables::nodes::TableNode;
+use search_tables::nodes::SearchNode;
 use show_fact_text::names::SideNames;
 use std::alloc::Global;
 use sym_facts::laws::the_start_fact_is_solved;
 use sym_facts::start::start_fact;
 
 /// The table with which a search begins. The one refusal is out of memory.
-pub fn first_table(alloc: Global, m: &Sides<'_>) -> Result<Vec<TableNode>, NoMemory>
+pub fn first_table(alloc: Global, m: &Sides<'_>) -> Result<Vec<SearchNode>, NoMemory>
     ensures table { IfOk result (λ nodes. table_in nodes.items ≡ first_table (side_machines m.now)) }
     ensures facts { IfOk result (λ nodes. AreOf m.now.pairing.now (table_in nodes.items)) }
 {
     the_start_fact_is_solved();
     let mut nodes = Vec::new(alloc);
-    nodes.push(TableNode {
+    nodes.push(SearchNode {
         left: Point::Start,
         right: Point::Start,
         fact: start_fact(alloc, m.pairing)?,
@@ -44,7 +44,7 @@ pub fn first_table(alloc: Global, m: &Sides<'_>) -> Result<Vec<TableNode>, NoMem
 fn tell_move(
     alloc: Global,
     m: &Sides<'_>,
-    nodes: &mut Vec<TableNode>,
+    nodes: &mut Vec<SearchNode>,
     at: Move,
     out: &mut Vec<u8>,
 ) -> Result<(), NoMemory>
@@ -71,7 +71,7 @@ fn tell_move(
 fn tell_moves(
     alloc: Global,
     m: &Sides<'_>,
-    nodes: &mut Vec<TableNode>,
+    nodes: &mut Vec<SearchNode>,
     moves: &[Move],
     out: &mut Vec<u8>,
 ) -> Result<(), NoMemory>

@@ -4,7 +4,7 @@ ghost use Rattle.std.specs.Prelude.{◌≡◌, ◌++◌, OnOk, option_map, slice
 ghost use Rattle.fs_cut.specs.View.{point_of, path_of};
 ghost use Rattle.sym_paths.specs.View.{post_in};
 ghost use Rattle.sym_facts.specs.View.{missing_in};
-ghost use Rattle.search_tables.specs.View.{table_node_in, table_in};
+ghost use Rattle.search_tables.specs.View.{search_node_in, table_in};
 ghost use Rattle.show_fact_text.specs.View.{side_names_in};
 ghost use Rattle.show_move_lines.specs.MoveLines.{shown_path, moved_text, moved_at, move_line, node_lines, lost_at, turn_lines};
 ghost use Rattle.show_move_lines.specs.View.{side_machines, turn_in};
@@ -16,7 +16,7 @@ use fs_cut::cover::{Path, Point};
 use fs_cut::path_text::write_named_path;
 use nf_terms::stop::NoMemory;
 use search_tables::moves::Move;
-use search_tables::nodes::TableNode;
+use search_tables::nodes::SearchNode;
 use show_fact_text::lines::write_fact;
 use show_fact_text::losses::write_lost_lines;
 use show_fact_text::names::SideNames;
@@ -52,11 +52,11 @@ fn write_side(
 fn write_moved(
     alloc: Global,
     m: &Sides<'_>,
-    node: &TableNode,
+    node: &SearchNode,
     at: Move,
     out: &mut Vec<u8>,
 ) -> Result<(), NoMemory>
-    ensures { OnOk result (out.new.items ≡ out.old.items ++ moved_text (side_machines m.now) (table_node_in node.now) at) }
+    ensures { OnOk result (out.new.items ≡ out.old.items ++ moved_text (side_machines m.now) (search_node_in node.now) at) }
 {
     let left = left_path(m, node.left, at.left);
     let right = right_path(m, node.right, at.right);
@@ -69,7 +69,7 @@ fn write_moved(
 pub fn write_move(
     alloc: Global,
     m: &Sides<'_>,
-    nodes: &[TableNode],
+    nodes: &[SearchNode],
     at: Move,
     out: &mut Vec<u8>,
 ) -> Result<(), NoMemory>
@@ -86,7 +86,7 @@ pub fn write_move(
 fn write_move_line(
     alloc: Global,
     m: &Sides<'_>,
-    nodes: &[TableNode],
+    nodes: &[SearchNode],
     at: Move,
     word: &[u8],
     left: Point,
@@ -108,7 +108,7 @@ fn write_lost_at(
     alloc: Global,
     out: &mut Vec<u8>,
     names: &SideNames<'_>,
-    nodes: &[TableNode],
+    nodes: &[SearchNode],
     number: usize,
     post: &Post,
     new: &Fact,
@@ -129,7 +129,7 @@ pub fn write_turn(
     alloc: Global,
     m: &Sides<'_>,
     names: &SideNames<'_>,
-    nodes: &[TableNode],
+    nodes: &[SearchNode],
     at: Move,
     turn: &Turn,
     out: &mut Vec<u8>,

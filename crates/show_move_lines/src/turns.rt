@@ -6,7 +6,7 @@ ghost use Rattle.nf_terms.specs.Computed.{Answers};
 ghost use Rattle.sym_paths.specs.View.{answer_in_data, post_in};
 ghost use Rattle.sym_facts.specs.Pairings.{IsFactOf};
 ghost use Rattle.search_tables.specs.SearchTables.{Unknown, Known, node_target};
-ghost use Rattle.search_tables.specs.View.{table_node_in, table_in};
+ghost use Rattle.search_tables.specs.View.{search_node_in, table_in};
 ghost use Rattle.show_move_lines.specs.MoveReplays.{turn_at, turn_from, turn_by, turn_of_move, with_turn, AreOf, HasFactOf};
 ghost use Rattle.show_move_lines.specs.View.{side_machines, turn_in};
 
@@ -20,7 +20,7 @@ use propagate::joins::join;
 use propagate::laws::{joined_facts_are_of_the_positions, rebased_facts_are_of_the_positions};
 use propagate::rebases::rebase;
 use search_tables::moves::Move;
-use search_tables::nodes::TableNode;
+use search_tables::nodes::SearchNode;
 use show_fact_text::points::end_of;
 use std::alloc::Global;
 use sym_entailment::arrival::arrive;
@@ -50,7 +50,7 @@ fn weaken(
     requires { IsFactOf p.now standing.now.node.now.fact }
     ensures answers { Answers (answer_in_data turn_in result)
         (turn_at p.now (point_of left) (point_of right) (post_in post)
-        (Known standing.now.number (table_node_in standing.now.node.now))) }
+        (Known standing.now.number (search_node_in standing.now.node.now))) }
     ensures fact { IfOk result (λ t. HasFactOf p.now (turn_in t)) }
 {
     joined_facts_are_of_the_positions();
@@ -70,7 +70,7 @@ fn weaken(
 fn turn_at(
     alloc: Global,
     p: &Pairing,
-    nodes: &[TableNode],
+    nodes: &[SearchNode],
     left: Point,
     right: Point,
     post: Post,
@@ -91,13 +91,13 @@ fn turn_at(
 fn turn_from(
     alloc: Global,
     m: &Sides<'_>,
-    nodes: &[TableNode],
-    node: &TableNode,
+    nodes: &[SearchNode],
+    node: &SearchNode,
     at: Move,
 ) -> Result<Turn, NfStop>
     requires { AreOf m.now.pairing.now (table_in nodes.now) }
     ensures answers { Answers (answer_in_data turn_in result)
-        (turn_from m.now.pairing.now (side_machines m.now) (table_in nodes.now) (table_node_in node.now) at) }
+        (turn_from m.now.pairing.now (side_machines m.now) (table_in nodes.now) (search_node_in node.now) at) }
     ensures fact { IfOk result (λ t. HasFactOf m.now.pairing.now (turn_in t)) }
 {
     let left = left_path(m, node.left, at.left);
@@ -114,7 +114,7 @@ fn turn_from(
 }
 
 // What a move of its node does.
-fn turn_by(alloc: Global, m: &Sides<'_>, nodes: &[TableNode], at: Move) -> Result<Turn, NfStop>
+fn turn_by(alloc: Global, m: &Sides<'_>, nodes: &[SearchNode], at: Move) -> Result<Turn, NfStop>
     requires { AreOf m.now.pairing.now (table_in nodes.now) }
     ensures answers { Answers (answer_in_data turn_in result)
         (turn_by m.now.pairing.now (side_machines m.now) (table_in nodes.now) at (slice_get (table_in nodes.now) at.node)) }
@@ -127,7 +127,7 @@ fn turn_by(alloc: Global, m: &Sides<'_>, nodes: &[TableNode], at: Move) -> Resul
 }
 
 /// What a move does to a table. The one refusal is out of memory.
-pub fn turn(alloc: Global, m: &Sides<'_>, nodes: &[TableNode], at: Move) -> Result<Turn, NoMemory>
+pub fn turn(alloc: Global, m: &Sides<'_>, nodes: &[SearchNode], at: Move) -> Result<Turn, NoMemory>
     requires { AreOf m.now.pairing.now (table_in nodes.now) }
     ensures turn { IfOk result (λ t. turn_in t ≡ turn_of_move m.now.pairing.now (side_machines m.now) (table_in nodes.now) at) }
     ensures fact { IfOk result (λ t. HasFactOf m.now.pairing.now (turn_in t)) }
@@ -141,8 +141,8 @@ pub fn turn(alloc: Global, m: &Sides<'_>, nodes: &[TableNode], at: Move) -> Resu
 }
 
 // Gives a node of a table another fact.
-fn put(nodes: &mut Vec<TableNode>, number: usize, node: TableNode)
-    ensures { table_in nodes.new.items ≡ slice_set (table_in nodes.old.items) number (table_node_in node) }
+fn put(nodes: &mut Vec<SearchNode>, number: usize, node: SearchNode)
+    ensures { table_in nodes.new.items ≡ slice_set (table_in nodes.old.items) number (search_node_in node) }
 {
     if number < nodes.len() {
         nodes[number] = node;
@@ -150,12 +150,12 @@ fn put(nodes: &mut Vec<TableNode>, number: usize, node: TableNode)
 }
 
 /// Makes a turn. The one refusal is out of memory.
-pub fn make_turn(nodes: &mut Vec<TableNode>, turn: Turn) -> Result<(), NoMemory>
+pub fn make_turn(nodes: &mut Vec<SearchNode>, turn: Turn) -> Result<(), NoMemory>
     ensures { OnOk result (table_in nodes.new.items ≡ with_turn (table_in nodes.old.items) (turn_in turn)) }
 {
     match turn {
         Turn::Idle => {}
-        Turn::Makes { left, right, fact } => nodes.push(TableNode { left, right, fact })?,
+        Turn::Makes { left, right, fact } => nodes.push(SearchNode { left, right, fact })?,
         Turn::Weakens {
             node,
             left,
@@ -163,7 +163,7 @@ pub fn make_turn(nodes: &mut Vec<TableNode>, turn: Turn) -> Result<(), NoMemory>
             post: _post,
             missing: _missing,
             fact,
-        } => put(nodes, node, TableNode { left, right, fact }),
+        } => put(nodes, node, SearchNode { left, right, fact }),
     }
     Ok(())
 }
@@ -172,7 +172,7 @@ pub fn make_turn(nodes: &mut Vec<TableNode>, turn: Turn) -> Result<(), NoMemory>
 /// out of memory.
 pub fn make_told(
     told: Result<(), NoMemory>,
-    nodes: &mut Vec<TableNode>,
+    nodes: &mut Vec<SearchNode>,
     turn: Turn,
 ) -> Result<(), NoMemory>
     ensures told { OnOk result (told ≡ Ok tt) }

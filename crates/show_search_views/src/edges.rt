@@ -10,7 +10,7 @@ ghost use Rattle.show_search_views.specs.SearchPictures.{move_edge, turn_edge, t
 use itoa::Buffer;
 use nf_terms::stop::NoMemory;
 use search_tables::moves::Move;
-use search_tables::nodes::TableNode;
+use search_tables::nodes::SearchNode;
 use show_machine_pictures::graphs::write_edge;
 use show_move_lines::lines::write_move;
 use show_move_lines::sides::Sides;
@@ -22,7 +22,7 @@ use std::alloc::Global;
 fn move_label(
     alloc: Global,
     m: &Sides<'_>,
-    nodes: &[TableNode],
+    nodes: &[SearchNode],
     at: Move,
 ) -> Result<Vec<u8>, NoMemory>
     ensures { IfOk result (λ label. label.items ≡ moved_at (side_machines m.now) at (slice_get (table_in nodes.now) at.node)) }
@@ -36,7 +36,7 @@ fn move_label(
 fn write_move_edge(
     alloc: Global,
     m: &Sides<'_>,
-    nodes: &[TableNode],
+    nodes: &[SearchNode],
     at: Move,
     to: usize,
     out: &mut Vec<u8>,
@@ -56,7 +56,7 @@ fn write_move_edge(
 fn write_turn_edge(
     alloc: Global,
     m: &Sides<'_>,
-    nodes: &[TableNode],
+    nodes: &[SearchNode],
     at: Move,
     turn: &Turn,
     out: &mut Vec<u8>,
@@ -75,7 +75,7 @@ fn write_turn_edge(
 fn draw_move(
     alloc: Global,
     m: &Sides<'_>,
-    nodes: &mut Vec<TableNode>,
+    nodes: &mut Vec<SearchNode>,
     at: Move,
     out: &mut Vec<u8>,
 ) -> Result<(), NoMemory>
@@ -98,7 +98,7 @@ fn draw_move(
 pub fn draw_moves(
     alloc: Global,
     m: &Sides<'_>,
-    nodes: &mut Vec<TableNode>,
+    nodes: &mut Vec<SearchNode>,
     moves: &[Move],
     out: &mut Vec<u8>,
 ) -> Result<(), NoMemory>

@@ -21,7 +21,7 @@ use fsmd_pair_answers::run::run;
 use fsmd_pair_answers::searching::search;
 use nf_terms::stop::NoMemory;
 use search_tables::moves::Move;
-use search_tables::nodes::TableNode;
+use search_tables::nodes::SearchNode;
 use show_machine_pictures::graphs::graph_text;
 use show_move_lines::history::first_table;
 use show_move_lines::sides::Sides;
@@ -32,7 +32,7 @@ fn draw_table(
     alloc: Global,
     m: &Sides<'_>,
     marks: &[u32],
-    nodes: &[TableNode],
+    nodes: &[SearchNode],
     edges: &[u8],
 ) -> Result<Vec<u8>, NoMemory>
     ensures { IfOk result (λ text. text.items

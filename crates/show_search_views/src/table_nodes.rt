@@ -1,14 +1,14 @@
 //! The nodes of a table.
 
 ghost use Rattle.std.specs.Prelude.{◌≡◌, ◌++◌, IfOk, OnOk};
-ghost use Rattle.search_tables.specs.View.{table_node_in, table_in};
+ghost use Rattle.search_tables.specs.View.{search_node_in, table_in};
 ghost use Rattle.show_move_lines.specs.View.{side_machines};
 ghost use Rattle.show_search_views.specs.SearchPictures.{node_label, table_node_line, table_node_lines};
 
 use crate::marks::look_at;
 use itoa::Buffer;
 use nf_terms::stop::NoMemory;
-use search_tables::nodes::TableNode;
+use search_tables::nodes::SearchNode;
 use show_fact_text::lines::write_fact;
 use show_fact_text::names::SideNames;
 use show_fact_text::points::write_points;
@@ -18,8 +18,8 @@ use std::alloc::Global;
 
 // The label of a node: its points, and its fact.
 #[tactic(auto, unfolding(crate::specs::SearchPictures::node_label))]
-fn node_label(alloc: Global, m: &Sides<'_>, node: &TableNode) -> Result<Vec<u8>, NoMemory>
-    ensures { IfOk result (λ label. label.items ≡ node_label (side_machines m.now) (table_node_in node.now)) }
+fn node_label(alloc: Global, m: &Sides<'_>, node: &SearchNode) -> Result<Vec<u8>, NoMemory>
+    ensures { IfOk result (λ label. label.items ≡ node_label (side_machines m.now) (search_node_in node.now)) }
 {
     let names = SideNames {
         left: m.left,
@@ -38,11 +38,11 @@ fn write_table_node(
     m: &Sides<'_>,
     marks: &[u32],
     number: usize,
-    node: &TableNode,
+    node: &SearchNode,
     out: &mut Vec<u8>,
 ) -> Result<(), NoMemory>
     ensures { OnOk result (out.new.items ≡ out.old.items
-        ++ table_node_line (side_machines m.now) marks.now number (table_node_in node.now)) }
+        ++ table_node_line (side_machines m.now) marks.now number (search_node_in node.now)) }
 {
     let mut buffer = Buffer::new();
     let name = buffer.format(number).as_bytes();
@@ -56,7 +56,7 @@ pub fn write_table_nodes(
     alloc: Global,
     m: &Sides<'_>,
     marks: &[u32],
-    nodes: &[TableNode],
+    nodes: &[SearchNode],
     out: &mut Vec<u8>,
 ) -> Result<(), NoMemory>
     ensures { OnOk result

@@ -3,7 +3,7 @@ use Rattle.std.proofs.lemmas.List.{length-map}
 use Rattle.search_tables.specs.LoneMoves.{lone_moves}
 use Rattle.search_tables.specs.Next.{IsClosed}
 use Rattle.search_tables.specs.TableInvariants.{IsWellFormed}
-use Rattle.search_tables.specs.View.{table_in, table_node_in}
+use Rattle.search_tables.specs.View.{table_in, search_node_in}
 use Rattle.search_tables.specs.Walks.{IsRanking}
 use Rattle.search_closing.specs.ClosedModes.{AreModes}
 use Rattle.search_closing.specs.View.{covered_machines}
@@ -44,13 +44,13 @@ close_by-requires-clause-modes c =
     let m = covered_machines c.of-machines.result in
     let a = subst (AreModes m (table_in ns)) (sym c.as_slice-4.ensures.value)
     (subst (λ xs. AreModes m (table_in xs) c.in_ok-modes.modes.items) c.as_slice.ensures.value c.in_ok-modes.ensures) in
-    same_count m (table_in ns) c.as_slice-4.result.now a ∙ length-map ns table_node_in
+    same_count m (table_in ns) c.as_slice-4.result.now a ∙ length-map ns search_node_in
 
 pub close_by-requires-clause-ranks : goal.close_by-requires-clause-ranks
 close_by-requires-clause-ranks c =
     let ns = c.args.nodes.items in
     let m = covered_machines c.of-machines.result in
-    counted (length ns) (lone_moves m (table_in ns)) c.in_ok-ranking.ranking (edge_count m (table_in ns) ∙ length-map ns table_node_in)
+    counted (length ns) (lone_moves m (table_in ns)) c.in_ok-ranking.ranking (edge_count m (table_in ns) ∙ length-map ns search_node_in)
     (subst (λ xs. IsRanking (lone_moves m (table_in xs)) c.in_ok-ranking.ranking) c.as_slice-2.ensures.value c.in_ok-ranking.ensures)
 
 pub returns : goal.returns

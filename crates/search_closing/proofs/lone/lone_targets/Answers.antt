@@ -1,6 +1,6 @@
 use Rattle.fs_cut.specs.View.{path_of}
 use Rattle.search_tables.specs.LoneMoves.{lone_mode}
-use Rattle.search_tables.specs.View.{table_in, table_node_in}
+use Rattle.search_tables.specs.View.{table_in, search_node_in}
 use Rattle.search_closing.specs.LoneSideMoves.{lone_path}
 use Rattle.search_closing.specs.View.{covered_machines, as_list}
 use Rattle.search_closing.proofs.Edges.{keep_next, targets_more, few_more}
@@ -10,7 +10,7 @@ pub loop-path-preserved : goal.loop-path-preserved
 loop-path-preserved c =
     let m = covered_machines c.args.table.now.machines.now in
     let T = table_in c.args.table.now.nodes.now in
-    let n = table_node_in c.args.node.now in
+    let n = search_node_in c.args.node.now in
     let ps = c.args.paths.now in
     let i = c.loop-path.path-index in
     let p = c.path-item.result in

@@ -9,8 +9,8 @@ use Rattle.fs_cut.specs.Paths.{Point, Start, At, Done}
 use Rattle.fs_cut.specs.Covers.{same_point}
 use Rattle.fs_cut.specs.View.{point_of}
 use Rattle.fs_cut.proofs.Listed.{same_is}
-use Rattle.search_tables.specs.PointKeys.{point_number}
-use Rattle.search_places.specs.declared.pairs.PointPair.{PointPair}
+use Rattle.cert_model.specs.PointKeys.{point_number}
+use Rattle.search_tables.specs.declared.pairs.PointPair.{PointPair}
 
 -- whether two pairs are of the same points
 abbrev pub same_pair : PointPair → PointPair → Bool

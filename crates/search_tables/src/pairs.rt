@@ -1,7 +1,7 @@
 //! Pairs of points, as keys.
 
+use cert_model::keys::number_of;
 use fs_cut::cover::Point;
-use search_tables::keys::number_of;
 use std::hash::{Hash, Hasher};
 
 /// The two points of a node.
@@ -12,7 +12,7 @@ pub struct PointPair {
 }
 
 impl PartialEq for PointPair {
-    ghost use Rattle.search_places.specs.Pairs.{same_pair, pairs_partly};
+    ghost use Rattle.search_tables.specs.Pairs.{same_pair, pairs_partly};
 
     ghost eq = { same_pair };
 
@@ -24,7 +24,7 @@ impl PartialEq for PointPair {
 }
 
 impl Eq for PointPair {
-    ghost use Rattle.search_places.specs.Pairs.{pairs_same};
+    ghost use Rattle.search_tables.specs.Pairs.{pairs_same};
 
     ghost laws = { pairs_same };
 }
@@ -33,8 +33,8 @@ impl Hash for PointPair {
     ghost use Rattle.std.specs.Hash as fed;
     ghost use Rattle.std.specs.Prelude.{◌++◌};
     ghost use Rattle.fs_cut.specs.View.{point_of};
-    ghost use Rattle.search_tables.specs.PointKeys.{point_number as number};
-    ghost use Rattle.search_places.specs.Pairs.{pairs_alike};
+    ghost use Rattle.cert_model.specs.PointKeys.{point_number as number};
+    ghost use Rattle.search_tables.specs.Pairs.{pairs_alike};
 
     ghost hash_input = { λ p. fed.u64 (number (point_of p.left)) ++ fed.u64 (number (point_of p.right)) };
 
