@@ -14,36 +14,36 @@ use Rattle.sym_facts.specs.Facts.{Fact}
 use Rattle.search_tables.specs.SearchTables.{SearchNode, Unknown, Known, target_from}
 use Rattle.search_tables.specs.declared.pairs.PointPair.{PointPair}
 use Rattle.search_waiting.specs.declared.item.Item.{Item}
-use Rattle.search_places.specs.declared.entry.Entry.{Entry}
+use Rattle.search_places.specs.declared.node_state.NodeState.{NodeState}
 use Rattle.search_tables.specs.Pairs.{same_pair}
 use Rattle.search_places.specs.NodeLines.{record_of_node, node_records, table_of}
 use Rattle.search_places.specs.NodeChanges.{StandsAt, fresh, PutsNode}
 
-abbrev nodes : List (PointPair × Entry) → List SearchNode
+abbrev nodes : List (PointPair × NodeState) → List SearchNode
 nodes es = table_of (node_records es)
 
 -- how many keys come before a pair
-abbrev before : PointPair → List (PointPair × Entry) → ℕ
+abbrev before : PointPair → List (PointPair × NodeState) → ℕ
 before p es = prefix_len (λ k. not (same_pair p k)) (keys_of es)
 
 -- no node stands at a pair
-record Absent (p : PointPair) (i : ℕ) (es : List (PointPair × Entry)) : Type 0 where
+record Absent (p : PointPair) (i : ℕ) (es : List (PointPair × NodeState)) : Type 0 where
   target : target_from (point_of p.left) (point_of p.right) i (nodes es) ≡ Unknown
   number : before p es ≡ length es
   none : lookup (same_pair p) es ≡ None
-  last : (v : Entry) → insert_entry same_pair es p v ≡ es ++ (p, v) ∷ []
+  last : (v : NodeState) → insert_entry same_pair es p v ≡ es ++ (p, v) ∷ []
 
 -- the first node that stands at a pair
-record Present (p : PointPair) (i : ℕ) (es : List (PointPair × Entry)) : Type 0 where
+record Present (p : PointPair) (i : ℕ) (es : List (PointPair × NodeState)) : Type 0 where
   place : ℕ
-  entry : PointPair × Entry
+  entry : PointPair × NodeState
   is_in : slice_get es place ≡ Some entry
   target : target_from (point_of p.left) (point_of p.right) i (nodes es) ≡ Known (i + place) (record_of_node entry).node
   number : before p es ≡ place
   found : lookup (same_pair p) es ≡ Some entry.1
-  set : (v : Entry) → insert_entry same_pair es p v ≡ slice_set es place (entry.0, v)
+  set : (v : NodeState) → insert_entry same_pair es p v ≡ slice_set es place (entry.0, v)
 
-seek : (p : PointPair) (i : ℕ) (es : List (PointPair × Entry)) → Absent p i es ⊎ Present p i es
+seek : (p : PointPair) (i : ℕ) (es : List (PointPair × NodeState)) → Absent p i es ⊎ Present p i es
 seek p i [] = inl (record { target = refl; number = refl; none = refl; last = λ v. refl })
 seek p i (e ∷ es) = by_test (same_pair p e.0) refl (seek p (i + 1) es)
   where
@@ -83,12 +83,12 @@ seek p i (e ∷ es) = by_test (same_pair p e.0) refl (seek p (i + 1) es)
         })
 
 -- a pair that is looked up
-pub stands : (p : PointPair) (es : List (PointPair × Entry)) (o : Option ℕ) → o ≡ position (same_pair p) (keys_of es)
+pub stands : (p : PointPair) (es : List (PointPair × NodeState)) (o : Option ℕ) → o ≡ position (same_pair p) (keys_of es)
     → StandsAt (node_records es) (point_of p.left) (point_of p.right) o
 stands p es o h = by_case (seek p 0 es)
   where
     many : length (keys_of es) ≡ length es
-    many = length-map es (λ (e : PointPair × Entry). e.0)
+    many = length-map es (λ (e : PointPair × NodeState). e.0)
 
     by_case : Absent p 0 es ⊎ Present p 0 es → StandsAt (node_records es) (point_of p.left) (point_of p.right) o
     by_case (inl a) =
@@ -104,14 +104,14 @@ stands p es o h = by_case (seek p 0 es)
         (record_of_node s.entry, slice_get-of_map record_of_node es s.place s.entry s.is_in, s.target ∙ ap (λ j. Known j (record_of_node s.entry).node) at)
 
 -- a pair that is put where no node stands
-pub puts_last : (p : PointPair) (f : Fact) (a : Vec Item Global) (es es' : List (PointPair × Entry)) (k : ℕ) (ys : List Item)
+pub puts_last : (p : PointPair) (f : Fact) (a : Vec Item Global) (es es' : List (PointPair × NodeState)) (k : ℕ) (ys : List Item)
     → es' ≡ insert_entry same_pair es p (record { fact = f; moves = None; arrivals = a }) → a.items ≡ [] → k ≡ before p es → lookup (same_pair p) es ≡ None
     → ys ≡ [] → PutsNode (node_records es) (node_records es') (point_of p.left) (point_of p.right) f k ys
 puts_last p f a es es' k ys e none n o y = by_case (seek p 0 es)
   where
     by_case : Absent p 0 es ⊎ Present p 0 es → PutsNode (node_records es) (node_records es') (point_of p.left) (point_of p.right) f k ys
     by_case (inl s) =
-        let v : Entry = record { fact = f; moves = None; arrivals = a } in
+        let v : NodeState = record { fact = f; moves = None; arrivals = a } in
         inl (record {
           target = s.target;
           number = n ∙ s.number ∙ sym (length-map es record_of_node);
@@ -122,7 +122,7 @@ puts_last p f a es es' k ys e none n o y = by_case (seek p 0 es)
     by_case (inr s) = absurd (let a = s.found in cc)
 
 -- a pair that is put where a node stands
-pub puts_again : (p : PointPair) (f : Fact) (a : Vec Item Global) (es es' : List (PointPair × Entry)) (k : ℕ) (old : Entry)
+pub puts_again : (p : PointPair) (f : Fact) (a : Vec Item Global) (es es' : List (PointPair × NodeState)) (k : ℕ) (old : NodeState)
     → es' ≡ insert_entry same_pair es p (record { fact = f; moves = None; arrivals = a }) → a.items ≡ [] → k ≡ before p es → lookup (same_pair p) es ≡ Some old
     → PutsNode (node_records es) (node_records es') (point_of p.left) (point_of p.right) f k old.arrivals.items
 puts_again p f a es es' k old e none n o = by_case (seek p 0 es)
@@ -130,7 +130,7 @@ puts_again p f a es es' k old e none n o = by_case (seek p 0 es)
     by_case : Absent p 0 es ⊎ Present p 0 es → PutsNode (node_records es) (node_records es') (point_of p.left) (point_of p.right) f k old.arrivals.items
     by_case (inl s) = absurd (let a = s.none in cc)
     by_case (inr s) =
-        let v : Entry = record { fact = f; moves = None; arrivals = a } in
+        let v : NodeState = record { fact = f; moves = None; arrivals = a } in
         let same : old ≡ s.entry.1 = (let b = s.found in cc) in
         let at : s.place ≡ k = sym (n ∙ s.number) in
         let from : 0 + s.place ≡ k = omega (arith, at) in
@@ -143,5 +143,5 @@ puts_again p f a es es' k old e none n o = by_case (seek p 0 es)
               (λ (bs : List Item). slice_set (node_records es) s.place (record { node = (record_of_node (s.entry.0, v)).node; moves = None; arrivals = bs }))
               none
               ∙ ap (λ j. slice_set (node_records es) j (fresh (record_of_node s.entry).node.left (record_of_node s.entry).node.right f)) at;
-          woken = ap (λ (b : Entry). b.arrivals.items) same;
+          woken = ap (λ (b : NodeState). b.arrivals.items) same;
         })

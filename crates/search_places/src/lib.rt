@@ -8,6 +8,6 @@
 //! - line (of a search): a node with what is kept of it
 #![tactic(auto)]
 
-pub mod entry;
 pub mod moves;
+pub mod node_state;
 pub mod nodes;

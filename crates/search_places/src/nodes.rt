@@ -6,9 +6,9 @@ ghost use Rattle.indexmap.specs.IndexMap.{index_map_len};
 ghost use Rattle.search_tables.specs.View.{table_in};
 ghost use Rattle.search_places.specs.NodeLines.{node_records, table_of};
 ghost use Rattle.search_places.specs.NodeChanges.{StandsAt, PutsNode, SetsMoves, ListsArrival};
-ghost use Rattle.search_places.specs.View.{standing_in};
+ghost use Rattle.search_places.specs.View.{node_record_in};
 
-use crate::entry::Entry;
+use crate::node_state::NodeState;
 use fs_cut::cover::Point;
 use indexmap::IndexMap;
 use nf_terms::stop::NoMemory;
@@ -21,9 +21,9 @@ use sym_facts::fact::Fact;
 
 /// A node with its points.
 #[derive(Clone, Copy)]
-pub struct Standing<'a> {
+pub struct NodeAt<'a> {
     pub points: PointPair,
-    pub entry: &'a Entry,
+    pub entry: &'a NodeState,
 }
 
 /// The number of a node that has got another fact or was made, and the items that arrived at it before.
@@ -34,19 +34,19 @@ pub struct Made {
 }
 
 /// The number of the node at two points, if there is one.
-pub fn find(nodes: &IndexMap<PointPair, Entry>, left: Point, right: Point) -> Option<usize>
+pub fn find(nodes: &IndexMap<PointPair, NodeState>, left: Point, right: Point) -> Option<usize>
     ensures { StandsAt (node_records nodes.now.entries) (point_of left) (point_of right) result }
 {
     nodes.get_index_of(&PointPair { left, right })
 }
 
 /// A node by its number.
-pub fn node_at(nodes: &IndexMap<PointPair, Entry>, number: usize) -> Standing<'_>
+pub fn node_at(nodes: &IndexMap<PointPair, NodeState>, number: usize) -> NodeAt<'_>
     requires { number < index_map_len nodes.now }
-    ensures { slice_get (node_records nodes.now.entries) number ≡ Some (standing_in result) }
+    ensures { slice_get (node_records nodes.now.entries) number ≡ Some (node_record_in result) }
 {
     match nodes.get_index(number) {
-        Some((points, entry)) => Standing {
+        Some((points, entry)) => NodeAt {
             points: *points,
             entry,
         },
@@ -58,7 +58,7 @@ pub fn node_at(nodes: &IndexMap<PointPair, Entry>, number: usize) -> Standing<'_
 /// it is put last. The one refusal is out of memory.
 pub fn put(
     alloc: Global,
-    nodes: &mut IndexMap<PointPair, Entry>,
+    nodes: &mut IndexMap<PointPair, NodeState>,
     left: Point,
     right: Point,
     fact: Fact,
@@ -67,7 +67,7 @@ pub fn put(
         (λ p. PutsNode (node_records nodes.old.entries) (node_records nodes.new.entries) (point_of left)
         (point_of right) fact p.number p.arrivals.items) }
 {
-    let fresh = Entry {
+    let fresh = NodeState {
         fact,
         moves: None,
         arrivals: Vec::new(alloc),
@@ -86,7 +86,7 @@ pub fn put(
 }
 
 /// Notes the moves of the mode of a node.
-pub fn set_moves(nodes: &mut IndexMap<PointPair, Entry>, number: usize, moves: Vec<Move>)
+pub fn set_moves(nodes: &mut IndexMap<PointPair, NodeState>, number: usize, moves: Vec<Move>)
     requires { number < index_map_len nodes.old }
     ensures { SetsMoves (node_records nodes.old.entries) (node_records nodes.new.entries) number moves.items }
 {
@@ -98,7 +98,7 @@ pub fn set_moves(nodes: &mut IndexMap<PointPair, Entry>, number: usize, moves: V
 
 /// Lists an item that arrives at a node. The one refusal is out of memory.
 pub fn list_arrival(
-    nodes: &mut IndexMap<PointPair, Entry>,
+    nodes: &mut IndexMap<PointPair, NodeState>,
     number: usize,
     item: Item,
 ) -> Result<(), NoMemory>
@@ -115,7 +115,10 @@ pub fn list_arrival(
 }
 
 /// The nodes alone, in order. The one refusal is out of memory.
-pub fn table(alloc: Global, nodes: IndexMap<PointPair, Entry>) -> Result<Vec<SearchNode>, NoMemory>
+pub fn table(
+    alloc: Global,
+    nodes: IndexMap<PointPair, NodeState>,
+) -> Result<Vec<SearchNode>, NoMemory>
     ensures { IfOk result (λ out. table_in out.items ≡ table_of (node_records nodes.entries)) }
 {
     let mut out = Vec::new(alloc);

@@ -11,7 +11,7 @@ use Rattle.sym_facts.specs.Facts.{Fact}
 use Rattle.search_tables.specs.SearchTables.{MachinePair, units}
 use Rattle.search_waiting.specs.declared.item.Item.{Item}
 use Rattle.search_tables.specs.declared.pairs.PointPair.{PointPair}
-use Rattle.search_places.specs.declared.entry.Entry.{Entry}
+use Rattle.search_places.specs.declared.node_state.NodeState.{NodeState}
 use Rattle.search_places.specs.NodeLines.{NodeRecord, node_with_fact, node_records, table_of}
 use Rattle.search_places.specs.NodeChanges.{fresh, PutsLast, PutsAgain, PutsNode}
 use Rattle.search_waiting.specs.ItemOrder.{item, item_cmp, waits, Adds, AddsAll}
@@ -176,7 +176,7 @@ put_small ls ls' P Q f k ys most p h = elim p [
 ]
 
 -- nothing is kept of no node
-pub empty_ready : (m : MachinePair) (es : List (PointPair × Entry)) (w : BTreeSet Item) → es ≡ [] → w.keys ≡ [] → Ready m (node_records es) w 0
+pub empty_ready : (m : MachinePair) (es : List (PointPair × NodeState)) (w : BTreeSet Item) → es ≡ [] → w.keys ≡ [] → Ready m (node_records es) w 0
 empty_ready m es w e h =
     let none : (y : Item) → waits w y ≡ true → ⊥ =
     λ y t. (let a : list_any (is_at (item_cmp y)) [] ≡ true = subst (λ ks. list_any (is_at (item_cmp y)) ks ≡ true) h t in cc) in

@@ -21,7 +21,7 @@ use Rattle.search_tables.proofs.Forming.{well_formed}
 use Rattle.search_tables.proofs.Bounded.{legal_short}
 use Rattle.search_tables.specs.View.{table_in}
 use Rattle.search_tables.specs.declared.pairs.PointPair.{PointPair}
-use Rattle.search_places.specs.declared.entry.Entry.{Entry}
+use Rattle.search_places.specs.declared.node_state.NodeState.{NodeState}
 use Rattle.search_places.specs.NodeLines.{NodeRecord, record_of_node, node_records, table_of}
 use Rattle.search_worklist.specs.declared.ends.End.{End}
 use Rattle.search_worklist.specs.declared.ends.Ended.{Ended}
@@ -80,7 +80,7 @@ module _ (m : MachinePair) (ls : List NodeRecord) (h : IsMade m (table_of ls)) (
   fact_of = each_at (λ (n : SearchNode). IsFactOf (positions_of m) n.fact) (table_of ls) k l.node h.facts node_in
 
 -- ---- the end of a search
-pub number_in : (es : List (PointPair × Entry)) (k : ℕ) (n : SearchNode) → slice_get (table_of (node_records es)) k ≡ Some n → k < length es
+pub number_in : (es : List (PointPair × NodeState)) (k : ℕ) (n : SearchNode) → slice_get (table_of (node_records es)) k ≡ Some n → k < length es
 number_in es k n g = omega (
   arith,
   slice_get_within (table_of (node_records es)) k n g,

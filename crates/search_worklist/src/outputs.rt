@@ -18,7 +18,7 @@ use fs_model::parts::VarInfo;
 use indexmap::IndexMap;
 use nf_terms::stop::NoMemory;
 use nf_vectors::vector::Vector;
-use search_places::entry::Entry;
+use search_places::node_state::NodeState;
 use search_places::nodes::node_at;
 use search_tables::pairs::PointPair;
 use std::alloc::Global;
@@ -71,7 +71,7 @@ fn is_end(points: PointPair) -> bool
 pub fn output_at(
     alloc: Global,
     m: &Sides<'_>,
-    entries: &IndexMap<PointPair, Entry>,
+    entries: &IndexMap<PointPair, NodeState>,
     number: usize,
 ) -> Result<Option<u32>, NoMemory>
     requires { number < index_map_len entries.now }

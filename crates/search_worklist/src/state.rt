@@ -13,7 +13,7 @@ use crate::trial::Change;
 use fs_cut::cover::Point;
 use indexmap::IndexMap;
 use nf_terms::stop::NoMemory;
-use search_places::entry::Entry;
+use search_places::node_state::NodeState;
 use search_places::nodes::put;
 use search_tables::pairs::PointPair;
 use search_waiting::item::Item;
@@ -25,7 +25,7 @@ use sym_facts::start::start_fact;
 /// The nodes of a table, what waits, and the number of units.
 #[derive(Drop)]
 pub struct State {
-    pub entries: IndexMap<PointPair, Entry>,
+    pub entries: IndexMap<PointPair, NodeState>,
     pub waiting: BTreeSet<Item>,
     pub units: u64,
 }

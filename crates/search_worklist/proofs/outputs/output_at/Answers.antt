@@ -4,13 +4,13 @@ use Rattle.fs_pair.specs.PairedOutputs.{output_pairs}
 use Rattle.sym_facts.specs.Facts.{vector_of}
 use Rattle.search_tables.specs.Legal.{first_differing}
 use Rattle.search_places.specs.NodeLines.{NodeRecord, node_records}
-use Rattle.search_places.specs.View.{standing_in}
+use Rattle.search_places.specs.View.{node_record_in}
 use Rattle.search_worklist.proofs.Legal.{if_ok}
 use Rattle.search_worklist.proofs.outputs.output_at.Goals as goal
 
 pub returns-then-not-is_end : goal.returns-then-not-is_end
 returns-then-not-is_end c =
-    let l = standing_in c.node_at-node.result in
+    let l = node_record_in c.node_at-node.result in
     let m = c.args.m.now in
     record {
       node = l.node;
@@ -21,7 +21,7 @@ returns-then-not-is_end c =
 
 pub returns : goal.returns
 returns c =
-    let l = standing_in c.node_at-node.result in
+    let l = node_record_in c.node_at-node.result in
     let m = c.args.m.now in
     let v = vector_of l.node.fact.positions in
     if_ok c.first_differing.result (λ o h. record {

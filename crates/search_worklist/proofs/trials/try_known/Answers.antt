@@ -5,7 +5,7 @@ use Rattle.sym_facts.specs.Pairings.{IsFactOf}
 use Rattle.sym_facts.specs.View.{missing_in}
 use Rattle.search_tables.specs.SearchTables.{positions_of, Known, node_target, within_units}
 use Rattle.search_places.specs.NodeLines.{NodeRecord}
-use Rattle.search_places.specs.View.{standing_in}
+use Rattle.search_places.specs.View.{node_record_in}
 use Rattle.search_worklist.specs.NodeUpdates.{put_fact}
 use Rattle.search_worklist.specs.States.{lines, table}
 use Rattle.search_worklist.specs.View.{machines_in}
@@ -15,7 +15,7 @@ use Rattle.search_worklist.proofs.trials.try_known.Goals as goal
 
 pub returns-then-is_nothing : goal.returns-then-is_nothing
 returns-then-is_nothing c =
-    let l = standing_in c.node_at.result in
+    let l = node_record_in c.node_at.result in
     let s = c.requires.stands in
     let same : s.0 ≡ l = (let a = s.1 in let b = c.node_at.ensures in cc) in (
       c.requires.is_open,
@@ -32,12 +32,12 @@ pub join-requires-clause-pairing : goal.join-requires-clause-pairing
 join-requires-clause-pairing c =
     let p : c.args.m.now.pairing.now ≡ positions_of (machines_in c.args.m.now) = search rules in
     subst (λ ps. IsFactOf ps c.node_at.result.entry.now.fact) (sym p)
-    (fact_of (machines_in c.args.m.now) (lines c.args.state.now) c.requires.made c.args.number (standing_in c.node_at.result) c.node_at.ensures)
+    (fact_of (machines_in c.args.m.now) (lines c.args.state.now) c.requires.made c.args.number (node_record_in c.node_at.result) c.node_at.ensures)
 
 pub overflow_sub-state : goal.overflow_sub-state
 overflow_sub-state c =
-    let g = node_in (machines_in c.args.m.now) (lines c.args.state.now) c.requires.made c.args.number (standing_in c.node_at.result) c.node_at.ensures in
-    omega (arith, part_le (table c.args.state.now) c.args.number (standing_in c.node_at.result).node g, c.size.ensures, c.requires.sized)
+    let g = node_in (machines_in c.args.m.now) (lines c.args.state.now) c.requires.made c.args.number (node_record_in c.node_at.result) c.node_at.ensures in
+    omega (arith, part_le (table c.args.state.now) c.args.number (node_record_in c.node_at.result).node g, c.size.ensures, c.requires.sized)
 
 pub returns : goal.returns
 returns c =
@@ -47,7 +47,7 @@ returns c =
     let Q = point_of c.args.right in
     let post = post_in c.args.post.now in
     let f = c.in_ok-fact.fact in
-    let l = standing_in c.node_at.result in
+    let l = node_record_in c.node_at.result in
     let s = c.requires.stands in
     let same : s.0 ≡ l = (let a = s.1 in let b = c.node_at.ensures in cc) in
     let there : node_target T P Q ≡ Known c.args.number l.node = s.2 ∙ ap (λ (z : NodeRecord). Known c.args.number z.node) same in

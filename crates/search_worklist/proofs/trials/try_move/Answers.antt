@@ -3,7 +3,7 @@ use Rattle.fs_cut.specs.View.{point_of}
 use Rattle.nf_terms.specs.Computed.{Done}
 use Rattle.sym_paths.specs.Execution.{end_of}
 use Rattle.sym_paths.specs.View.{post_in}
-use Rattle.search_places.specs.View.{standing_in}
+use Rattle.search_places.specs.View.{node_record_in}
 use Rattle.search_places.specs.Moves.{path_in, paths_at}
 use Rattle.search_worklist.specs.States.{lines, table}
 use Rattle.search_worklist.specs.View.{machines_in}
@@ -13,16 +13,16 @@ use Rattle.search_worklist.proofs.trials.try_move.Goals as goal
 
 pub left_paths-requires : goal.left_paths-requires
 left_paths-requires c = left_point (machines_in c.args.m.now) (lines c.args.state.now) c.requires.made c.args.at.node
-    (standing_in c.node_at-from.result) c.node_at-from.ensures
+    (node_record_in c.node_at-from.result) c.node_at-from.ensures
 
 pub right_paths-requires : goal.right_paths-requires
 right_paths-requires c = right_point (machines_in c.args.m.now) (lines c.args.state.now) c.requires.made c.args.at.node
-    (standing_in c.node_at-from.result) c.node_at-from.ensures
+    (node_record_in c.node_at-from.result) c.node_at-from.ensures
 
 pub returns : goal.returns
 returns c =
     let m = machines_in c.args.m.now in
-    let l = standing_in c.node_at-from.result in
+    let l = node_record_in c.node_at-from.result in
     let left = c.path_by-left.ensures ∙ ap (λ ps. path_in ps c.args.at.left) c.left_paths.ensures.paths in
     let right = c.path_by-right.ensures ∙ ap (λ ps. path_in ps c.args.at.right) c.right_paths.ensures.paths in
     let post = post_in c.in_ok-post.post in

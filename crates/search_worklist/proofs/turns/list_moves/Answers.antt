@@ -5,7 +5,7 @@ use Rattle.search_tables.specs.Next.{mode_at}
 use Rattle.search_places.specs.NodeLines.{NodeRecord}
 use Rattle.search_places.specs.Moves.{moves_in_mode}
 use Rattle.search_waiting.specs.ItemOrder.{waits, AddsMoves}
-use Rattle.search_places.specs.View.{standing_in}
+use Rattle.search_places.specs.View.{node_record_in}
 use Rattle.search_worklist.specs.States.{lines}
 use Rattle.search_worklist.specs.View.{machines_in}
 use Rattle.search_worklist.proofs.Legal.{left_point, right_point}
@@ -15,16 +15,16 @@ use Rattle.search_worklist.proofs.turns.list_moves.Goals as goal
 
 pub left_paths-lefts-requires : goal.left_paths-lefts-requires
 left_paths-lefts-requires c = left_point (machines_in c.args.m.now) (lines c.args.state.now) c.requires.made c.args.node
-    (standing_in c.node_at.result) c.node_at.ensures
+    (node_record_in c.node_at.result) c.node_at.ensures
 
 pub right_paths-rights-requires : goal.right_paths-rights-requires
 right_paths-rights-requires c = right_point (machines_in c.args.m.now) (lines c.args.state.now) c.requires.made c.args.node
-    (standing_in c.node_at.result) c.node_at.ensures
+    (node_record_in c.node_at.result) c.node_at.ensures
 
 pub returns : goal.returns
 returns c =
     let m = machines_in c.args.m.now in
-    let l = standing_in c.node_at.result in
+    let l = node_record_in c.node_at.result in
     let xs = c.in_ok-moves.moves.items in
     let t = c.requires.found in
     let same : t.line ≡ l = (let a = t.is_in in let b = c.node_at.ensures in cc) in
