@@ -7,7 +7,7 @@ use nf_terms::tree::Side;
 use nf_vectors::vector::Vector;
 use search_strengthening_facts::open_paths::has_many;
 use search_strengthening_tables::flags::{Flags, flags_at, keep};
-use search_strengthening_tables::nodes::{NodeMove, SearchNode, Settled};
+use search_strengthening_tables::nodes::{ClaimedNode, NodeMove, Settled};
 use search_strengthening_tables::sides::Sides;
 use search_strengthening_tables::state::{State, clear};
 use search_strengthening_terms::stop::Stop;
@@ -31,7 +31,7 @@ fn mode_by(flags: Flags, left_head: bool, right_head: bool) -> Mode {
 }
 
 // The mode of a node with these flags: a side that is done does not move.
-fn mode_of(sides: &Sides<'_>, node: &SearchNode, flags: Flags) -> Mode {
+fn mode_of(sides: &Sides<'_>, node: &ClaimedNode, flags: Flags) -> Mode {
     match (node.left.is_done(), node.right.is_done()) {
         (true, true) => Mode::End,
         (true, false) => Mode::Right,
@@ -49,7 +49,7 @@ fn see_ways(
     alloc: Global,
     sides: &Sides<'_>,
     work: &mut Work,
-    node: &SearchNode,
+    node: &ClaimedNode,
     v: &Vector,
     mut flags: Flags,
 ) -> Result<Flags, Stop> {
@@ -71,7 +71,7 @@ fn flags_of(
     sides: &Sides<'_>,
     work: &mut Work,
     all: &[Flags],
-    node: &SearchNode,
+    node: &ClaimedNode,
 ) -> Result<Flags, Stop> {
     let flags = flags_at(all, node.left, node.right);
     if node.left.is_done() || node.right.is_done() {

@@ -5,7 +5,7 @@ use nf_refutation::refutation::is_refuted;
 use search_strengthening_facts::facts::fact_of;
 use search_strengthening_facts::first_facts::{FirstFact, first_fact};
 use search_strengthening_facts::weeding::weed;
-use search_strengthening_tables::nodes::{NodeMove, SearchNode, Settled, find, find_version};
+use search_strengthening_tables::nodes::{ClaimedNode, NodeMove, Settled, find, find_version};
 use search_strengthening_tables::sides::{Covered, Sides};
 use search_strengthening_tables::state::{State, add, change_fact};
 use search_strengthening_terms::stop::{Stop, within_limits};
@@ -43,7 +43,7 @@ fn end_of(from: Point, path: Option<&Path>) -> Point {
 }
 
 // Whether a move is settled: its arrival is refuted, or entailed a fact that is still in the table.
-fn is_settled(nodes: &[SearchNode], tried: NodeMove) -> bool {
+fn is_settled(nodes: &[ClaimedNode], tried: NodeMove) -> bool {
     match tried.settled {
         Settled::Open => false,
         Settled::Refuted => true,
@@ -52,7 +52,7 @@ fn is_settled(nodes: &[SearchNode], tried: NodeMove) -> bool {
 }
 
 // Notes what is known of a move.
-fn settle(nodes: &mut [SearchNode], place: usize, number: usize, settled: Settled) {
+fn settle(nodes: &mut [ClaimedNode], place: usize, number: usize, settled: Settled) {
     if let Some(node) = nodes.get_mut(place) {
         if let Some(tried) = node.moves.get_mut(number) {
             tried.settled = settled;
@@ -69,7 +69,7 @@ fn units_of_path(path: Option<&Path>) -> u64 {
 }
 
 // The units of work of a move of a node by these paths.
-fn units_of_move(node: &SearchNode, left: Option<&Path>, right: Option<&Path>) -> u64 {
+fn units_of_move(node: &ClaimedNode, left: Option<&Path>, right: Option<&Path>) -> u64 {
     node.units
         .saturating_add(units_of_path(left))
         .saturating_add(units_of_path(right))
@@ -80,7 +80,7 @@ fn post_by(
     alloc: Global,
     sides: &Sides<'_>,
     work: &mut Work,
-    node: &SearchNode,
+    node: &ClaimedNode,
     left: Option<&Path>,
     right: Option<&Path>,
 ) -> Result<Post, Stop> {
@@ -137,7 +137,7 @@ fn is_entailed(
     alloc: Global,
     work: &mut Work,
     post: &Post,
-    node: &SearchNode,
+    node: &ClaimedNode,
 ) -> Result<bool, Stop> {
     work.spend(node.units)?;
     let missing = within_limits(entails(alloc, post, &node.fact))?;

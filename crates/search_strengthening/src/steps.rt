@@ -4,7 +4,7 @@ use crate::modes::see_mode;
 use crate::moves::{Step, try_move};
 use nf_terms::stop::NoMemory;
 use search_strengthening_facts::outputs::outputs_differ;
-use search_strengthening_tables::nodes::SearchNode;
+use search_strengthening_tables::nodes::ClaimedNode;
 use search_strengthening_tables::sides::Sides;
 use search_strengthening_tables::state::{CHANGE_LIMIT, CLEARING_LIMIT, State};
 use search_strengthening_terms::stop::Stop;
@@ -67,7 +67,7 @@ fn first_step(alloc: Global, sides: &Sides<'_>, state: &mut State) -> Result<Ste
 fn differs_at_end(
     alloc: Global,
     sides: &Sides<'_>,
-    nodes: &[SearchNode],
+    nodes: &[ClaimedNode],
     place: usize,
 ) -> Result<bool, NoMemory> {
     match nodes.get(place) {

@@ -8,7 +8,7 @@ ghost use Rattle.cert_model.specs.Lawful.{IsLawful};
 ghost use Rattle.cert_model.specs.View.{node_of};
 ghost use Rattle.cert_model.specs.Sizes.{units_of};
 
-use crate::nodes::SearchNode;
+use crate::nodes::ClaimedNode;
 use cert_model::cert::{Cert, Node};
 use cert_model::lawful_nodes::{are_small, have_points, have_ranks, points_differ};
 use fs_ast::machine::Machine;
@@ -54,7 +54,7 @@ fn retested(alloc: Global, p: &Pairing, fact: &Fact) -> Result<Option<Fact>, NoM
 fn certificate_node(
     alloc: Global,
     p: &Pairing,
-    node: &SearchNode,
+    node: &ClaimedNode,
     rank: Option<&u32>,
 ) -> Result<Option<Node>, NoMemory>
     ensures { IfOk result (λ found. IfSome found (λ n. IsFactOf p.now n.fact)) }
@@ -78,7 +78,7 @@ fn certificate_node(
 fn certificate_nodes(
     alloc: Global,
     p: &Pairing,
-    nodes: &[SearchNode],
+    nodes: &[ClaimedNode],
     ranks: &[u32],
 ) -> Result<Option<Vec<Node>>, NoMemory>
     ensures { IfOk result (λ found. IfSome found (λ out. AllByRecursion (λ n. IsFactOf p.now n.fact) (map node_of out.items))) }
@@ -100,7 +100,7 @@ pub fn assemble(
     a: &Machine,
     b: &Machine,
     p: &Pairing,
-    nodes: &[SearchNode],
+    nodes: &[ClaimedNode],
     ranks: &[u32],
 ) -> Result<Option<Cert>, NoMemory>
     requires { p.now ≡ positions a.now b.now }

@@ -26,10 +26,10 @@ pub struct NodeMove {
     pub settled: Settled,
 }
 
-/// A node: two points with their numbers in the order of points, what is claimed there and the fact that is made of it. No two
-/// facts of a search have one version. The mode is not known before the moves are.
+/// A node with its claims: two points with their numbers in the order of points, what is claimed there and the fact that is made
+/// of it. No two facts of a search have one version. The mode is not known before the moves are.
 #[derive(Drop)]
-pub struct SearchNode {
+pub struct ClaimedNode {
     pub left: Point,
     pub right: Point,
     pub numbers: (usize, usize),
@@ -42,7 +42,7 @@ pub struct SearchNode {
 }
 
 /// The place of the node at two points.
-pub fn find(nodes: &[SearchNode], left: Point, right: Point) -> Option<usize> {
+pub fn find(nodes: &[ClaimedNode], left: Point, right: Point) -> Option<usize> {
     for (place, node) in nodes.iter().enumerate() {
         if node.left.is_same(left) && node.right.is_same(right) {
             return Some(place);
@@ -52,7 +52,7 @@ pub fn find(nodes: &[SearchNode], left: Point, right: Point) -> Option<usize> {
 }
 
 /// The place of the node whose fact has a version.
-pub fn find_version(nodes: &[SearchNode], version: u64) -> Option<usize> {
+pub fn find_version(nodes: &[ClaimedNode], version: u64) -> Option<usize> {
     for (place, node) in nodes.iter().enumerate() {
         if node.version == version {
             return Some(place);
@@ -67,7 +67,7 @@ fn comes_after(numbers: (usize, usize), others: (usize, usize)) -> bool {
 }
 
 /// The place at which a node with these numbers keeps the order.
-pub fn place_for(nodes: &[SearchNode], numbers: (usize, usize)) -> usize
+pub fn place_for(nodes: &[ClaimedNode], numbers: (usize, usize)) -> usize
     ensures { result ≤ length nodes.now }
 {
     for (place, node) in nodes.iter().enumerate() {
@@ -79,7 +79,7 @@ pub fn place_for(nodes: &[SearchNode], numbers: (usize, usize)) -> usize
 }
 
 /// The units of all facts.
-pub fn units_of(nodes: &[SearchNode]) -> u64 {
+pub fn units_of(nodes: &[ClaimedNode]) -> u64 {
     let mut units = 0u64;
     for node in nodes {
         units = units.saturating_add(node.units);

@@ -5,7 +5,7 @@ ghost use Rattle.std.specs.List.{list_all};
 ghost use Rattle.search_tables.specs.Walks.{lists_in, InRange};
 ghost use Rattle.search_strengthening_tables.specs.Edges.{are_edges};
 
-use crate::nodes::{SearchNode, Settled, find_version};
+use crate::nodes::{ClaimedNode, Settled, find_version};
 use cert_bisimulation::mode::Mode;
 use nf_terms::stop::NoMemory;
 use search_tables::ranking::Ranking;
@@ -18,7 +18,7 @@ fn is_alone(mode: Option<Mode>) -> bool {
 }
 
 // The place of the node that a move reaches, where it has the mode of this node and one machine moves alone in that.
-fn lone_target(nodes: &[SearchNode], node: &SearchNode, settled: Settled) -> Option<u32> {
+fn lone_target(nodes: &[ClaimedNode], node: &ClaimedNode, settled: Settled) -> Option<u32> {
     let Settled::Held { version } = settled else {
         return None;
     };
@@ -34,8 +34,8 @@ fn lone_target(nodes: &[SearchNode], node: &SearchNode, settled: Settled) -> Opt
 // The places of the nodes that a node reaches by moves of one machine alone, which moves alone there too.
 fn lone_targets(
     alloc: Global,
-    nodes: &[SearchNode],
-    node: &SearchNode,
+    nodes: &[ClaimedNode],
+    node: &ClaimedNode,
 ) -> Result<Vec<u32>, NoMemory> {
     let mut out = Vec::new(alloc);
     for tried in &node.moves {
@@ -47,7 +47,7 @@ fn lone_targets(
 }
 
 // For each node the places of those that it reaches by moves of one machine alone, which moves alone there too.
-fn lone_moves(alloc: Global, nodes: &[SearchNode]) -> Result<Vec<Vec<u32>>, NoMemory> {
+fn lone_moves(alloc: Global, nodes: &[ClaimedNode]) -> Result<Vec<Vec<u32>>, NoMemory> {
     let mut out = Vec::new(alloc);
     for node in nodes {
         out.push(lone_targets(alloc, nodes, node)?)?;
@@ -89,7 +89,7 @@ fn is_in_range(edges: &[Vec<u32>]) -> bool
 
 /// The lengths of the longest chains of moves of one machine alone; none where there is a cycle of them. The one refusal is out
 /// of memory.
-pub fn ranks_of(alloc: Global, nodes: &[SearchNode]) -> Result<Option<Vec<u32>>, NoMemory> {
+pub fn ranks_of(alloc: Global, nodes: &[ClaimedNode]) -> Result<Option<Vec<u32>>, NoMemory> {
     let edges = lone_moves(alloc, nodes)?;
     if !is_in_range(edges.as_slice()) {
         return Ok(None);

@@ -1,7 +1,7 @@
 //! The state of a search.
 
 use crate::flags::{Flags, forget_modes};
-use crate::nodes::{SearchNode, place_for, units_of};
+use crate::nodes::{ClaimedNode, place_for, units_of};
 use crate::sides::Sides;
 use fs_cut::cover::Point;
 use fs_pair::positions::Pairing;
@@ -25,7 +25,7 @@ const UNIT_LIMIT: u64 = 4_000_000;
 /// The nodes of a table in order, what is kept of pairs of points, and what was done so far.
 #[derive(Drop)]
 pub struct State {
-    pub nodes: Vec<SearchNode>,
+    pub nodes: Vec<ClaimedNode>,
     pub flags: Vec<Flags>,
     pub work: Work,
     pub version: u64,
@@ -50,9 +50,9 @@ fn new_node(
     numbers: (usize, usize),
     claims: Claims,
     fact: Fact,
-) -> SearchNode {
+) -> ClaimedNode {
     let units = fact.size();
-    SearchNode {
+    ClaimedNode {
         left: points.0,
         right: points.1,
         numbers,
@@ -66,7 +66,7 @@ fn new_node(
 }
 
 // The start node, which is no target of a move and so is never weakened.
-fn start_node(alloc: Global, p: &Pairing) -> Result<SearchNode, NoMemory> {
+fn start_node(alloc: Global, p: &Pairing) -> Result<ClaimedNode, NoMemory> {
     let fact = start_fact(alloc, p)?;
     let points = (Point::Start, Point::Start);
     Ok(new_node(alloc, 0, points, (0, 0), no_claims(alloc), fact))
@@ -87,7 +87,7 @@ pub fn begin(alloc: Global, p: &Pairing) -> Result<State, NoMemory> {
 }
 
 // Forgets the mode and the moves of the node at a place, and deletes all nodes behind it.
-fn cut_behind(nodes: &mut Vec<SearchNode>, place: usize) {
+fn cut_behind(nodes: &mut Vec<ClaimedNode>, place: usize) {
     nodes.truncate(place.saturating_add(1));
     if let Some(node) = nodes.get_mut(place) {
         node.mode = None;
@@ -122,7 +122,7 @@ fn count_change(state: &mut State) -> Result<(), Stop> {
 }
 
 // Puts a node in its place, and answers that. `Bound` comes where too much was changed, or the table has too many units.
-fn insert(state: &mut State, node: SearchNode) -> Result<usize, Stop> {
+fn insert(state: &mut State, node: ClaimedNode) -> Result<usize, Stop> {
     let place = place_for(state.nodes.as_slice(), node.numbers);
     state.nodes.insert(place, node)?;
     count_change(state)?;
