@@ -6,7 +6,7 @@ use Rattle.sym_facts.specs.View.{missing_in}
 use Rattle.search_tables.specs.SearchTables.{MachinePair, Target, Unknown, Known}
 use Rattle.search_tables.specs.View.{search_node_in}
 use Rattle.show_move_lines.specs.declared.sides.Sides.{Sides}
-use Rattle.show_move_lines.specs.declared.points.Standing.{Standing}
+use Rattle.show_move_lines.specs.declared.points.NumberedNode.{NumberedNode}
 use Rattle.show_move_lines.specs.declared.turn.Turn.{Turn as CodeTurn}
 use Rattle.show_move_lines.specs.declared.turn.Turn.TheVariants as code
 use Rattle.show_move_lines.specs.MoveReplays.{Turn, Idle, Makes, Weakens}
@@ -14,7 +14,7 @@ use Rattle.show_move_lines.specs.MoveReplays.{Turn, Idle, Makes, Weakens}
 abbrev pub side_machines : Sides → MachinePair
 side_machines s = record { left = s.left.now; right = s.right.now }
 
-abbrev pub target_in : Option Standing → Target
+abbrev pub target_in : Option NumberedNode → Target
 target_in None = Unknown
 target_in (Some s) = Known s.number (search_node_in s.node.now)
 

@@ -11,7 +11,7 @@ use search_tables::nodes::SearchNode;
 
 /// A node with its number.
 #[derive(Clone, Copy)]
-pub struct Standing<'a> {
+pub struct NumberedNode<'a> {
     pub number: usize,
     pub node: &'a SearchNode,
 }
@@ -24,12 +24,12 @@ fn is_at(left: Point, right: Point, node: &SearchNode) -> bool
 }
 
 /// The first node at two points.
-pub fn find(nodes: &[SearchNode], left: Point, right: Point) -> Option<Standing<'_>>
+pub fn find(nodes: &[SearchNode], left: Point, right: Point) -> Option<NumberedNode<'_>>
     ensures { target_in result ≡ node_target (table_in nodes.now) (point_of left) (point_of right) }
 {
     for (number, node) in nodes.iter().enumerate() {
         if is_at(left, right, node) {
-            return Some(Standing { number, node });
+            return Some(NumberedNode { number, node });
         }
     }
     None

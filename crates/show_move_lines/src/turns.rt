@@ -10,7 +10,7 @@ ghost use Rattle.search_tables.specs.View.{search_node_in, table_in};
 ghost use Rattle.show_move_lines.specs.MoveReplays.{turn_at, turn_from, turn_by, turn_of_move, with_turn, AreOf, HasFactOf};
 ghost use Rattle.show_move_lines.specs.View.{side_machines, turn_in};
 
-use crate::points::{Standing, find};
+use crate::points::{NumberedNode, find};
 use crate::sides::{Sides, left_path, right_path};
 use crate::turn::Turn;
 use fs_cut::cover::Point;
@@ -44,22 +44,22 @@ fn weaken(
     p: &Pairing,
     left: Point,
     right: Point,
-    standing: &Standing<'_>,
+    target: &NumberedNode<'_>,
     post: Post,
 ) -> Result<Turn, NfStop>
-    requires { IsFactOf p.now standing.now.node.now.fact }
+    requires { IsFactOf p.now target.now.node.now.fact }
     ensures answers { Answers (answer_in_data turn_in result)
         (turn_at p.now (point_of left) (point_of right) (post_in post)
-        (Known standing.now.number (search_node_in standing.now.node.now))) }
+        (Known target.now.number (search_node_in target.now.node.now))) }
     ensures fact { IfOk result (λ t. HasFactOf p.now (turn_in t)) }
 {
     joined_facts_are_of_the_positions();
-    let missing = entails(alloc, &post, &standing.node.fact)?;
-    let fact = join(alloc, &standing.node.fact, &post, &missing, p)?;
+    let missing = entails(alloc, &post, &target.node.fact)?;
+    let fact = join(alloc, &target.node.fact, &post, &missing, p)?;
     Ok(Turn::Weakens {
-        node: standing.number,
-        left: standing.node.left,
-        right: standing.node.right,
+        node: target.number,
+        left: target.node.left,
+        right: target.node.right,
         post,
         missing,
         fact,
@@ -82,7 +82,7 @@ fn turn_at(
     ensures fact { IfOk result (λ t. HasFactOf p.now (turn_in t)) }
 {
     match find(nodes, left, right) {
-        Some(standing) => weaken(alloc, p, left, right, &standing, post),
+        Some(target) => weaken(alloc, p, left, right, &target, post),
         None => make(alloc, p, left, right, &post),
     }
 }

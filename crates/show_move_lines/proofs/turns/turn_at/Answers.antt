@@ -7,6 +7,6 @@ use Rattle.show_move_lines.proofs.turns.turn_at.Goals as goal
 
 pub weaken-requires : goal.weaken-requires
 weaken-requires c =
-    let s = c.in-Some.standing in
+    let s = c.in-Some.target in
     known_fact c.args.p.now (table_in c.args.nodes.now) (point_of c.args.left)
     (point_of c.args.right) s.number (search_node_in s.node.now) c.requires (sym c.find.ensures ∙ ap target_in c.in-Some.is)
