@@ -16,7 +16,7 @@ use Rattle.search_tables.specs.declared.pairs.PointPair.{PointPair}
 use Rattle.search_waiting.specs.declared.item.Item.{Item}
 use Rattle.search_places.specs.declared.node_state.NodeState.{NodeState}
 use Rattle.search_tables.specs.Pairs.{same_pair}
-use Rattle.search_places.specs.NodeLines.{record_of_node, node_records, table_of}
+use Rattle.search_places.specs.NodeRecords.{record_of_node, node_records, table_of}
 use Rattle.search_places.specs.NodeChanges.{StandsAt, fresh, PutsNode}
 
 abbrev nodes : List (PointPair × NodeState) → List SearchNode

@@ -6,7 +6,7 @@ use Rattle.fs_model.proofs.Lists.{slice_get-of_map}
 use Rattle.indexmap.specs.IndexMap.{set_value_at}
 use Rattle.search_tables.specs.declared.pairs.PointPair.{PointPair}
 use Rattle.search_places.specs.declared.node_state.NodeState.{NodeState}
-use Rattle.search_places.specs.NodeLines.{record_of_node, node_records}
+use Rattle.search_places.specs.NodeRecords.{record_of_node, node_records}
 use Rattle.search_tables.proofs.RankLists.{get_map_back}
 
 set_is : (es : List (PointPair × NodeState)) (k : ℕ) (e : PointPair × NodeState) (v : NodeState) → slice_get es k ≡ Some e
@@ -15,7 +15,7 @@ set_is [] k e v g = cc
 set_is (a ∷ es) zero e v g = let s : a ≡ e = cc in ap (λ (z : PointPair × NodeState). (z.0, v) ∷ es) s
 set_is (a ∷ es) (suc k) e v g = ap (λ xs. a ∷ xs) (set_is es k e v g)
 
--- the entry with a value, and the lines where it has another
+-- the entry with a value, and the nodes where it has another
 pub record Held (es : List (PointPair × NodeState)) (k : ℕ) (old : NodeState) : Type 0 where
   pub pair : PointPair
   pub is_in : slice_get (node_records es) k ≡ Some (record_of_node (pair, old))

@@ -1,4 +1,4 @@
-pub mod NodeLines
+pub mod NodeRecords
 pub mod NodeChanges
 pub mod View
 pub mod Moves

@@ -5,7 +5,7 @@ use Rattle.sym_facts.specs.Facts.{Fact}
 use Rattle.search_tables.specs.declared.moves.Move.{Move}
 use Rattle.search_tables.specs.SearchTables.{Unknown, Known, node_target}
 use Rattle.search_waiting.specs.declared.item.Item.{Item}
-use Rattle.search_places.specs.NodeLines.{NodeRecord, node_with_fact, table_of}
+use Rattle.search_places.specs.NodeRecords.{NodeRecord, node_with_fact, table_of}
 
 -- the first node at two points, by its number
 abbrev pub StandsAt : List NodeRecord → Point → Point → Option ℕ → Type 0

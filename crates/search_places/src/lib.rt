@@ -2,10 +2,7 @@
 //!
 //! Promises: nodes by their points in order of making, and the moves of a node.
 //!
-//! Rules: `specs/NodeLines`, `specs/NodeChanges`, `specs/Moves`.
-//!
-//! Words:
-//! - line (of a search): a node with what is kept of it
+//! Rules: `specs/NodeRecords`, `specs/NodeChanges`, `specs/Moves`.
 #![tactic(auto)]
 
 pub mod moves;

@@ -4,7 +4,7 @@ ghost use Rattle.std.specs.Prelude.{◌≡◌, ◌<◌, Some, slice_get, IfOk, O
 ghost use Rattle.fs_cut.specs.View.{point_of};
 ghost use Rattle.indexmap.specs.IndexMap.{index_map_len};
 ghost use Rattle.search_tables.specs.View.{table_in};
-ghost use Rattle.search_places.specs.NodeLines.{node_records, table_of};
+ghost use Rattle.search_places.specs.NodeRecords.{node_records, table_of};
 ghost use Rattle.search_places.specs.NodeChanges.{StandsAt, PutsNode, SetsMoves, ListsArrival};
 ghost use Rattle.search_places.specs.View.{node_record_in};
 

@@ -12,7 +12,7 @@ use Rattle.search_tables.specs.SearchTables.{MachinePair, units}
 use Rattle.search_waiting.specs.declared.item.Item.{Item}
 use Rattle.search_tables.specs.declared.pairs.PointPair.{PointPair}
 use Rattle.search_places.specs.declared.node_state.NodeState.{NodeState}
-use Rattle.search_places.specs.NodeLines.{NodeRecord, node_with_fact, node_records, table_of}
+use Rattle.search_places.specs.NodeRecords.{NodeRecord, node_with_fact, node_records, table_of}
 use Rattle.search_places.specs.NodeChanges.{fresh, PutsLast, PutsAgain, PutsNode}
 use Rattle.search_waiting.specs.ItemOrder.{item, item_cmp, waits, Adds, AddsAll}
 use Rattle.search_tables.proofs.RankLists.{get_snoc, set_same, set_other, same_or_not}

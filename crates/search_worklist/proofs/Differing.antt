@@ -8,7 +8,7 @@ use Rattle.sym_facts.specs.Facts.{Fact}
 use Rattle.search_tables.specs.SearchTables.{MachinePair, SearchNode, Table, start_node, first_table, Target, Unknown, Known, node_target}
 use Rattle.search_tables.specs.Legal.{Difference, difference_at, output_at, stuck_from, stuck}
 use Rattle.search_tables.proofs.Forming.{known_in}
-use Rattle.search_places.specs.NodeLines.{node_with_fact}
+use Rattle.search_places.specs.NodeRecords.{node_with_fact}
 use Rattle.search_tables.proofs.RankLists.{get_last, set_same}
 use Rattle.search_worklist.specs.DifferingOutputs.{OutputAt}
 use Rattle.search_worklist.specs.NodeUpdates.{put_by, put_fact, number_by, node_number}

@@ -14,7 +14,7 @@ use Rattle.search_tables.specs.SearchTables.{MachinePair, SearchNode, units, nod
 use Rattle.search_tables.specs.Next.{paths_in, move_by}
 use Rattle.search_tables.proofs.Forming.{known_in}
 use Rattle.search_waiting.specs.declared.item.Item.{Item}
-use Rattle.search_places.specs.NodeLines.{NodeRecord, record_of_node, table_of}
+use Rattle.search_places.specs.NodeRecords.{NodeRecord, record_of_node, table_of}
 use Rattle.search_places.specs.NodeChanges.{ListsArrival}
 use Rattle.search_waiting.specs.ItemOrder.{item, waits, IsLeastWaiting, Drops}
 use Rattle.search_tables.proofs.RankLists.{get_snoc, get_map_back, set_same, set_other, same_or_not}

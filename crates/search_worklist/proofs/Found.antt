@@ -12,7 +12,7 @@ use Rattle.search_tables.specs.declared.moves.Move.{Move}
 use Rattle.search_tables.specs.SearchTables.{MachinePair, units}
 use Rattle.search_tables.specs.Next.{mode_at, paths_in, move_by}
 use Rattle.search_waiting.specs.declared.item.Item.{Item}
-use Rattle.search_places.specs.NodeLines.{NodeRecord, table_of}
+use Rattle.search_places.specs.NodeRecords.{NodeRecord, table_of}
 use Rattle.search_places.specs.NodeChanges.{SetsMoves}
 use Rattle.search_waiting.specs.ItemOrder.{item, waits, AddsMoves, Drops}
 use Rattle.search_tables.proofs.RankLists.{set_same, set_other, same_or_not}

@@ -32,7 +32,7 @@ use Rattle.search_tables.specs.Next.{mode_at, path_at, next_by, or_next, next_mo
 use Rattle.search_tables.specs.Legal.{stuck}
 use Rattle.search_tables.proofs.Forming.{known_in}
 use Rattle.search_waiting.specs.declared.item.Item.{Item}
-use Rattle.search_places.specs.NodeLines.{NodeRecord, node_with_fact, table_of}
+use Rattle.search_places.specs.NodeRecords.{NodeRecord, node_with_fact, table_of}
 use Rattle.search_waiting.specs.ItemOrder.{IsLeastWaiting}
 use Rattle.search_worklist.specs.declared.ends.End.{End}
 use Rattle.search_worklist.specs.declared.ends.End.TheVariants as end

@@ -13,7 +13,7 @@ use Rattle.search_tables.specs.declared.moves.Move.{Move}
 use Rattle.search_tables.specs.SearchTables.{MachinePair, SearchNode, Known, node_target, PathPair}
 use Rattle.search_tables.specs.Next.{mode_at, paths_in, move_by}
 use Rattle.search_waiting.specs.declared.item.Item.{Item}
-use Rattle.search_places.specs.NodeLines.{NodeRecord, table_of}
+use Rattle.search_places.specs.NodeRecords.{NodeRecord, table_of}
 use Rattle.search_waiting.specs.ItemOrder.{item}
 use Rattle.search_tables.proofs.RankLists.{set_same, set_other, get_last, get_snoc, same_or_not, not_before}
 use Rattle.search_worklist.specs.Waiting.{Arrives, IsSettledMove, Rests, IsWaiting}

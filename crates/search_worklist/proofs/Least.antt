@@ -16,7 +16,7 @@ use Rattle.search_tables.specs.SearchTables.{effect_of_arrival}
 use Rattle.search_tables.specs.SearchTables.{PathPair, effect}
 use Rattle.search_tables.specs.Next.{Next, Nothing, mode_at, paths_in, move_by, next_by, first_change_of, next_in, next_at, or_next, next_from, next_move}
 use Rattle.search_waiting.specs.declared.item.Item.{Item}
-use Rattle.search_places.specs.NodeLines.{NodeRecord, table_of}
+use Rattle.search_places.specs.NodeRecords.{NodeRecord, table_of}
 use Rattle.search_waiting.specs.ItemOrder.{item, IsLeastWaiting}
 use Rattle.search_tables.proofs.RankLists.{get_map_back}
 use Rattle.search_worklist.specs.Waiting.{IsEntailed, IsSettledMove, IsWaiting}

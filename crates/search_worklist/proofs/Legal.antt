@@ -22,7 +22,7 @@ use Rattle.search_tables.proofs.Bounded.{legal_short}
 use Rattle.search_tables.specs.View.{table_in}
 use Rattle.search_tables.specs.declared.pairs.PointPair.{PointPair}
 use Rattle.search_places.specs.declared.node_state.NodeState.{NodeState}
-use Rattle.search_places.specs.NodeLines.{NodeRecord, record_of_node, node_records, table_of}
+use Rattle.search_places.specs.NodeRecords.{NodeRecord, record_of_node, node_records, table_of}
 use Rattle.search_worklist.specs.declared.ends.End.{End}
 use Rattle.search_worklist.specs.declared.ends.Ended.{Ended}
 use Rattle.search_worklist.specs.SearchEnds.{EndsSo, IsEnded}

@@ -4,7 +4,7 @@ use Rattle.fs_cut.specs.Paths.{Point}
 use Rattle.fs_cut.specs.View.{point_of}
 use Rattle.sym_facts.specs.Facts.{Fact}
 use Rattle.search_tables.specs.SearchTables.{Table, Target, Unknown, Known, node_target, with_fact}
-use Rattle.search_places.specs.NodeLines.{node_with_fact}
+use Rattle.search_places.specs.NodeRecords.{node_with_fact}
 use Rattle.search_worklist.specs.declared.trial.Change.{Change}
 
 abbrev pub put_by : Table → Point → Point → Fact → Target → Table

@@ -7,7 +7,7 @@ use Rattle.search_tables.specs.SearchTables.{MachinePair, positions_of, Table, u
 use Rattle.search_tables.specs.Legal.{stuck}
 use Rattle.search_tables.specs.TableInvariants.{IsWellFormed}
 use Rattle.search_waiting.specs.declared.item.Item.{Item}
-use Rattle.search_places.specs.NodeLines.{NodeRecord, node_records, table_of}
+use Rattle.search_places.specs.NodeRecords.{NodeRecord, node_records, table_of}
 use Rattle.search_waiting.specs.ItemOrder.{item, waits}
 use Rattle.search_worklist.specs.declared.state.State.{State}
 use Rattle.search_places.specs.Moves.{most_moves}

@@ -11,7 +11,7 @@ use Rattle.search_tables.specs.SearchTables.{MachinePair, SearchNode, Table, uni
 use Rattle.search_tables.specs.SearchTables.{Changes, Meets, Exceeds, PathPair, effect, arrival}
 use Rattle.search_worklist.specs.declared.trial.Trial.{Trial}
 use Rattle.search_worklist.specs.declared.trial.Trial.TheVariants as tried
-use Rattle.search_places.specs.NodeLines.{NodeRecord, table_of}
+use Rattle.search_places.specs.NodeRecords.{NodeRecord, table_of}
 use Rattle.search_places.specs.Moves.{paths_at}
 use Rattle.search_worklist.specs.NodeUpdates.{change_table}
 use Rattle.search_worklist.specs.Waiting.{IsEntailed}

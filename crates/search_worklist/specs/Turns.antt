@@ -8,7 +8,7 @@ use Rattle.search_tables.specs.declared.moves.Move.{Move}
 use Rattle.search_tables.specs.SearchTables.{MachinePair, Table, units}
 use Rattle.search_tables.specs.Next.{mode_at, Change, next_move}
 use Rattle.search_waiting.specs.declared.item.Item.{Item}
-use Rattle.search_places.specs.NodeLines.{NodeRecord}
+use Rattle.search_places.specs.NodeRecords.{NodeRecord}
 use Rattle.search_worklist.specs.declared.ends.End.{End}
 use Rattle.search_worklist.specs.declared.ends.End.TheVariants as end
 use Rattle.search_worklist.specs.declared.state.State.{State}

@@ -11,7 +11,7 @@ use Rattle.search_tables.specs.declared.moves.Move.{Move}
 use Rattle.search_tables.specs.SearchTables.{MachinePair, SearchNode, Table, Known, node_target, PathPair, arrival}
 use Rattle.search_tables.specs.Next.{mode_at, paths_in, move_by}
 use Rattle.search_waiting.specs.declared.item.Item.{Item}
-use Rattle.search_places.specs.NodeLines.{NodeRecord, table_of}
+use Rattle.search_places.specs.NodeRecords.{NodeRecord, table_of}
 use Rattle.search_waiting.specs.ItemOrder.{item}
 
 -- the first node at two points is node k, and its fact is entailed

@@ -8,7 +8,7 @@ ghost use Rattle.fs_cut.specs.View.{point_of};
 ghost use Rattle.fs_pair.specs.PairedOutputs.{output_pairs};
 ghost use Rattle.indexmap.specs.IndexMap.{index_map_len};
 ghost use Rattle.search_tables.specs.Legal.{first_differing as differing};
-ghost use Rattle.search_places.specs.NodeLines.{node_records, table_of};
+ghost use Rattle.search_places.specs.NodeRecords.{node_records, table_of};
 ghost use Rattle.search_worklist.specs.DifferingOutputs.{OutputAt};
 ghost use Rattle.search_worklist.specs.View.{machines_in};
 

@@ -1,7 +1,7 @@
 use Rattle.std.proofs.Common.{◌∙◌, ap, sym, List}
 use Rattle.std.specs.Prelude.{slice_set}
 use Rattle.search_waiting.specs.declared.item.Item.{Item}
-use Rattle.search_places.specs.NodeLines.{record_of_node, node_records}
+use Rattle.search_places.specs.NodeRecords.{record_of_node, node_records}
 use Rattle.search_places.proofs.Values.{held}
 use Rattle.search_places.proofs.nodes.list_arrival.Goals as goal
 

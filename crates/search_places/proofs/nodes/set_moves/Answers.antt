@@ -1,5 +1,5 @@
 use Rattle.std.proofs.Common.{sym, Some}
-use Rattle.search_places.specs.NodeLines.{record_of_node}
+use Rattle.search_places.specs.NodeRecords.{record_of_node}
 use Rattle.search_places.proofs.Values.{held}
 use Rattle.search_places.proofs.nodes.set_moves.Goals as goal
 

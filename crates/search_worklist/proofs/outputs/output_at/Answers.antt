@@ -3,7 +3,7 @@ use Rattle.fs_model.proofs.Lists.{slice_get-of_map}
 use Rattle.fs_pair.specs.PairedOutputs.{output_pairs}
 use Rattle.sym_facts.specs.Facts.{vector_of}
 use Rattle.search_tables.specs.Legal.{first_differing}
-use Rattle.search_places.specs.NodeLines.{NodeRecord, node_records}
+use Rattle.search_places.specs.NodeRecords.{NodeRecord, node_records}
 use Rattle.search_places.specs.View.{node_record_in}
 use Rattle.search_worklist.proofs.Legal.{if_ok}
 use Rattle.search_worklist.proofs.outputs.output_at.Goals as goal

@@ -1,6 +1,6 @@
 use Rattle.std.proofs.Common.{subst}
 use Rattle.fs_cut.specs.View.{point_of}
-use Rattle.search_places.specs.NodeLines.{node_records}
+use Rattle.search_places.specs.NodeRecords.{node_records}
 use Rattle.search_waiting.specs.ItemOrder.{waits, AddsAll}
 use Rattle.search_worklist.proofs.Changed.{put_ready, put_table}
 use Rattle.search_worklist.proofs.state.make.Goals as goal

@@ -4,7 +4,7 @@ use Rattle.sym_paths.specs.View.{post_in}
 use Rattle.sym_facts.specs.Pairings.{IsFactOf}
 use Rattle.sym_facts.specs.View.{missing_in}
 use Rattle.search_tables.specs.SearchTables.{positions_of, Known, node_target, within_units}
-use Rattle.search_places.specs.NodeLines.{NodeRecord}
+use Rattle.search_places.specs.NodeRecords.{NodeRecord}
 use Rattle.search_places.specs.View.{node_record_in}
 use Rattle.search_worklist.specs.NodeUpdates.{put_fact}
 use Rattle.search_worklist.specs.States.{lines, table}

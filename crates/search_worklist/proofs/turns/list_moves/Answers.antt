@@ -2,7 +2,7 @@ use Rattle.std.proofs.Common.{◌≡◌, ◌+◌, ◌≤◌, length, rules, ap�
 use Rattle.std.specs.BTreeSet.{btree_set_len}
 use Rattle.propagate.specs.Modes.{Found}
 use Rattle.search_tables.specs.Next.{mode_at}
-use Rattle.search_places.specs.NodeLines.{NodeRecord}
+use Rattle.search_places.specs.NodeRecords.{NodeRecord}
 use Rattle.search_places.specs.Moves.{moves_in_mode}
 use Rattle.search_waiting.specs.ItemOrder.{waits, AddsMoves}
 use Rattle.search_places.specs.View.{node_record_in}
