@@ -61,8 +61,10 @@ module _ (ls ls' : List NodeRecord) (P Q : Point) (f : Fact) (k : ℕ) (ys : Lis
     ]
 
     added_listed : (j : ℕ) (y : Item) → Arrives (ls ++ fresh P Q f ∷ []) j y → (y.node < length (ls ++ fresh P Q f ∷ [])) × (y.place ≢ 0)
-    added_listed j y a = elim (get_snoc ls (fresh P Q f) j a.line a.is_in) [
-      | inl g ↦ (let r = ready.listed j y (record { line = a.line; is_in = g; place = a.place; listed = a.listed }) in (omega (arith, longer, r.0), r.1))
+    added_listed j y a = elim (get_snoc ls (fresh P Q f) j a.node_record a.is_in) [
+      | inl g ↦
+          (let r = ready.listed j y (record { node_record = a.node_record; is_in = g; place = a.place; listed = a.listed }) in
+          (omega (arith, longer, r.0), r.1))
       | inr g ↦ absurd (let q : slice_get [] a.place ≡ Some y = subst (λ (b : NodeRecord). slice_get b.arrivals a.place ≡ Some y) (sym g.1) a.listed in cc)
     ]
 
@@ -88,7 +90,7 @@ module _ (ls ls' : List NodeRecord) (P Q : Point) (f : Fact) (k : ℕ) (ys : Lis
       (all : AddsAll (waits w1) (waits w2) ys) (sized : n' ≡ units (put_fact (table_of ls) P Q f)) where
     woken : (y : Item) → Arrives ls k y → waits w2 y ≡ true
     woken y a =
-        let e : a.line ≡ p.old = (let b = a.is_in in let c = p.is_in in cc) in
+        let e : a.node_record ≡ p.old = (let b = a.is_in in let c = p.is_in in cc) in
         all.fresh a.place y
         (subst (λ (b : List Item). slice_get b a.place ≡ Some y) (sym p.woken) (subst (λ (b : NodeRecord). slice_get b.arrivals a.place ≡ Some y) e a.listed))
 
@@ -96,7 +98,9 @@ module _ (ls ls' : List NodeRecord) (P Q : Point) (f : Fact) (k : ℕ) (ys : Lis
     before_again : (y : Item) → waits w2 y ≡ true → (waits w y ≡ true) ⊎ ((item k 0 ≡ y) ⊎ Arrives ls k y)
     before_again y h = elim (all.only y h) [
       | inl a ↦ elim (adds.only y a) [ inl b ↦ inl b | inr b ↦ inr (inl b) ]
-      | inr a ↦ inr (inr (record { line = p.old; is_in = p.is_in; place = a.0; listed = subst (λ (b : List Item). slice_get b a.0 ≡ Some y) p.woken a.1 }))
+      | inr a ↦
+          (let listed = subst (λ (b : List Item). slice_get b a.0 ≡ Some y) p.woken a.1 in
+          inr (inr (record { node_record = p.old; is_in = p.is_in; place = a.0; listed = listed })))
     ]
 
     in_ls : (i q : ℕ) → waits w2 (item i q) ≡ true → i < length ls

@@ -25,7 +25,7 @@ use Rattle.search_places.specs.Moves.{paths_at}
 use Rattle.search_worklist.specs.Trials.{Tries, TriesAt}
 use Rattle.search_worklist.specs.Turns.{IsTurned, IsMoveAt, NoMoveAt}
 use Rattle.search_worklist.specs.Waiting.{IsEntailed, Arrives, IsSettledMove, IsWaiting}
-use Rattle.search_worklist.specs.States.{lines, table, Ready, IsReady, line_weight, work_of}
+use Rattle.search_worklist.specs.States.{records, table, Ready, IsReady, record_weight, work_of}
 use Rattle.search_places.proofs.Moved.{again}
 use Rattle.search_worklist.proofs.Keeping.{Lists, lists_none, lists_one, lists_this, move_done}
 use Rattle.search_worklist.proofs.Found.{weight_set, apart}
@@ -36,7 +36,7 @@ more_arrivals l y = record { node = l.node; moves = l.moves; arrivals = l.arriva
 -- the item is listed as arriving, or nothing is
 pub record MayList (ls ls' : List NodeRecord) (y : Item) : Type 0 where
   pub lists : Lists ls ls'
-  pub weights : sum_by line_weight ls' ≡ sum_by line_weight ls
+  pub weights : sum_by record_weight ls' ≡ sum_by record_weight ls
   pub back : (j : ℕ) (z : Item) → Arrives ls' j z → Arrives ls j z ⊎ (y ≡ z)
 
 pub lists_nothing : (ls : List NodeRecord) (y : Item) → MayList ls ls y
@@ -47,15 +47,15 @@ listed_by : (ls : List NodeRecord) (k : ℕ) (old : NodeRecord) (x : Item) (j : 
     → Arrives ls j y ⊎ (x ≡ y)
 listed_by ls k old x j y g a = elim (same_or_not j k) [
   | inl e ↦
-      (let i : slice_get (slice_set ls k (more_arrivals old x)) k ≡ Some a.line =
-      subst (λ z. slice_get (slice_set ls k (more_arrivals old x)) z ≡ Some a.line) e a.is_in in
+      (let i : slice_get (slice_set ls k (more_arrivals old x)) k ≡ Some a.node_record =
+      subst (λ z. slice_get (slice_set ls k (more_arrivals old x)) z ≡ Some a.node_record) e a.is_in in
       let b : slice_get (slice_set ls k (more_arrivals old x)) k ≡ Some (more_arrivals old x) = set_same ls k old (more_arrivals old x) g in
-      let s : a.line ≡ more_arrivals old x = cc in
+      let s : a.node_record ≡ more_arrivals old x = cc in
       elim (get_snoc old.arrivals x a.place y (subst (λ (z : NodeRecord). slice_get z.arrivals a.place ≡ Some y) s a.listed)) [
-        | inl z ↦ inl (record { line = old; is_in = rw e g; place = a.place; listed = z })
+        | inl z ↦ inl (record { node_record = old; is_in = rw e g; place = a.place; listed = z })
         | inr z ↦ inr z.1
       ])
-  | inr d ↦ inl (record { line = a.line; is_in = sym (set_other ls k j (more_arrivals old x) d) ∙ a.is_in; place = a.place; listed = a.listed })
+  | inr d ↦ inl (record { node_record = a.node_record; is_in = sym (set_other ls k j (more_arrivals old x) d) ∙ a.is_in; place = a.place; listed = a.listed })
 ]
 
 pub lists_arrival : (ls ls' : List NodeRecord) (k : ℕ) (y : Item) → ListsArrival ls ls' k y → MayList ls ls' y
@@ -83,7 +83,7 @@ module _ (m : MachinePair) (ls ls' : List NodeRecord) (w w2 : BTreeSet Item) (n 
   pub done_ready : Ready m ls' w2 n
   done_ready = record {
     waiting = done_waiting;
-    unfound = λ j l g h. let k = more.lists.lines j l g in sym k.3 ∙ ready.unfound j k.0 k.1 (drops.only (item j 0) h);
+    unfound = λ j l g h. let k = more.lists.records j l g in sym k.3 ∙ ready.unfound j k.0 k.1 (drops.only (item j 0) h);
     listed = λ j z a. elim (more.back j z a) [
       | inl b ↦ (let r = ready.listed j z b in (subst (λ c. z.node < c) (sym more.lists.count) r.0, r.1))
       | inr e ↦ (
@@ -114,8 +114,8 @@ chosen : (m : MachinePair) (ls : List NodeRecord) (y : Item) (at : Move) (t : Is
     → slice_get ls y.node ≡ Some l → l.moves ≡ Some (map (move_by y.node) (paths_in m l.node mode)) → slice_get (paths_in m l.node mode) p ≡ Some x
     → (move_by y.node x ≡ at) × (paths_at m l.node at ≡ x)
 chosen m ls y at t l mode x p e g h z =
-    let line : t.line ≡ l = (let a = t.is_in in cc) in
-    let known = same_moves t.line l t.moves (map (move_by y.node) (paths_in m l.node mode)) line t.known h in
+    let node_record : t.node_record ≡ l = (let a = t.is_in in cc) in
+    let known = same_moves t.node_record l t.moves (map (move_by y.node) (paths_in m l.node mode)) node_record t.known h in
     let number : t.number ≡ p = (let a = t.place in omega (arith, a, e)) in
     let b = get_map_back (move_by y.node) (paths_in m l.node mode) p at
     (subst (λ xs. slice_get xs p ≡ Some at) known (subst (λ i. slice_get t.moves i ≡ Some at) number t.listed)) in
@@ -133,28 +133,28 @@ none_settles m ls y p e none l mode x g h z =
     let there = slice_get-of_map (move_by y.node) (paths_in m l.node mode) p x z in
     absurd (cc)
 
--- the line of the move that was tried, and its paths
-pub same_line : (m : MachinePair) (ls : List NodeRecord) (y : Item) (at : Move) (r : Result Trial NfStop) (l : NodeRecord) (x : PathPair)
+-- the record of the node of the move that was tried, and its paths
+pub same_record : (m : MachinePair) (ls : List NodeRecord) (y : Item) (at : Move) (r : Result Trial NfStop) (l : NodeRecord) (x : PathPair)
     (a : TriesAt m ls at r)
     → slice_get ls y.node ≡ Some l → move_by y.node x ≡ at → paths_at m l.node at ≡ x → Tries m (table_of ls) l.node x r
-same_line m ls y at r l x a g is paths =
+same_record m ls y at r l x a g is paths =
     let node : at.node ≡ y.node = sym (ap (λ (z : Move). z.node) is) in
-    let there : slice_get ls y.node ≡ Some a.line = subst (λ i. slice_get ls i ≡ Some a.line) node a.is_in in
-    let line : a.line ≡ l = cc in
-    subst (λ z. Tries m (table_of ls) l.node z r) paths (subst (λ (z : NodeRecord). Tries m (table_of ls) z.node (paths_at m z.node at) r) line a.tries)
+    let there : slice_get ls y.node ≡ Some a.node_record = subst (λ i. slice_get ls i ≡ Some a.node_record) node a.is_in in
+    let node_record : a.node_record ≡ l = cc in
+    subst (λ z. Tries m (table_of ls) l.node z r) paths (subst (λ (z : NodeRecord). Tries m (table_of ls) z.node (paths_at m z.node at) r) node_record a.tries)
 
 pub refuted_settles : (m : MachinePair) (ls : List NodeRecord) (y : Item) (at : Move) (t : IsMoveAt ls y at) (p : ℕ) → y.place ≡ suc p
     → TriesAt m ls at (Ok tried.Refuted) → Settles m ls ls y p
 refuted_settles m ls y at t p e a l mode x g h z =
     let c = chosen m ls y at t l mode x p e g h z in
-    let r = same_line m ls y at (Ok tried.Refuted) l x a g c.0 c.1 in
+    let r = same_record m ls y at (Ok tried.Refuted) l x a g c.0 c.1 in
     record { post = r.0; valued = r.1; holds = inl r.2 }
 
 pub entailed_settles : (m : MachinePair) (ls ls' : List NodeRecord) (y : Item) (at : Move) (t : IsMoveAt ls y at) (p k : ℕ) → y.place ≡ suc p
     → TriesAt m ls at (Ok (tried.Entailed k)) → ListsArrival ls ls' k y → Settles m ls ls' y p
 entailed_settles m ls ls' y at t p k place a h l mode x g known z =
     let c = chosen m ls y at t l mode x p place g known z in
-    let r = same_line m ls y at (Ok (tried.Entailed k)) l x a g c.0 c.1 in
+    let r = same_record m ls y at (Ok (tried.Entailed k)) l x a g c.0 c.1 in
     let e = r.2.1 in
     let P = end_of l.node.left x.left in
     let Q = end_of l.node.right x.right in
@@ -185,16 +185,16 @@ target_within ls P Q post k e =
     let h = slice_get_within (table_of ls) j.0 e.node j.2 in
     omega (arith, j.1, h, length-map ls (λ (l : NodeRecord). l.node))
 
-pub entailed_within : (m : MachinePair) (s : State) (at : Move) (k : ℕ) → TriesAt m (lines s) at (Ok (tried.Entailed k)) → k < length s.entries.entries
+pub entailed_within : (m : MachinePair) (s : State) (at : Move) (k : ℕ) → TriesAt m (records s) at (Ok (tried.Entailed k)) → k < length s.entries.entries
 entailed_within m s at k a =
-    let n = a.line.node in
+    let n = a.node_record.node in
     let x = paths_at m n at in
     let t = a.tries in
-    omega (arith, target_within (lines s) (end_of n.left x.left) (end_of n.right x.right) t.0 k t.2.1, length-map s.entries.entries record_of_node)
+    omega (arith, target_within (records s) (end_of n.left x.left) (end_of n.right x.right) t.0 k t.2.1, length-map s.entries.entries record_of_node)
 
 -- a table has as many nodes as its map has entries
 pub as_many : (s : State) (n : ℕ) → n ≡ length s.entries.entries → n ≡ length (table s)
-as_many s n e = e ∙ sym (length-map s.entries.entries record_of_node) ∙ sym (length-map (lines s) (λ (l : NodeRecord). l.node))
+as_many s n e = e ∙ sym (length-map s.entries.entries record_of_node) ∙ sym (length-map (records s) (λ (l : NodeRecord). l.node))
 
 -- a turn that ends an item
 pub place_before : (n : ℕ) → n ≢ 0 → (p : ℕ) × (n ≡ suc p)
@@ -202,22 +202,22 @@ place_before zero h = absurd (h refl)
 place_before (suc p) h = (p, refl)
 
 pub done_turned : (m : MachinePair) (s t : State) (y : Item) (p : ℕ) → IsReady m s → t.units ≡ s.units → y.place ≡ suc p → waits s.waiting y ≡ true
-    → MayList (lines s) (lines t) y → Drops (waits s.waiting) (waits t.waiting) y → btree_set_len t.waiting < btree_set_len s.waiting
-    → Settles m (lines s) (lines t) y p → IsTurned m s t None
+    → MayList (records s) (records t) y → Drops (waits s.waiting) (waits t.waiting) y → btree_set_len t.waiting < btree_set_len s.waiting
+    → Settles m (records s) (records t) y p → IsTurned m s t None
 done_turned m s t y p ready units at waited more drops fewer settles = record {
-  ready = subst (Ready m (lines t) t.waiting) (sym units)
-      (done_ready m (lines s) (lines t) s.waiting t.waiting s.units ready y p at waited more drops fewer settles);
+  ready = subst (Ready m (records t) t.waiting) (sym units)
+      (done_ready m (records s) (records t) s.waiting t.waiting s.units ready y p at waited more drops fewer settles);
   same = more.lists.same;
-  finds = done_work m (lines s) (lines t) s.waiting t.waiting s.units ready y p at waited more drops fewer settles;
+  finds = done_work m (records s) (records t) s.waiting t.waiting s.units ready y p at waited more drops fewer settles;
 }
 
 -- the move of an item is of the item's node
-pub move_within : (m : MachinePair) (s : State) (y : Item) (at : Move) → IsReady m s → IsLeastWaiting (waits s.waiting) y.node y.place → IsMoveAt (lines s) y at
-    → at.node < length (lines s)
+pub move_within : (m : MachinePair) (s : State) (y : Item) (at : Move) → IsReady m s → IsLeastWaiting (waits s.waiting) y.node y.place
+    → IsMoveAt (records s) y at → at.node < length (records s)
 move_within m s y at ready least t =
     let first : 0 < y.place = (let e = t.place in omega (arith, e)) in
-    let r = ready.waiting.rests y.node t.line t.is_in (least.of_same 0 first) in
-    let known : t.moves ≡ map (move_by y.node) (paths_in m t.line.node r.mode) = (let a = t.known in let b = r.listed in cc) in
-    let b = get_map_back (move_by y.node) (paths_in m t.line.node r.mode) t.number at (subst (λ xs. slice_get xs t.number ≡ Some at) known t.listed) in
+    let r = ready.waiting.rests y.node t.node_record t.is_in (least.of_same 0 first) in
+    let known : t.moves ≡ map (move_by y.node) (paths_in m t.node_record.node r.mode) = (let a = t.known in let b = r.listed in cc) in
+    let b = get_map_back (move_by y.node) (paths_in m t.node_record.node r.mode) t.number at (subst (λ xs. slice_get xs t.number ≡ Some at) known t.listed) in
     let node : y.node ≡ at.node = ap (λ (z : Move). z.node) b.2 in
-    subst (λ i. i < length (lines s)) node (slice_get_within (lines s) y.node t.line t.is_in)
+    subst (λ i. i < length (records s)) node (slice_get_within (records s) y.node t.node_record t.is_in)

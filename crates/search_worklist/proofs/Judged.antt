@@ -48,7 +48,7 @@ use Rattle.search_worklist.specs.Turns.{IsNext, IsEndAt, IsMoveAt}
 use Rattle.search_worklist.specs.Waiting.{IsWaiting}
 use Rattle.search_places.proofs.Moved.{again}
 use Rattle.search_worklist.proofs.Least.{Comes, mode_next, move_next}
-use Rattle.search_worklist.proofs.Finished.{same_line}
+use Rattle.search_worklist.proofs.Finished.{same_record}
 
 -- ---- numbers of units
 abbrev sum_within : (rest more : ℕ) → Option ℕ
@@ -223,10 +223,10 @@ pub is_first : (m : MachinePair) (ls : List NodeRecord) (waits : Item → Bool) 
     → IsLeastWaiting waits y.node y.place → (t : IsMoveAt ls y at) → TriesAt m ls at r → IsFirst m ls at r
 is_first m ls waits y at r w least t a =
     let low : IsLeastWaiting waits y.node (suc t.number) = subst (λ p. IsLeastWaiting waits y.node p) t.place least in
-    let c = move_next m ls waits w y.node t.number t.line t.moves at low t.is_in t.known t.listed in
-    let found = again m y.node t.line.node c.mode t.number c.paths c.listed in
-    let paths : paths_at m t.line.node at ≡ c.paths = ap (paths_at m t.line.node) (sym c.is) ∙ found in
-    record { node = t.line.node; paths = c.paths; comes = c.comes; tries = same_line m ls y at r t.line c.paths a t.is_in c.is paths }
+    let c = move_next m ls waits w y.node t.number t.node_record t.moves at low t.is_in t.known t.listed in
+    let found = again m y.node t.node_record.node c.mode t.number c.paths c.listed in
+    let paths : paths_at m t.node_record.node at ≡ c.paths = ap (paths_at m t.node_record.node) (sym c.is) ∙ found in
+    record { node = t.node_record.node; paths = c.paths; comes = c.comes; tries = same_record m ls y at r t.node_record c.paths a t.is_in c.is paths }
 
 module _ (m : MachinePair) (T : Table) (at : Move) (e : MoveEffect) (c : Comes m T (λ rest. next_by at e rest)) where
   comes_so : (d : MoveEffect) → e ≡ d → next_move m T ≡ or_next (next_by at d c.rest) c.after

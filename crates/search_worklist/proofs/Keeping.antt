@@ -63,7 +63,7 @@ module _ (m : MachinePair) (ls : List NodeRecord) (waits waits' : Item → Bool)
     (stay : (y : Item) → waits y ≡ true → waits' y ≡ true) (fresh : waits' (item (length ls) 0) ≡ true)
     (in_table : (i p : ℕ) → waits' (item i p) ≡ true → i < length (ls ++ l ∷ [])) where
   arrives_front : (k : ℕ) (y : Item) → Arrives ls k y → Arrives (ls ++ l ∷ []) k y
-  arrives_front k y a = record { line = a.line; is_in = slice_get-front ls (l ∷ []) k a.line a.is_in; place = a.place; listed = a.listed }
+  arrives_front k y a = record { node_record = a.node_record; is_in = slice_get-front ls (l ∷ []) k a.node_record a.is_in; place = a.place; listed = a.listed }
 
   pass_new : (n : SearchNode) (x : PathPair) (y : Item) → Status m ls waits n x y → Status m (ls ++ l ∷ []) waits' n x y
   pass_new a x y s = elim s [
@@ -91,7 +91,7 @@ module _ (m : MachinePair) (ls : List NodeRecord) (waits waits' : Item → Bool)
     (stay : (y : Item) → waits y ≡ true → waits' y ≡ true) (fresh : waits' (item k 0) ≡ true) (woken : (y : Item) → Arrives ls k y → waits' y ≡ true)
     (in_table : (i p : ℕ) → waits' (item i p) ≡ true → i < length (slice_set ls k new)) where
   arrives_other : (j : ℕ) (y : Item) → j ≢ k → Arrives ls j y → Arrives (slice_set ls k new) j y
-  arrives_other j y d a = record { line = a.line; is_in = set_other ls k j new d ∙ a.is_in; place = a.place; listed = a.listed }
+  arrives_other j y d a = record { node_record = a.node_record; is_in = set_other ls k j new d ∙ a.is_in; place = a.place; listed = a.listed }
 
   pass_other : (n : SearchNode) (x : PathPair) (y : Item) → Status m ls waits n x y → Status m (slice_set ls k new) waits' n x y
   pass_other a x y s = elim s [
@@ -132,14 +132,14 @@ module _ (m : MachinePair) (ls : List NodeRecord) (waits waits' : Item → Bool)
   arrives_same : (j : ℕ) (y : Item) → Arrives ls j y → Arrives (slice_set ls k new) j y
   arrives_same j y a = elim (same_or_not j k) [
     | inl e ↦ (let i : slice_get ls j ≡ Some old = rw e is_in in
-        let l : a.line ≡ old = (let h = a.is_in in cc) in
+        let l : a.node_record ≡ old = (let h = a.is_in in cc) in
         record {
-          line = new;
+          node_record = new;
           is_in = rw e (set_same ls k old new is_in);
           place = a.place;
           listed = rw arrivals (subst (λ (z : NodeRecord). slice_get z.arrivals a.place ≡ Some y) l a.listed);
         })
-    | inr d ↦ record { line = a.line; is_in = set_other ls k j new d ∙ a.is_in; place = a.place; listed = a.listed }
+    | inr d ↦ record { node_record = a.node_record; is_in = set_other ls k j new d ∙ a.is_in; place = a.place; listed = a.listed }
   ]
 
   pass_same : (n : SearchNode) (x : PathPair) (j q : ℕ) → Status m ls waits n x (item j (suc q)) → Status m (slice_set ls k new) waits' n x (item j (suc q))
@@ -168,18 +168,18 @@ module _ (m : MachinePair) (ls : List NodeRecord) (waits waits' : Item → Bool)
 -- more items are listed as arriving, and nothing else changes
 pub record Lists (ls ls' : List NodeRecord) : Type 0 where
   pub same : table_of ls' ≡ table_of ls
-  pub lines : (j : ℕ) (l : NodeRecord) → slice_get ls' j ≡ Some l → (k : NodeRecord) × (slice_get ls j ≡ Some k) × (k.node ≡ l.node) × (k.moves ≡ l.moves)
+  pub records : (j : ℕ) (l : NodeRecord) → slice_get ls' j ≡ Some l → (k : NodeRecord) × (slice_get ls j ≡ Some k) × (k.node ≡ l.node) × (k.moves ≡ l.moves)
   pub arrives : (j : ℕ) (y : Item) → Arrives ls j y → Arrives ls' j y
   pub count : length ls' ≡ length ls
 
 pub lists_none : (ls : List NodeRecord) → Lists ls ls
-lists_none ls = record { same = refl; lines = λ j l g. (l, g, refl, refl); arrives = λ j y a. a; count = refl }
+lists_none ls = record { same = refl; records = λ j l g. (l, g, refl, refl); arrives = λ j y a. a; count = refl }
 
 pub lists_one : (ls : List NodeRecord) (k : ℕ) (old new : NodeRecord) (y : Item) → slice_get ls k ≡ Some old → new.node ≡ old.node → new.moves ≡ old.moves
     → new.arrivals ≡ old.arrivals ++ y ∷ [] → Lists ls (slice_set ls k new)
 lists_one ls k old new y is_in n ms a = record {
   same = map-set_same (λ (l : NodeRecord). l.node) ls k new old (n ∙ sym (ap (λ (l : NodeRecord). l.node) (get_or_from_slice_get ls k old old is_in)));
-  lines = λ j l g. elim (same_or_not j k) [
+  records = λ j l g. elim (same_or_not j k) [
     | inl e ↦ (let i : slice_get (slice_set ls k new) k ≡ Some l = subst (λ z. slice_get (slice_set ls k new) z ≡ Some l) e g in
         let h : slice_get (slice_set ls k new) k ≡ Some new = set_same ls k old new is_in in
         let s : new ≡ l = cc in
@@ -188,14 +188,14 @@ lists_one ls k old new y is_in n ms a = record {
   ];
   arrives = λ j z w. elim (same_or_not j k) [
     | inl e ↦ (let i : slice_get ls j ≡ Some old = rw e is_in in
-        let l : w.line ≡ old = (let h = w.is_in in cc) in
+        let l : w.node_record ≡ old = (let h = w.is_in in cc) in
         record {
-          line = new;
+          node_record = new;
           is_in = rw e (set_same ls k old new is_in);
           place = w.place;
           listed = rw a (slice_get-front old.arrivals (y ∷ []) w.place z (subst (λ (b : NodeRecord). slice_get b.arrivals w.place ≡ Some z) l w.listed));
         })
-    | inr d ↦ record { line = w.line; is_in = set_other ls k j new d ∙ w.is_in; place = w.place; listed = w.listed }
+    | inr d ↦ record { node_record = w.node_record; is_in = set_other ls k j new d ∙ w.is_in; place = w.place; listed = w.listed }
   ];
   count = length-set ls k new;
 }
@@ -204,7 +204,7 @@ lists_one ls k old new y is_in n ms a = record {
 pub lists_this : (ls : List NodeRecord) (k : ℕ) (old new : NodeRecord) (y : Item) → slice_get ls k ≡ Some old → new.arrivals ≡ old.arrivals ++ y ∷ []
     → Arrives (slice_set ls k new) k y
 lists_this ls k old new y is_in a = record {
-  line = new;
+  node_record = new;
   is_in = set_same ls k old new is_in;
   place = length old.arrivals;
   listed = rw a (get_last old.arrivals y);
@@ -246,7 +246,7 @@ module _ (m : MachinePair) (ls ls' : List NodeRecord) (waits waits' : Item → B
   pub move_done : IsWaiting m ls' waits'
   move_done = record {
     rests = λ j l g f.
-        let k = more.lines j l g in
+        let k = more.records j l g in
         subst (λ n. Rests m ls' waits' j n l.moves) k.2 (subst (λ ms. Rests m ls' waits' j k.0.node ms) k.3
         (each_on k.0 j k.1 (w.rests j k.0 k.1 (not_before (waits (item j 0)) (waits' (item j 0)) f (λ h. stay j 0 h (λ a. (let b = a.1 in cc)))))));
     in_table = in_table;

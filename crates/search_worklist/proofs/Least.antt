@@ -96,8 +96,8 @@ module _ (m : MachinePair) (ls : List NodeRecord) (waits : Item → Bool) (w : I
   keeps_by n x y f s = elim s [ inl h ↦ (let e = f in cc) | inr h ↦ settled_keeps m ls n x y h ]
 
   -- at a node of which nothing waits nothing is next
-  quiet_line : (j : ℕ) (l : NodeRecord) → slice_get ls j ≡ Some l → ((q : ℕ) → waits (item j q) ≡ false) → next_at m (table_of ls) j l.node ≡ Nothing
-  quiet_line j l g f =
+  quiet_record : (j : ℕ) (l : NodeRecord) → slice_get ls j ≡ Some l → ((q : ℕ) → waits (item j q) ≡ false) → next_at m (table_of ls) j l.node ≡ Nothing
+  quiet_record j l g f =
       let r = w.rests j l g (f 0) in
       ap (next_in m (table_of ls) j l.node) r.found
       ∙ pass_all m (table_of ls) j l.node (paths_in m l.node r.mode) (λ q x z. keeps_by l.node x (item j (suc q)) (f (suc q)) (r.each q x z))
@@ -105,7 +105,7 @@ module _ (m : MachinePair) (ls : List NodeRecord) (waits : Item → Bool) (w : I
   quiet_node : (j : ℕ) (n : SearchNode) → slice_get (table_of ls) j ≡ Some n → ((q : ℕ) → waits (item j q) ≡ false) → next_at m (table_of ls) j n ≡ Nothing
   quiet_node j n g f =
       let b = get_map_back (λ (l : NodeRecord). l.node) ls j n g in
-      subst (λ a. next_at m (table_of ls) j a ≡ Nothing) b.2 (quiet_line j b.0 b.1 f)
+      subst (λ a. next_at m (table_of ls) j a ≡ Nothing) b.2 (quiet_record j b.0 b.1 f)
 
   -- where nothing waits, nothing is next
   pub none_waits : ((j q : ℕ) → waits (item j q) ≡ false) → next_move m (table_of ls) ≡ Nothing

@@ -13,11 +13,11 @@ use Rattle.search_worklist.specs.declared.state.State.{State}
 use Rattle.search_places.specs.Moves.{most_moves}
 use Rattle.search_worklist.specs.Waiting.{Arrives, IsWaiting}
 
-abbrev pub lines : State → List NodeRecord
-lines s = node_records s.entries.entries
+abbrev pub records : State → List NodeRecord
+records s = node_records s.entries.entries
 
 abbrev pub table : State → Table
-table s = table_of (lines s)
+table s = table_of (records s)
 
 -- what holds of nodes, of what waits and of the number of units between turns. The moves of a node that waits are not known
 pub record Ready (m : MachinePair) (ls : List NodeRecord) (w : BTreeSet Item) (n : ℕ) : Type 0 where
@@ -27,7 +27,7 @@ pub record Ready (m : MachinePair) (ls : List NodeRecord) (w : BTreeSet Item) (n
   pub sized : n ≡ units (table_of ls)
 
 abbrev pub IsReady : MachinePair → State → Type 0
-IsReady m s = Ready m (lines s) s.waiting s.units
+IsReady m s = Ready m (records s) s.waiting s.units
 
 -- what holds of a table that a legal list of moves makes, where no outputs differ
 pub record IsMade (m : MachinePair) (T : Table) : Type 0 where
@@ -36,12 +36,12 @@ pub record IsMade (m : MachinePair) (T : Table) : Type 0 where
   pub agrees : stuck m T ≡ None
 
 -- a node whose mode is not found counts more than its moves
-abbrev pub line_weight : NodeRecord → ℕ
-line_weight l = cond (is_none l.moves) (most_moves + 1) 0
+abbrev pub record_weight : NodeRecord → ℕ
+record_weight l = cond (is_none l.moves) (most_moves + 1) 0
 
 -- what is to be done before the table changes
 abbrev pub work_of : List NodeRecord → BTreeSet Item → ℕ
-work_of ls w = sum_by line_weight ls + btree_set_len w
+work_of ls w = sum_by record_weight ls + btree_set_len w
 
 abbrev pub work : State → ℕ
-work s = work_of (lines s) s.waiting
+work s = work_of (records s) s.waiting

@@ -54,6 +54,6 @@ Tries m T n x (Err s) = IsMet s (effect m T n x)
 
 -- the effect of a move of its node
 pub record TriesAt (m : MachinePair) (ls : List NodeRecord) (at : Move) (r : Result Trial NfStop) : Type 0 where
-  pub line : NodeRecord
-  pub is_in : slice_get ls at.node ≡ Some line
-  pub tries : Tries m (table_of ls) line.node (paths_at m line.node at) r
+  pub node_record : NodeRecord
+  pub is_in : slice_get ls at.node ≡ Some node_record
+  pub tries : Tries m (table_of ls) node_record.node (paths_at m node_record.node at) r

@@ -42,16 +42,16 @@ IsEndAt at stop.NoMemory e = ⊥
 
 -- node i has this mode
 pub record ModeFound (m : MachinePair) (ls : List NodeRecord) (i : ℕ) (x : Mode) : Type 0 where
-  pub line : NodeRecord
-  pub is_in : slice_get ls i ≡ Some line
-  pub found : mode_at m line.node ≡ Found x
+  pub node_record : NodeRecord
+  pub is_in : slice_get ls i ≡ Some node_record
+  pub found : mode_at m node_record.node ≡ Found x
 
 -- an item's move, in the mode of its node
 pub record IsMoveAt (ls : List NodeRecord) (y : Item) (at : Move) : Type 0 where
-  pub line : NodeRecord
-  pub is_in : slice_get ls y.node ≡ Some line
+  pub node_record : NodeRecord
+  pub is_in : slice_get ls y.node ≡ Some node_record
   pub moves : List Move
-  pub known : line.moves ≡ Some moves
+  pub known : node_record.moves ≡ Some moves
   pub number : ℕ
   pub place : y.place ≡ suc number
   pub listed : slice_get moves number ≡ Some at

@@ -24,10 +24,10 @@ pub record IsEntailed (T : Table) (P Q : Point) (post : Post) (k : ℕ) : Type 0
 
 -- an item is listed as arriving at node k
 pub record Arrives (ls : List NodeRecord) (k : ℕ) (y : Item) : Type 0 where
-  pub line : NodeRecord
-  pub is_in : slice_get ls k ≡ Some line
+  pub node_record : NodeRecord
+  pub is_in : slice_get ls k ≡ Some node_record
   pub place : ℕ
-  pub listed : slice_get line.arrivals place ≡ Some y
+  pub listed : slice_get node_record.arrivals place ≡ Some y
 
 -- a post entails the fact of the first node at two points, where an item is listed
 pub record ArrivesAt (ls : List NodeRecord) (P Q : Point) (post : Post) (y : Item) : Type 0 where

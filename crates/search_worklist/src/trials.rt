@@ -14,7 +14,7 @@ ghost use Rattle.search_tables.specs.SearchTables.{positions_of, effect_of_arriv
 ghost use Rattle.search_places.specs.NodeChanges.{StandsAt};
 ghost use Rattle.search_worklist.specs.NodeUpdates.{put_fact};
 ghost use Rattle.search_worklist.specs.Trials.{GivesChange, TellsChange, TellsTrial, TriesAt};
-ghost use Rattle.search_worklist.specs.States.{lines, table, IsMade};
+ghost use Rattle.search_worklist.specs.States.{records, table, IsMade};
 ghost use Rattle.search_worklist.specs.View.{machines_in};
 
 use crate::sides::{Sides, left_paths, right_paths};
@@ -83,7 +83,7 @@ fn try_new(
     right: Point,
     post: &Post,
 ) -> Result<Trial, NfStop>
-    requires absent { StandsAt (lines state.now) (point_of left) (point_of right) None }
+    requires absent { StandsAt (records state.now) (point_of left) (point_of right) None }
     requires sized { state.now.units ≡ units (table state.now) }
     ensures { TellsChange (table state.now)
         (look_up_target (positions_of (machines_in m.now)) (table state.now) (point_of left) (point_of right) (post_in post.now)
@@ -106,7 +106,7 @@ fn try_known(
     number: usize,
     post: &Post,
 ) -> Result<Trial, NfStop>
-    requires stands { StandsAt (lines state.now) (point_of left) (point_of right) (Some number) }
+    requires stands { StandsAt (records state.now) (point_of left) (point_of right) (Some number) }
     requires is_open { refuted (post_in post.now).conditions ≡ false }
     requires sized { state.now.units ≡ units (table state.now) }
     requires made { IsMade (machines_in m.now) (table state.now) }
@@ -162,10 +162,10 @@ fn end_of(point: Point, path: Option<&Path>) -> Point
 /// `Wide` and `Large` come exactly at the first operation that is not narrow, or narrow and not small: those of the paths come
 /// first, then those of the comparison with the target's fact, and then those that make a fact. `NoMemory`: out of memory.
 pub fn try_move(alloc: Global, m: &Sides<'_>, state: &State, at: Move) -> Result<Trial, NfStop>
-    requires node { at.node < length (lines state.now) }
+    requires node { at.node < length (records state.now) }
     requires sized { state.now.units ≡ units (table state.now) }
     requires made { IsMade (machines_in m.now) (table state.now) }
-    ensures { TriesAt (machines_in m.now) (lines state.now) at result }
+    ensures { TriesAt (machines_in m.now) (records state.now) at result }
 {
     let from = node_at(&state.entries, at.node as usize);
     let left = path_by(left_paths(m, from.points.left), at.left);

@@ -4,7 +4,7 @@ ghost use Rattle.std.specs.Prelude.{◌≡◌, ◌<◌, ◌≢◌, true, None, l
 ghost use Rattle.search_tables.specs.Next.{path_at as one_path};
 ghost use Rattle.search_waiting.specs.ItemOrder.{item as plain_item};
 ghost use Rattle.search_waiting.specs.ItemOrder.{waits, IsLeastWaiting};
-ghost use Rattle.search_worklist.specs.States.{lines, table, IsReady, IsMade};
+ghost use Rattle.search_worklist.specs.States.{records, table, IsReady, IsMade};
 ghost use Rattle.search_worklist.specs.Turns.{IsNext, IsTurned, IsEndAt, ModeFound, IsMoveAt, NoMoveAt};
 ghost use Rattle.search_worklist.specs.View.{machines_in};
 
@@ -71,7 +71,7 @@ fn list_moves(
     requires ready { IsReady (machines_in m.now) state.old }
     requires made { IsMade (machines_in m.now) (table state.old) }
     requires waits { waits state.old.waiting (plain_item node 0) ≡ true }
-    requires found { ModeFound (machines_in m.now) (lines state.old) node mode }
+    requires found { ModeFound (machines_in m.now) (records state.old) node mode }
     ensures { OnOk result (IsTurned (machines_in m.now) state.old state.new None) }
 {
     let points = node_at(&state.entries, node as usize).points;
@@ -118,10 +118,10 @@ fn find_mode(
 
 // The move of an item, if its node's mode is found and has it.
 fn move_of(state: &State, item: Item) -> Option<Move>
-    requires node { item.node < length (lines state.now) }
+    requires node { item.node < length (records state.now) }
     requires place { item.place ≢ 0 }
-    ensures none { IfNone result (NoMoveAt (lines state.now) item) }
-    ensures some { IfSome result (IsMoveAt (lines state.now) item) }
+    ensures none { IfNone result (NoMoveAt (records state.now) item) }
+    ensures some { IfSome result (IsMoveAt (records state.now) item) }
 {
     match &node_at(&state.entries, item.node as usize).entry.moves {
         Some(moves) => moves.get(item.place as usize - 1).copied(),

@@ -7,7 +7,7 @@ use Rattle.search_tables.specs.SearchTables.{positions_of, Known, node_target, w
 use Rattle.search_places.specs.NodeRecords.{NodeRecord}
 use Rattle.search_places.specs.View.{node_record_in}
 use Rattle.search_worklist.specs.NodeUpdates.{put_fact}
-use Rattle.search_worklist.specs.States.{lines, table}
+use Rattle.search_worklist.specs.States.{records, table}
 use Rattle.search_worklist.specs.View.{machines_in}
 use Rattle.search_worklist.proofs.Legal.{node_in, fact_of}
 use Rattle.search_worklist.proofs.Judged.{part_le, put_known_units, join_gives, gives_change, effect_there}
@@ -32,11 +32,11 @@ pub join-requires-clause-pairing : goal.join-requires-clause-pairing
 join-requires-clause-pairing c =
     let p : c.args.m.now.pairing.now ≡ positions_of (machines_in c.args.m.now) = search rules in
     subst (λ ps. IsFactOf ps c.node_at.result.entry.now.fact) (sym p)
-    (fact_of (machines_in c.args.m.now) (lines c.args.state.now) c.requires.made c.args.number (node_record_in c.node_at.result) c.node_at.ensures)
+    (fact_of (machines_in c.args.m.now) (records c.args.state.now) c.requires.made c.args.number (node_record_in c.node_at.result) c.node_at.ensures)
 
 pub overflow_sub-state : goal.overflow_sub-state
 overflow_sub-state c =
-    let g = node_in (machines_in c.args.m.now) (lines c.args.state.now) c.requires.made c.args.number (node_record_in c.node_at.result) c.node_at.ensures in
+    let g = node_in (machines_in c.args.m.now) (records c.args.state.now) c.requires.made c.args.number (node_record_in c.node_at.result) c.node_at.ensures in
     omega (arith, part_le (table c.args.state.now) c.args.number (node_record_in c.node_at.result).node g, c.size.ensures, c.requires.sized)
 
 pub returns : goal.returns

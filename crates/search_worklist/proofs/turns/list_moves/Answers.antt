@@ -6,7 +6,7 @@ use Rattle.search_places.specs.NodeRecords.{NodeRecord}
 use Rattle.search_places.specs.Moves.{moves_in_mode}
 use Rattle.search_waiting.specs.ItemOrder.{waits, AddsMoves}
 use Rattle.search_places.specs.View.{node_record_in}
-use Rattle.search_worklist.specs.States.{lines}
+use Rattle.search_worklist.specs.States.{records}
 use Rattle.search_worklist.specs.View.{machines_in}
 use Rattle.search_worklist.proofs.Legal.{left_point, right_point}
 use Rattle.search_places.proofs.Moved.{moves_are}
@@ -14,11 +14,11 @@ use Rattle.search_worklist.proofs.Found.{found_turned}
 use Rattle.search_worklist.proofs.turns.list_moves.Goals as goal
 
 pub left_paths-lefts-requires : goal.left_paths-lefts-requires
-left_paths-lefts-requires c = left_point (machines_in c.args.m.now) (lines c.args.state.now) c.requires.made c.args.node
+left_paths-lefts-requires c = left_point (machines_in c.args.m.now) (records c.args.state.now) c.requires.made c.args.node
     (node_record_in c.node_at.result) c.node_at.ensures
 
 pub right_paths-rights-requires : goal.right_paths-rights-requires
-right_paths-rights-requires c = right_point (machines_in c.args.m.now) (lines c.args.state.now) c.requires.made c.args.node
+right_paths-rights-requires c = right_point (machines_in c.args.m.now) (records c.args.state.now) c.requires.made c.args.node
     (node_record_in c.node_at.result) c.node_at.ensures
 
 pub returns : goal.returns
@@ -27,7 +27,7 @@ returns c =
     let l = node_record_in c.node_at.result in
     let xs = c.in_ok-moves.moves.items in
     let t = c.requires.found in
-    let same : t.line ≡ l = (let a = t.is_in in let b = c.node_at.ensures in cc) in
+    let same : t.node_record ≡ l = (let a = t.is_in in let b = c.node_at.ensures in cc) in
     let many : c.len.result ≡ length xs = search rules in
     found_turned m c.args.state.now _ c.add_moves.new.waiting c.args.node l c.args.mode xs c.requires.ready refl c.node_at.ensures
     (subst (λ (z : NodeRecord). mode_at m z.node ≡ Found c.args.mode) same t.found)

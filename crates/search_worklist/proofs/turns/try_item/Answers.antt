@@ -1,7 +1,7 @@
 use Rattle.std.proofs.Common.{refl, subst, Ok, Err}
 use Rattle.search_waiting.specs.ItemOrder.{waits}
 use Rattle.search_worklist.specs.declared.trial.Trial.TheVariants.{Changes, Exceeds}
-use Rattle.search_worklist.specs.States.{lines}
+use Rattle.search_worklist.specs.States.{records}
 use Rattle.search_worklist.specs.Trials.{TriesAt}
 use Rattle.search_worklist.specs.View.{machines_in}
 use Rattle.search_worklist.proofs.Finished.{lists_nothing, lists_arrival, none_settles, refuted_settles, entailed_settles, entailed_within, place_before}
@@ -16,8 +16,8 @@ pub returns-in-None : goal.returns-in-None
 returns-in-None c =
     let p = place_before c.args.item.place c.requires.place in
     done_turned (machines_in c.args.m.now) c.args.state.now _ c.args.item p.0 c.requires.ready refl p.1 c.requires.waits
-    (lists_nothing (lines c.args.state.now) c.args.item) c.remove.ensures.dropped c.remove.ensures.fewer
-    (none_settles (machines_in c.args.m.now) (lines c.args.state.now) c.args.item p.0 p.1 c.in-None.ensures.none)
+    (lists_nothing (records c.args.state.now) c.args.item) c.remove.ensures.dropped c.remove.ensures.fewer
+    (none_settles (machines_in c.args.m.now) (records c.args.state.now) c.args.item p.0 p.1 c.in-None.ensures.none)
 
 pub try_move-requires-clause-node : goal.try_move-requires-clause-node
 try_move-requires-clause-node c = move_within (machines_in c.args.m.now) c.args.state.now c.args.item c.in-Some.at c.requires.ready c.requires.least
@@ -25,33 +25,34 @@ try_move-requires-clause-node c = move_within (machines_in c.args.m.now) c.args.
 
 pub list_arrival-requires : goal.list_arrival-requires
 list_arrival-requires c =
-    let a = subst (λ t. TriesAt (machines_in c.args.m.now) (lines c.args.state.now) c.in-Some.at (Ok t)) c.in-Ok-Entailed.field-0-is c.in-Ok-Entailed.ensures in
+    let m = machines_in c.args.m.now in
+    let a = subst (λ t. TriesAt m (records c.args.state.now) c.in-Some.at (Ok t)) c.in-Ok-Entailed.field-0-is c.in-Ok-Entailed.ensures in
     entailed_within (machines_in c.args.m.now) c.args.state.now c.in-Some.at c.in-Ok-Entailed.target a
 
 pub returns-in-Ok-Refuted : goal.returns-in-Ok-Refuted
 returns-in-Ok-Refuted c =
     let m = machines_in c.args.m.now in
     let t = c.in-Some.ensures.some in
-    let a = subst (λ r. TriesAt m (lines c.args.state.now) c.in-Some.at (Ok r)) c.in-Ok-Refuted.field-0-is c.in-Ok-Refuted.ensures in
+    let a = subst (λ r. TriesAt m (records c.args.state.now) c.in-Some.at (Ok r)) c.in-Ok-Refuted.field-0-is c.in-Ok-Refuted.ensures in
     done_turned m c.args.state.now _ c.args.item t.number c.requires.ready refl t.place c.requires.waits
-    (lists_nothing (lines c.args.state.now) c.args.item) c.remove-in-Ok-Refuted.ensures.dropped c.remove-in-Ok-Refuted.ensures.fewer
-    (refuted_settles m (lines c.args.state.now) c.args.item c.in-Some.at t t.number t.place a)
+    (lists_nothing (records c.args.state.now) c.args.item) c.remove-in-Ok-Refuted.ensures.dropped c.remove-in-Ok-Refuted.ensures.fewer
+    (refuted_settles m (records c.args.state.now) c.args.item c.in-Some.at t t.number t.place a)
 
 pub returns-in_ok-list_arrival-in-Ok-Entailed : goal.returns-in_ok-list_arrival-in-Ok-Entailed
 returns-in_ok-list_arrival-in-Ok-Entailed c =
     let m = machines_in c.args.m.now in
     let t = c.in-Some.ensures.some in
     let k = c.in-Ok-Entailed.target in
-    let a = subst (λ r. TriesAt m (lines c.args.state.now) c.in-Some.at (Ok r)) c.in-Ok-Entailed.field-0-is c.in-Ok-Entailed.ensures in
+    let a = subst (λ r. TriesAt m (records c.args.state.now) c.in-Some.at (Ok r)) c.in-Ok-Entailed.field-0-is c.in-Ok-Entailed.ensures in
     done_turned m c.args.state.now _ c.args.item t.number c.requires.ready refl t.place c.requires.waits
-    (lists_arrival (lines c.args.state.now) _ k c.args.item c.in_ok-list_arrival-in-Ok-Entailed.ensures) c.remove-in-Ok-Entailed.ensures.dropped
+    (lists_arrival (records c.args.state.now) _ k c.args.item c.in_ok-list_arrival-in-Ok-Entailed.ensures) c.remove-in-Ok-Entailed.ensures.dropped
     c.remove-in-Ok-Entailed.ensures.fewer
-    (entailed_settles m (lines c.args.state.now) _ c.args.item c.in-Some.at t t.number k t.place a c.in_ok-list_arrival-in-Ok-Entailed.ensures)
+    (entailed_settles m (records c.args.state.now) _ c.args.item c.in-Some.at t t.number k t.place a c.in_ok-list_arrival-in-Ok-Entailed.ensures)
 
 pub returns-in-Ok-Changes : goal.returns-in-Ok-Changes
 returns-in-Ok-Changes c =
     let m = machines_in c.args.m.now in
-    let ls = lines c.args.state.now in
+    let ls = records c.args.state.now in
     let a = subst (λ r. TriesAt m ls c.in-Some.at (Ok r)) c.in-Ok-Changes.field-0-is c.in-Ok-Changes.ensures in
     let f = is_first m ls (waits c.args.state.now.waiting) c.args.item c.in-Some.at
     (Ok (Changes c.in-Ok-Changes.change)) c.requires.ready.waiting c.requires.least c.in-Some.ensures.some a in
@@ -60,7 +61,7 @@ returns-in-Ok-Changes c =
 pub returns-in-Ok-Exceeds : goal.returns-in-Ok-Exceeds
 returns-in-Ok-Exceeds c =
     let m = machines_in c.args.m.now in
-    let ls = lines c.args.state.now in
+    let ls = records c.args.state.now in
     let a = subst (λ r. TriesAt m ls c.in-Some.at (Ok r)) c.in-Ok-Exceeds.field-0-is c.in-Ok-Exceeds.ensures in
     let f = is_first m ls (waits c.args.state.now.waiting) c.args.item c.in-Some.at
     (Ok (Exceeds c.in-Ok-Exceeds.what)) c.requires.ready.waiting c.requires.least c.in-Some.ensures.some a in
@@ -69,7 +70,7 @@ returns-in-Ok-Exceeds c =
 pub returns-in_ok-end_at-in-Err : goal.returns-in_ok-end_at-in-Err
 returns-in_ok-end_at-in-Err c =
     let m = machines_in c.args.m.now in
-    let ls = lines c.args.state.now in
+    let ls = records c.args.state.now in
     let f = is_first m ls (waits c.args.state.now.waiting) c.args.item c.in-Some.at
     (Err c.in-Err.stop) c.requires.ready.waiting c.requires.least c.in-Some.ensures.some c.in-Err.ensures in
     record {
