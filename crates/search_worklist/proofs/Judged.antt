@@ -36,7 +36,7 @@ use Rattle.search_places.specs.NodeRecords.{NodeRecord, node_with_fact, table_of
 use Rattle.search_waiting.specs.ItemOrder.{IsLeastWaiting}
 use Rattle.search_worklist.specs.declared.ends.End.{End}
 use Rattle.search_worklist.specs.declared.ends.End.TheVariants as end
-use Rattle.search_worklist.specs.declared.trial.Change.{Change as MadeChange}
+use Rattle.search_worklist.specs.declared.trial.TableChange.{TableChange}
 use Rattle.search_worklist.specs.declared.trial.Trial.{Trial}
 use Rattle.search_worklist.specs.declared.trial.Trial.TheVariants as tried
 use Rattle.search_worklist.specs.declared.turns.Step.TheVariants as step
@@ -237,7 +237,7 @@ module _ (m : MachinePair) (T : Table) (at : Move) (e : MoveEffect) (c : Comes m
   end_next f (stop.Large u d) x i h = subst (EndsSo m T) (sym i) (f, u, d, comes_so (Meets (LargeEvent u d)) h)
   end_next f stop.NoMemory x i h = absurd i
 
-pub change_next : (m : MachinePair) (ls : List NodeRecord) (at : Move) (c : MadeChange) → IsFirst m ls at (Ok (tried.Changes c))
+pub change_next : (m : MachinePair) (ls : List NodeRecord) (at : Move) (c : TableChange) → IsFirst m ls at (Ok (tried.Changes c))
     → IsNext m (table_of ls) (step.Changes at c)
 change_next m ls at c f = (
   comes_so m (table_of ls) at (effect m (table_of ls) f.node f.paths) f.comes (Changes (change_table (table_of ls) c)) f.tries.2.0,

@@ -5,7 +5,7 @@ use Rattle.fs_cut.specs.View.{point_of}
 use Rattle.sym_facts.specs.Facts.{Fact}
 use Rattle.search_tables.specs.SearchTables.{Table, Target, Unknown, Known, node_target, with_fact}
 use Rattle.search_places.specs.NodeRecords.{node_with_fact}
-use Rattle.search_worklist.specs.declared.trial.Change.{Change}
+use Rattle.search_worklist.specs.declared.trial.TableChange.{TableChange}
 
 abbrev pub put_by : Table → Point → Point → Fact → Target → Table
 put_by T P Q f Unknown = T ++ node_with_fact P Q f ∷ []
@@ -24,5 +24,5 @@ abbrev pub node_number : Table → Point → Point → ℕ
 node_number T P Q = number_by T (node_target T P Q)
 
 -- a table after a change
-abbrev pub change_table : Table → Change → Table
+abbrev pub change_table : Table → TableChange → Table
 change_table T c = put_fact T (point_of c.left) (point_of c.right) c.fact

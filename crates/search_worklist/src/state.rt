@@ -9,7 +9,7 @@ ghost use Rattle.search_worklist.specs.States.{table, IsReady};
 ghost use Rattle.search_worklist.specs.View.{machines_in};
 
 use crate::sides::Sides;
-use crate::trial::Change;
+use crate::trial::TableChange;
 use fs_cut::cover::Point;
 use indexmap::IndexMap;
 use nf_terms::stop::NoMemory;
@@ -32,7 +32,7 @@ pub struct State {
 
 /// Makes a change. The node then waits, and so does what arrived at it before. Answers the node's number. The one refusal is out
 /// of memory, and the state is of no use then.
-pub fn make(alloc: Global, state: &mut State, change: Change) -> Result<usize, NoMemory>
+pub fn make(alloc: Global, state: &mut State, change: TableChange) -> Result<usize, NoMemory>
     requires few { length (change_table (table state.old) change) ≤ most_nodes }
     requires sized { change.units ≡ units (change_table (table state.old) change) }
     ensures ready { (m : MachinePair) → IsReady m state.old → OnOk result (IsReady m state.new) }
@@ -73,7 +73,7 @@ pub fn begin(alloc: Global, m: &Sides<'_>) -> Result<State, NoMemory>
     make(
         alloc,
         &mut state,
-        Change {
+        TableChange {
             left: Point::Start,
             right: Point::Start,
             fact,

@@ -6,7 +6,7 @@ use sym_facts::fact::Fact;
 
 /// The node at two points gets this fact, and the table then has so many units.
 #[derive(Drop)]
-pub struct Change {
+pub struct TableChange {
     pub left: Point,
     pub right: Point,
     pub fact: Fact,
@@ -18,6 +18,6 @@ pub struct Change {
 pub enum Trial {
     Refuted,
     Entailed { target: usize },
-    Changes(Change),
+    Changes(TableChange),
     Exceeds(Budget),
 }

@@ -19,7 +19,7 @@ ghost use Rattle.search_worklist.specs.View.{machines_in};
 
 use crate::sides::{Sides, left_paths, right_paths};
 use crate::state::State;
-use crate::trial::{Change, Trial};
+use crate::trial::{TableChange, Trial};
 use fs_cut::cover::{Path, Point};
 use nf_refutation::refutation::is_refuted;
 use nf_terms::stop::NfStop;
@@ -57,7 +57,7 @@ fn changed(rest: u64, left: Point, right: Point, fact: Fact) -> Trial
         → GivesChange T (within_units (put_fact T (point_of left) (point_of right) fact)) result }
 {
     match units_with(rest, fact.size()) {
-        Some(units) => Trial::Changes(Change {
+        Some(units) => Trial::Changes(TableChange {
             left,
             right,
             fact,

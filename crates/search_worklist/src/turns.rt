@@ -11,7 +11,7 @@ ghost use Rattle.search_worklist.specs.View.{machines_in};
 use crate::ends::End;
 use crate::sides::{Sides, left_paths, right_paths};
 use crate::state::State;
-use crate::trial::{Change, Trial};
+use crate::trial::{TableChange, Trial};
 use crate::trials::try_move;
 use cert_bisimulation::mode::Mode;
 use nf_terms::stop::{NfStop, NoMemory};
@@ -28,7 +28,7 @@ use std::alloc::Global;
 #[derive(Drop)]
 pub enum Step {
     Ends(End),
-    Changes { at: Move, change: Change },
+    Changes { at: Move, change: TableChange },
 }
 
 // The end at an event. The one refusal is out of memory, where that is what stopped.
