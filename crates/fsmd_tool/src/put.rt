@@ -82,18 +82,18 @@ fn put_unstored<S: Sink>(alloc: Global, name: &str, out: &mut S) -> Result<Statu
 
 // Bytes that are to be stored under a name.
 #[derive(Clone, Copy)]
-struct Entry<'a> {
+struct NamedBytes<'a> {
     name: &'a str,
     bytes: &'a [u8],
 }
 
 // What is to be stored of an answer to what is asked: its certificate, under the word for it.
-fn to_store<'a>(answer: &'a Answer, ask: &'a Ask) -> Option<Entry<'a>>
+fn to_store<'a>(answer: &'a Answer, ask: &'a Ask) -> Option<NamedBytes<'a>>
     ensures { option_map (λ e. file_to_store e.name.now e.bytes.now) result
         ≡ to_store (Some (asked_of_ask ask.entry.now)) answer.entry.now }
 {
     match (cert_word(ask), answer.certificate()) {
-        (Some(name), Some(bytes)) => Some(Entry { name, bytes }),
+        (Some(name), Some(bytes)) => Some(NamedBytes { name, bytes }),
         _ => None,
     }
 }
@@ -101,7 +101,7 @@ fn to_store<'a>(answer: &'a Answer, ask: &'a Ask) -> Option<Entry<'a>>
 // Stores bytes under a name, and then puts a reply that has room; where they cannot be stored, puts that.
 fn put_stored<F: Files, S: Sink>(
     alloc: Global,
-    item: &Entry<'_>,
+    item: &NamedBytes<'_>,
     reply: &[u8],
     meant: Status,
     files: &mut F,
