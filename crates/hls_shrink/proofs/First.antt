@@ -2,7 +2,7 @@
 use Rattle.std.proofs.Common.{◌≡◌, Bool, true, false, cond, List, [], ◌∷◌, ◌++◌, sym, ◌∙◌, subst, inl, inr}
 use Rattle.std.specs.Prelude.{pos, map, int_div}
 use Rattle.fs_model.specs.Runs.{Content}
-use Rattle.hls_shrink.specs.declared.entries.Entry.{Entry}
+use Rattle.hls_shrink.specs.declared.entries.InputEntry.{InputEntry}
 use Rattle.hls_shrink.specs.Reductions.{is_beyond_one, contents_with, reductions_at, reductions}
 use Rattle.hls_shrink.specs.Shrunk.{IsFirst, NoneHas}
 
@@ -20,14 +20,15 @@ none_joined P [] ys a b = b
 none_joined P (x ∷ xs) ys a b = (a.0, none_joined P xs ys a.1 b)
 
 -- what is first of the reductions that are left is first of all, and where none of those has P, none of all has
-pub record Passed (P : List Content → Type 0) (cs : List Content) (all left : List Entry) : Type 0 where
+pub record Passed (P : List Content → Type 0) (cs : List Content) (all left : List InputEntry) : Type 0 where
   pub some : (r : List Content) → IsFirst P (reductions cs left) r → IsFirst P (reductions cs all) r
   pub none : NoneHas P (reductions cs left) → NoneHas P (reductions cs all)
 
-pub passed_none : (P : List Content → Type 0) (cs : List Content) (all : List Entry) → Passed P cs all all
+pub passed_none : (P : List Content → Type 0) (cs : List Content) (all : List InputEntry) → Passed P cs all all
 passed_none P cs all = record { some = λ r h. h; none = λ h. h }
 
-pub passed_more : (P : List Content → Type 0) (cs : List Content) (all left rest : List Entry) (e : Entry) → left ≡ e ∷ rest → NoneHas P (reductions_at cs e)
+pub passed_more : (P : List Content → Type 0) (cs : List Content) (all left rest : List InputEntry) (e : InputEntry) → left ≡ e ∷ rest
+    → NoneHas P (reductions_at cs e)
     → Passed P cs all left → Passed P cs all rest
 passed_more P cs all left rest e is none before =
     let here : Passed P cs all (e ∷ rest) = subst (λ xs. Passed P cs all xs) is before in
@@ -36,7 +37,7 @@ passed_more P cs all left rest e is none before =
       none = λ h. here.none (none_joined P (reductions_at cs e) (reductions cs rest) none h);
     }
 
-pub passed_found : (P : List Content → Type 0) (cs : List Content) (all left rest : List Entry) (e : Entry) (r : List Content) → left ≡ e ∷ rest
+pub passed_found : (P : List Content → Type 0) (cs : List Content) (all left rest : List InputEntry) (e : InputEntry) (r : List Content) → left ≡ e ∷ rest
     → IsFirst P (reductions_at cs e) r → Passed P cs all left → IsFirst P (reductions cs all) r
 passed_found P cs all left rest e r is found before =
     let here : Passed P cs all (e ∷ rest) = subst (λ xs. Passed P cs all xs) is before in
@@ -44,39 +45,41 @@ passed_found P cs all left rest e r is found before =
 
 -- ---- the reductions at an entry
 
-abbrev pub with_zero : List Content → Entry → List Content
+abbrev pub with_zero : List Content → InputEntry → List Content
 with_zero cs e = contents_with cs e (pos 0)
 
-abbrev pub with_half : List Content → Entry → List Content
+abbrev pub with_half : List Content → InputEntry → List Content
 with_half cs e = contents_with cs e (int_div e.number (pos 2))
 
-pub first_zero : (P : List Content → Type 0) (cs : List Content) (e : Entry) (r : List Content) → r ≡ with_zero cs e → P r → IsFirst P (reductions_at cs e) r
+pub first_zero : (P : List Content → Type 0) (cs : List Content) (e : InputEntry) (r : List Content) → r ≡ with_zero cs e → P r
+    → IsFirst P (reductions_at cs e) r
 first_zero P cs e r is h = inl (subst P is h, sym is)
 
-halves : (P : List Content → Type 0) (cs : List Content) (e : Entry) (r : List Content) (b : Bool) → b ≡ true → r ≡ with_half cs e → P r
+halves : (P : List Content → Type 0) (cs : List Content) (e : InputEntry) (r : List Content) (b : Bool) → b ≡ true → r ≡ with_half cs e → P r
     → IsFirst P (map (contents_with cs e) (cond b (int_div e.number (pos 2) ∷ []) [])) r
 halves P cs e r true on is h = inl (subst P is h, sym is)
 halves P cs e r false on is h = absurd (cc)
 
-pub first_half : (P : List Content → Type 0) (cs : List Content) (e : Entry) (r : List Content) → is_beyond_one e.number ≡ true → ¬ P (with_zero cs e)
+pub first_half : (P : List Content → Type 0) (cs : List Content) (e : InputEntry) (r : List Content) → is_beyond_one e.number ≡ true → ¬ P (with_zero cs e)
     → r ≡ with_half cs e → P r → IsFirst P (reductions_at cs e) r
 first_half P cs e r beyond none is h = inr (none, halves P cs e r (is_beyond_one e.number) beyond is h)
 
-no_halves : (P : List Content → Type 0) (cs : List Content) (e : Entry) (b : Bool) → b ≡ false
+no_halves : (P : List Content → Type 0) (cs : List Content) (e : InputEntry) (b : Bool) → b ≡ false
     → NoneHas P (map (contents_with cs e) (cond b (int_div e.number (pos 2) ∷ []) []))
 no_halves P cs e true is = absurd (cc)
 no_halves P cs e false is = tt
 
-pub none_small : (P : List Content → Type 0) (cs : List Content) (e : Entry) → is_beyond_one e.number ≡ false → ¬ P (with_zero cs e)
+pub none_small : (P : List Content → Type 0) (cs : List Content) (e : InputEntry) → is_beyond_one e.number ≡ false → ¬ P (with_zero cs e)
     → NoneHas P (reductions_at cs e)
 none_small P cs e small none = (none, no_halves P cs e (is_beyond_one e.number) small)
 
-neither_half : (P : List Content → Type 0) (cs : List Content) (e : Entry) (b : Bool) → ¬ P (with_half cs e)
+neither_half : (P : List Content → Type 0) (cs : List Content) (e : InputEntry) (b : Bool) → ¬ P (with_half cs e)
     → NoneHas P (map (contents_with cs e) (cond b (int_div e.number (pos 2) ∷ []) []))
 neither_half P cs e true none = (none, tt)
 neither_half P cs e false none = tt
 
-pub none_either : (P : List Content → Type 0) (cs : List Content) (e : Entry) → ¬ P (with_zero cs e) → ¬ P (with_half cs e) → NoneHas P (reductions_at cs e)
+pub none_either : (P : List Content → Type 0) (cs : List Content) (e : InputEntry) → ¬ P (with_zero cs e) → ¬ P (with_half cs e)
+    → NoneHas P (reductions_at cs e)
 none_either P cs e zero half = (zero, neither_half P cs e (is_beyond_one e.number) half)
 
 -- ---- there is one first

@@ -12,7 +12,7 @@ use Rattle.std.proofs.lemmas.Bool.Decides.{Decides-int_eq}
 use Rattle.fs_model.specs.Runs.{Content, Number, Entries, Emitted}
 use Rattle.fs_stores.specs.EntryLists.{listed_number, IsListing}
 use Rattle.fs_stores.proofs.Listings.{none_away, away_behind}
-use Rattle.hls_shrink.specs.declared.entries.Entry.{Entry}
+use Rattle.hls_shrink.specs.declared.entries.InputEntry.{InputEntry}
 use Rattle.hls_shrink.specs.InputEntries.{at_input, number_entries, AreArrayEntries, AreEntriesOf, AreEntries}
 use Rattle.hls_shrink.specs.Reductions.{content_with, with_number_at}
 
@@ -31,11 +31,11 @@ array_size [] = 0
 array_size (e ∷ es) = unsigned_abs e.1 + array_size es
 
 -- the sum of the absolute values of entries
-abbrev pub size : List Entry → ℕ
+abbrev pub size : List InputEntry → ℕ
 size [] = 0
 size (e ∷ es) = unsigned_abs e.number + size es
 
-size_joined : (xs ys : List Entry) → size (xs ++ ys) ≡ size xs + size ys
+size_joined : (xs ys : List InputEntry) → size (xs ++ ys) ≡ size xs + size ys
 size_joined [] ys = omega arith
 size_joined (x ∷ xs) ys = let rest = size_joined xs ys in omega arith
 
@@ -183,19 +183,20 @@ lower_listing f i z n xs ys h low =
 
 -- ---- where an entry stands
 
-no_entry : (xs : List Entry) (e : Entry) (ys : List Entry) → [] ≡ xs ++ e ∷ ys → ⊥
+no_entry : (xs : List InputEntry) (e : InputEntry) (ys : List InputEntry) → [] ≡ xs ++ e ∷ ys → ⊥
 no_entry [] e ys q = cc
 no_entry (x ∷ xs) e ys q = cc
 
-record Left (own others xs : List Entry) (e : Entry) (ys : List Entry) : Type 0 where
-  behind : List Entry
+record Left (own others xs : List InputEntry) (e : InputEntry) (ys : List InputEntry) : Type 0 where
+  behind : List InputEntry
   own_is : own ≡ xs ++ e ∷ behind
 
-record Right (own others xs : List Entry) (e : Entry) (ys : List Entry) : Type 0 where
-  before : List Entry
+record Right (own others xs : List InputEntry) (e : InputEntry) (ys : List InputEntry) : Type 0 where
+  before : List InputEntry
   others_are : others ≡ before ++ e ∷ ys
 
-side : (own others xs : List Entry) (e : Entry) (ys : List Entry) → own ++ others ≡ xs ++ e ∷ ys → Left own others xs e ys ⊎ Right own others xs e ys
+side : (own others xs : List InputEntry) (e : InputEntry) (ys : List InputEntry) → own ++ others ≡ xs ++ e ∷ ys
+    → Left own others xs e ys ⊎ Right own others xs e ys
 side [] others xs e ys q = inr (record { before = xs; others_are = q })
 side (o ∷ own) others [] e ys q = let head : o ≡ e = cc in inl (record { behind = own; own_is = ap (λ x. x ∷ own) head })
 side (o ∷ own) others (x ∷ xs) e ys q =
@@ -213,9 +214,9 @@ abbrev pub IsNearer : (n z : ℤ) → Type 0
 IsNearer n z = z ≢ pos 0 → unsigned_abs n < unsigned_abs z
 
 -- the entries of what an input is given with another number
-record LowerOf (k : ℕ) (c : Content) (e : Entry) (n : ℤ) (bound : ℕ) : Type 0 where
+record LowerOf (k : ℕ) (c : Content) (e : InputEntry) (n : ℤ) (bound : ℕ) : Type 0 where
   here : e.input ≡ k
-  lowered : List Entry
+  lowered : List InputEntry
   are : AreEntriesOf k (content_with c e.index n) lowered
   less : size lowered < bound
 
@@ -226,32 +227,33 @@ number_size k n =
       | false ↦ λ q. omega arith
     ] refl
 
-record IsNumberEntry (k : ℕ) (z : ℤ) (e : Entry) : Type 0 where
+record IsNumberEntry (k : ℕ) (z : ℤ) (e : InputEntry) : Type 0 where
   here : e.input ≡ k
   own : e.number ≡ z
   not_zero : z ≢ pos 0
 
-number_entry : (k : ℕ) (z : ℤ) (b : Bool) (xs : List Entry) (e : Entry) (ys : List Entry) → int_eq z (pos 0) ≡ b
+number_entry : (k : ℕ) (z : ℤ) (b : Bool) (xs : List InputEntry) (e : InputEntry) (ys : List InputEntry) → int_eq z (pos 0) ≡ b
     → cond b [] (at_input k (pos 0, z) ∷ []) ≡ xs ++ e ∷ ys → IsNumberEntry k z e
 number_entry k z true xs e ys t q = absurd (no_entry xs e ys q)
 number_entry k z false [] e ys t q =
     let same : at_input k (pos 0, z) ≡ e = cc in
     record {
-      here = ap (λ (x : Entry). x.input) (sym same);
-      own = ap (λ (x : Entry). x.number) (sym same);
+      here = ap (λ (x : InputEntry). x.input) (sym same);
+      own = ap (λ (x : InputEntry). x.number) (sym same);
       not_zero = λ none. false≢true (sym t ∙ (Decides-int_eq z (pos 0)).1 none);
     }
 number_entry k z false (x ∷ xs) e ys t q = let rest : [] ≡ xs ++ e ∷ ys = cc in absurd (no_entry xs e ys rest)
 
 -- the place of an entry in a listing
-record ListedAt (k : ℕ) (listing : List Pair) (e : Entry) : Type 0 where
+record ListedAt (k : ℕ) (listing : List Pair) (e : InputEntry) : Type 0 where
   before : List Pair
   pair : Pair
   after : List Pair
   split : listing ≡ before ++ pair ∷ after
   is : at_input k pair ≡ e
 
-listed_at : (k : ℕ) (listing : List Pair) (xs : List Entry) (e : Entry) (ys : List Entry) → map (at_input k) listing ≡ xs ++ e ∷ ys → ListedAt k listing e
+listed_at : (k : ℕ) (listing : List Pair) (xs : List InputEntry) (e : InputEntry) (ys : List InputEntry) → map (at_input k) listing ≡ xs ++ e ∷ ys
+    → ListedAt k listing e
 listed_at k [] [] e ys q = absurd (cc)
 listed_at k [] (x ∷ xs) e ys q = absurd (cc)
 listed_at k (p ∷ ps) [] e ys q = let same : at_input k p ≡ e = cc in record { before = []; pair = p; after = ps; split = refl; is = same }
@@ -264,12 +266,12 @@ not_zero_at : (xs : List Pair) (p : Pair) (ys : List Pair) → NoZero (xs ++ p �
 not_zero_at [] p ys h = h.0
 not_zero_at (x ∷ xs) p ys h = not_zero_at xs p ys h.1
 
-lower_array : (k : ℕ) (f : ℤ → ℤ) (own : List Entry) (e : Entry) (n : ℤ) (a : AreArrayEntries k f own) → ListedAt k a.listing e → IsNearer n e.number
+lower_array : (k : ℕ) (f : ℤ → ℤ) (own : List InputEntry) (e : InputEntry) (n : ℤ) (a : AreArrayEntries k f own) → ListedAt k a.listing e → IsNearer n e.number
     → LowerOf k (Entries f) e n (size own)
 lower_array k f own e n a at low =
     let p = at.pair in
-    let index : p.0 ≡ e.index = ap (λ (x : Entry). x.index) at.is in
-    let number : p.1 ≡ e.number = ap (λ (x : Entry). x.number) at.is in
+    let index : p.0 ≡ e.index = ap (λ (x : InputEntry). x.index) at.is in
+    let number : p.1 ≡ e.number = ap (λ (x : InputEntry). x.number) at.is in
     let lists : IsListing f (at.before ++ p ∷ at.after) = subst (λ ls. IsListing f ls) at.split a.lists in
     let near : unsigned_abs n < unsigned_abs p.1 = subst (λ z. IsNearer n z) (sym number) low (not_zero_at at.before p at.after lists.not_zero) in
     let lower = lower_listing f p.0 p.1 n at.before at.after lists near in
@@ -277,16 +279,17 @@ lower_array k f own e n a at low =
     let part = size_at k lower.listing in
     let less = lower.less in
     record {
-      here = ap (λ (x : Entry). x.input) (sym at.is);
+      here = ap (λ (x : InputEntry). x.input) (sym at.is);
       lowered = map (at_input k) lower.listing;
       are = record { listing = lower.listing; lists = subst (λ i. IsListing (put f i n) lower.listing) index lower.lists; all = refl };
       less = omega arith;
     }
 
-whole_size : (own xs : List Entry) (e : Entry) (ys : List Entry) → own ≡ xs ++ e ∷ ys → unsigned_abs e.number ≤ size own
+whole_size : (own xs : List InputEntry) (e : InputEntry) (ys : List InputEntry) → own ≡ xs ++ e ∷ ys → unsigned_abs e.number ≤ size own
 whole_size own xs e ys q = let all : size own ≡ size xs + size (e ∷ ys) = ap size q ∙ size_joined xs (e ∷ ys) in omega arith
 
-lower_of : (k : ℕ) (c : Content) (own xs : List Entry) (e : Entry) (ys : List Entry) (n : ℤ) → AreEntriesOf k c own → own ≡ xs ++ e ∷ ys → IsNearer n e.number
+lower_of : (k : ℕ) (c : Content) (own xs : List InputEntry) (e : InputEntry) (ys : List InputEntry) (n : ℤ) → AreEntriesOf k c own → own ≡ xs ++ e ∷ ys
+    → IsNearer n e.number
     → LowerOf k c e n (size own)
 lower_of k (Number z) own xs e ys n are q low =
     let own_entry = number_entry k z (int_eq z (pos 0)) xs e ys refl (sym are ∙ q) in
@@ -300,14 +303,15 @@ lower_of k (Emitted zs) own xs e ys n are q low = absurd (no_entry xs e ys (sym 
 -- ---- inputs with a number nearer to 0
 
 -- the entries of contents in order with another number where an entry is, which is m behind the first
-record Lower (k : ℕ) (cs : List Content) (e : Entry) (n : ℤ) (bound : ℕ) : Type 0 where
+record Lower (k : ℕ) (cs : List Content) (e : InputEntry) (n : ℤ) (bound : ℕ) : Type 0 where
   m : ℕ
   place : e.input ≡ k + m
-  lowered : List Entry
+  lowered : List InputEntry
   are : AreEntries k (with_number_at cs m e.index n) lowered
   less : size lowered < bound
 
-lower : (k : ℕ) (cs : List Content) (es xs : List Entry) (e : Entry) (ys : List Entry) (n : ℤ) → AreEntries k cs es → es ≡ xs ++ e ∷ ys → IsNearer n e.number
+lower : (k : ℕ) (cs : List Content) (es xs : List InputEntry) (e : InputEntry) (ys : List InputEntry) (n : ℤ) → AreEntries k cs es → es ≡ xs ++ e ∷ ys
+    → IsNearer n e.number
     → Lower k cs e n (size es)
 lower k [] es xs e ys n are q low = absurd (no_entry xs e ys (sym are ∙ q))
 lower k (c ∷ cs) es xs e ys n are q low =
@@ -340,12 +344,12 @@ lower k (c ∷ cs) es xs e ys n are q low =
     ]
 
 -- the entries of all inputs with another number where an entry is
-pub record LowerEntries (cs : List Content) (e : Entry) (n : ℤ) (bound : ℕ) : Type 0 where
-  pub lowered : List Entry
+pub record LowerEntries (cs : List Content) (e : InputEntry) (n : ℤ) (bound : ℕ) : Type 0 where
+  pub lowered : List InputEntry
   pub are : AreEntries 0 (with_number_at cs e.input e.index n) lowered
   pub less : size lowered < bound
 
-pub lower_entries : (cs : List Content) (es xs : List Entry) (e : Entry) (ys : List Entry) (n : ℤ) → AreEntries 0 cs es → es ≡ xs ++ e ∷ ys
+pub lower_entries : (cs : List Content) (es xs : List InputEntry) (e : InputEntry) (ys : List InputEntry) (n : ℤ) → AreEntries 0 cs es → es ≡ xs ++ e ∷ ys
     → IsNearer n e.number → LowerEntries cs e n (size es)
 lower_entries cs es xs e ys n are q low =
     let l = lower 0 cs es xs e ys n are q low in

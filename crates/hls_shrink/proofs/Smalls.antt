@@ -12,7 +12,7 @@ use Rattle.fs_trials.specs.Differences.{ShowsDifference}
 use Rattle.fs_trials.proofs.Given.{inputs_are}
 use Rattle.hls_shrink.specs.InputEntries.{contents_in}
 use Rattle.hls_shrink.specs.declared.shrinking.Small.{Small}
-use Rattle.hls_shrink.specs.declared.entries.Entry.{Entry}
+use Rattle.hls_shrink.specs.declared.entries.InputEntry.{InputEntry}
 use Rattle.hls_shrink.specs.Reductions.{is_beyond_one, reductions_at}
 use Rattle.hls_shrink.specs.Shrunk.{ShowDifference, IsSmall, IsFirst, NoneHas}
 use Rattle.hls_shrink.proofs.First.{with_zero, with_half, first_half, none_either}
@@ -48,7 +48,7 @@ pub none_shown : (a b : Fsmd) (limit : ℕ) (ins : InputValues) (cs : List Conte
 none_shown a b limit ins cs e f none = subst (λ x. ¬ ShowDifference a b limit x) f (subst (λ i. ¬ ShowsDifference a b i limit) (by_contents a ins e) none)
 
 -- what is found with half the number is the first reduction at an entry, where with 0 there is no difference
-pub half_found : (a b : Fsmd) (limit : ℕ) (cs : List Content) (e : Entry) (r : Result (Option Small) NoMemory) → is_beyond_one e.number ≡ true
+pub half_found : (a b : Fsmd) (limit : ℕ) (cs : List Content) (e : InputEntry) (r : Result (Option Small) NoMemory) → is_beyond_one e.number ≡ true
     → ¬ ShowDifference a b limit (with_zero cs e)
     → IfOk r (λ o. IfSome o (λ s. contents_in s.inputs ≡ with_half cs e)) → IfOk r (λ o. IfSome o (λ s. IsSmall a b limit s))
     → IfOk r (λ o. IfSome o (λ s. IsFirst (ShowDifference a b limit) (reductions_at cs e) (contents_in s.inputs)))
@@ -57,7 +57,7 @@ half_found a b limit cs e (Ok (Some s)) beyond none are small =
     first_half (ShowDifference a b limit) cs e (contents_in s.inputs) beyond none are (small_shows a b limit s small)
 half_found a b limit cs e (Err x) beyond none are small = tt
 
-pub half_none : (a b : Fsmd) (limit : ℕ) (cs : List Content) (e : Entry) (r : Result (Option Small) NoMemory) → ¬ ShowDifference a b limit (with_zero cs e)
+pub half_none : (a b : Fsmd) (limit : ℕ) (cs : List Content) (e : InputEntry) (r : Result (Option Small) NoMemory) → ¬ ShowDifference a b limit (with_zero cs e)
     → IfOk r (λ o. o ≡ None → ¬ ShowDifference a b limit (with_half cs e)) → IfOk r (λ o. o ≡ None → NoneHas (ShowDifference a b limit) (reductions_at cs e))
 half_none a b limit cs e (Ok o) none h = λ q. none_either (ShowDifference a b limit) cs e none (h q)
 half_none a b limit cs e (Err x) none h = tt

@@ -6,7 +6,7 @@ use Rattle.std.proofs.Math.Nat.{div-mul-le_self}
 use Rattle.std.proofs.lemmas.Bool.Decides.{nat_tests}
 use Rattle.fs_model.specs.Runs.{Content, Number, Entries, Emitted}
 use Rattle.fs_run_text.proofs.Listed.{listing_once}
-use Rattle.hls_shrink.specs.declared.entries.Entry.{Entry}
+use Rattle.hls_shrink.specs.declared.entries.InputEntry.{InputEntry}
 use Rattle.hls_shrink.specs.InputEntries.{at_input, AreEntriesOf, AreEntries}
 use Rattle.hls_shrink.specs.Reductions.{is_beyond_one, contents_with, reductions_at, reductions}
 use Rattle.hls_shrink.specs.Shrunk.{IsFirst, IsFirstReduction, IsLeast, EndsAfter, EndsIn}
@@ -15,12 +15,12 @@ use Rattle.hls_shrink.proofs.Lowered.{size, IsNearer, lower_entries}
 
 -- ---- contents have one list of entries
 
-entries_of_once : (k : ℕ) (c : Content) (es fs : List Entry) → AreEntriesOf k c es → AreEntriesOf k c fs → es ≡ fs
+entries_of_once : (k : ℕ) (c : Content) (es fs : List InputEntry) → AreEntriesOf k c es → AreEntriesOf k c fs → es ≡ fs
 entries_of_once k (Number z) es fs a b = a ∙ sym b
 entries_of_once k (Entries f) es fs a b = a.all ∙ ap (map (at_input k)) (listing_once f a.listing b.listing a.lists b.lists) ∙ sym b.all
 entries_of_once k (Emitted zs) es fs a b = a ∙ sym b
 
-pub entries_once : (k : ℕ) (cs : List Content) (es fs : List Entry) → AreEntries k cs es → AreEntries k cs fs → es ≡ fs
+pub entries_once : (k : ℕ) (cs : List Content) (es fs : List InputEntry) → AreEntries k cs es → AreEntries k cs fs → es ≡ fs
 entries_once k [] es fs a b = a ∙ sym b
 entries_once k (c ∷ cs) es fs a b =
     let own = entries_of_once k c a.own b.own a.of_first b.of_first in
@@ -87,18 +87,18 @@ half_nearer (negsuc n) h =
 
 -- ---- where a first reduction is
 
-record ReducedAt (cs : List Content) (e : Entry) (r : List Content) : Type 0 where
+record ReducedAt (cs : List Content) (e : InputEntry) (r : List Content) : Type 0 where
   number : ℤ
   nearer : IsNearer number e.number
   made : r ≡ contents_with cs e number
 
-reduced_half : (P : List Content → Type 0) (cs : List Content) (e : Entry) (r : List Content) (b : Bool) → is_beyond_one e.number ≡ b
+reduced_half : (P : List Content → Type 0) (cs : List Content) (e : InputEntry) (r : List Content) (b : Bool) → is_beyond_one e.number ≡ b
     → IsFirst P (map (contents_with cs e) (cond b (int_div e.number (pos 2) ∷ []) [])) r → ReducedAt cs e r
 reduced_half P cs e r true t (inl a) = record { number = int_div e.number (pos 2); nearer = λ _. half_nearer e.number t; made = sym a.1 }
 reduced_half P cs e r true t (inr b) = absurd b.1
 reduced_half P cs e r false t h = absurd h
 
-reduced_at : (P : List Content → Type 0) (cs : List Content) (e : Entry) (r : List Content) → IsFirst P (reductions_at cs e) r → ReducedAt cs e r
+reduced_at : (P : List Content → Type 0) (cs : List Content) (e : InputEntry) (r : List Content) → IsFirst P (reductions_at cs e) r → ReducedAt cs e r
 reduced_at P cs e r (inl a) = record { number = pos 0; nearer = zero_nearer e.number; made = sym a.1 }
 reduced_at P cs e r (inr b) = reduced_half P cs e r (is_beyond_one e.number) refl b.1
 
@@ -111,14 +111,14 @@ first_side P (x ∷ xs) ys r (inr b) =
       | inr d ↦ inr d
     ]
 
-record Reduced (cs : List Content) (es : List Entry) (r : List Content) : Type 0 where
-  before : List Entry
-  entry : Entry
-  after : List Entry
+record Reduced (cs : List Content) (es : List InputEntry) (r : List Content) : Type 0 where
+  before : List InputEntry
+  entry : InputEntry
+  after : List InputEntry
   split : es ≡ before ++ entry ∷ after
   at : ReducedAt cs entry r
 
-reduced : (P : List Content → Type 0) (cs : List Content) (es : List Entry) (r : List Content) → IsFirst P (reductions cs es) r → Reduced cs es r
+reduced : (P : List Content → Type 0) (cs : List Content) (es : List InputEntry) (r : List Content) → IsFirst P (reductions cs es) r → Reduced cs es r
 reduced P cs [] r h = absurd h
 reduced P cs (e ∷ es) r h =
     elim (first_side P (reductions_at cs e) (reductions cs es) r h) as (λ _. Reduced cs (e ∷ es) r) [
@@ -129,7 +129,7 @@ reduced P cs (e ∷ es) r h =
     ]
 
 -- the first reduction of contents has a lower sum
-pub smaller : (P : List Content → Type 0) (cs next : List Content) (es fs : List Entry) → AreEntries 0 cs es → IsFirst P (reductions cs es) next
+pub smaller : (P : List Content → Type 0) (cs next : List Content) (es fs : List InputEntry) → AreEntries 0 cs es → IsFirst P (reductions cs es) next
     → AreEntries 0 next fs → size fs < size es
 smaller P cs next es fs are first those =
     let r = reduced P cs es next first in

@@ -8,14 +8,14 @@ use Rattle.fs_model.specs.Runs.{Content}
 use Rattle.fs_model.specs.WellFormed.{is_well_formed}
 use Rattle.fs_stores.specs.declared.inputs.Inputs.{Inputs}
 use Rattle.fs_stores.specs.InputValues.{signatures_of, input_signatures, inputs_of}
-use Rattle.hls_shrink.specs.declared.entries.Entry.{Entry}
+use Rattle.hls_shrink.specs.declared.entries.InputEntry.{InputEntry}
 use Rattle.hls_shrink.specs.InputEntries.{AreEntries, contents_in}
 use Rattle.hls_shrink.specs.Given.{given_contents, has_no_input_port}
 use Rattle.hls_shrink.specs.Shrunk.{ShowDifference, IsLeast, EndsIn}
 
 -- contents have one list of entries
 abbrev pub OneList : Type 0
-OneList = (cs : List Content) (es fs : List Entry) → AreEntries 0 cs es → AreEntries 0 cs fs → es ≡ fs
+OneList = (cs : List Content) (es fs : List InputEntry) → AreEntries 0 cs es → AreEntries 0 cs fs → es ≡ fs
 
 -- a chain has one end
 abbrev pub OneChainEnd : Type 0

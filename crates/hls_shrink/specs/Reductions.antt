@@ -3,7 +3,7 @@ use Rattle.std.specs.Prelude.{ℕ, zero, suc, nat_lt, Bool, cond, ℤ, pos, int_
 use Rattle.std.specs.List.{flat_map}
 use Rattle.std.specs.Ordering.{int_eq}
 use Rattle.fs_model.specs.Runs.{Content, Number, Entries, Emitted}
-use Rattle.hls_shrink.specs.declared.entries.Entry.{Entry}
+use Rattle.hls_shrink.specs.declared.entries.InputEntry.{InputEntry}
 
 -- a number is beyond 1 and -1
 abbrev pub is_beyond_one : ℤ → Bool
@@ -26,13 +26,13 @@ with_number_at (c ∷ cs) zero index number = content_with c index number ∷ cs
 with_number_at (c ∷ cs) (suc input) index number = c ∷ with_number_at cs input index number
 
 -- contents with another number where an entry is
-abbrev pub contents_with : List Content → Entry → (number : ℤ) → List Content
+abbrev pub contents_with : List Content → InputEntry → (number : ℤ) → List Content
 contents_with cs e number = with_number_at cs e.input e.index number
 
 -- the reductions of contents at an entry, in order
-abbrev pub reductions_at : List Content → Entry → List (List Content)
+abbrev pub reductions_at : List Content → InputEntry → List (List Content)
 reductions_at cs e = map (contents_with cs e) (lesser e.number)
 
 -- the reductions of contents at entries, in order
-abbrev pub reductions : List Content → List Entry → List (List Content)
+abbrev pub reductions : List Content → List InputEntry → List (List Content)
 reductions cs es = flat_map (reductions_at cs) es

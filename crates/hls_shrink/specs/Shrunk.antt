@@ -6,7 +6,7 @@ use Rattle.fs_model.specs.Runs.{Content}
 use Rattle.fs_stores.specs.InputValues.{input_signatures, signatures_of, inputs_of}
 use Rattle.fs_trials.specs.Candidates.{inputs_told}
 use Rattle.fs_trials.specs.Differences.{ShowsDifference, AreApart}
-use Rattle.hls_shrink.specs.declared.entries.Entry.{Entry}
+use Rattle.hls_shrink.specs.declared.entries.InputEntry.{InputEntry}
 use Rattle.hls_shrink.specs.declared.shrinking.Small.{Small}
 use Rattle.hls_shrink.specs.InputEntries.{AreEntries}
 use Rattle.hls_shrink.specs.Reductions.{reductions}
@@ -26,13 +26,13 @@ NoneHas P ys = AllByRecursion (λ y. ¬ P y) ys
 
 -- next is the first reduction of contents with P
 pub record IsFirstReduction (P : List Content → Type 0) (cs next : List Content) : Type 0 where
-  pub entries : List Entry
+  pub entries : List InputEntry
   pub are_entries : AreEntries 0 cs entries
   pub first : IsFirst P (reductions cs entries) next
 
 -- no reduction of contents has P
 pub record IsLeast (P : List Content → Type 0) (cs : List Content) : Type 0 where
-  pub entries : List Entry
+  pub entries : List InputEntry
   pub are_entries : AreEntries 0 cs entries
   pub none : NoneHas P (reductions cs entries)
 

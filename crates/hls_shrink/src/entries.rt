@@ -17,7 +17,7 @@ use std::alloc::Global;
 /// A number of inputs that is not 0: the input, counted in order of declaration from 0, the index, which is 0 for a scalar,
 /// and the number.
 #[derive(Clone, Copy)]
-pub struct Entry {
+pub struct InputEntry {
     pub input: u32,
     pub index: i128,
     pub number: i128,
@@ -25,7 +25,7 @@ pub struct Entry {
 
 /// The numbers of a machine's inputs that are not 0, input after input, and those of an array by rising index. The only refusal
 /// is out of memory.
-pub fn entries(alloc: Global, m: &Machine, inputs: &Inputs) -> Result<Vec<Entry>, NoMemory>
+pub fn entries(alloc: Global, m: &Machine, inputs: &Inputs) -> Result<Vec<InputEntry>, NoMemory>
     requires { signatures_of inputs.now ≡ input_signatures m.now.variables }
     ensures { IfOk result (λ es. AreEntries 0 (contents_in inputs.now) es.items) }
 {
@@ -42,7 +42,7 @@ pub fn entries(alloc: Global, m: &Machine, inputs: &Inputs) -> Result<Vec<Entry>
 // Adds the numbers of an input that are not 0.
 fn add_entries(
     alloc: Global,
-    list: &mut Vec<Entry>,
+    list: &mut Vec<InputEntry>,
     input: u32,
     value: &Value,
 ) -> Result<(), NoMemory>
@@ -56,13 +56,13 @@ fn add_entries(
 }
 
 // Adds a scalar that is not 0.
-fn add_number(list: &mut Vec<Entry>, input: u32, number: &i128) -> Result<(), NoMemory>
+fn add_number(list: &mut Vec<InputEntry>, input: u32, number: &i128) -> Result<(), NoMemory>
     ensures { OnOk result (list.new.items ≡ list.old.items ++ number_entries input number.now) }
 {
     if *number == 0 {
         return Ok(());
     }
-    list.push(Entry {
+    list.push(InputEntry {
         input,
         index: 0,
         number: *number,
@@ -71,11 +71,15 @@ fn add_number(list: &mut Vec<Entry>, input: u32, number: &i128) -> Result<(), No
 }
 
 // Adds the listing of an array.
-fn add_array(list: &mut Vec<Entry>, input: u32, listing: &[(i128, i128)]) -> Result<(), NoMemory>
+fn add_array(
+    list: &mut Vec<InputEntry>,
+    input: u32,
+    listing: &[(i128, i128)],
+) -> Result<(), NoMemory>
     ensures { OnOk result (list.new.items ≡ list.old.items ++ map (at_input input) listing.now) }
 {
     for (index, number) in listing {
-        list.push(Entry {
+        list.push(InputEntry {
             input,
             index: *index,
             number: *number,
@@ -89,7 +93,7 @@ pub fn with_number(
     alloc: Global,
     m: &Machine,
     inputs: &Inputs,
-    entry: &Entry,
+    entry: &InputEntry,
     number: &i128,
 ) -> Result<Inputs, NoMemory>
     requires { signatures_of inputs.now ≡ input_signatures m.now.variables }

@@ -7,7 +7,7 @@ ghost use Rattle.hls_shrink.specs.InputEntries.{contents_in};
 ghost use Rattle.hls_shrink.specs.Reductions.{contents_with, reductions_at, reductions, is_beyond_one};
 ghost use Rattle.hls_shrink.specs.Shrunk.{ShowDifference, IsFirst, NoneHas, IsSmall};
 
-use crate::entries::{Entry, with_number};
+use crate::entries::{InputEntry, with_number};
 use crate::shrinking::Small;
 use fs_ast::machine::Machine;
 use fs_stores::inputs::Inputs;
@@ -21,7 +21,7 @@ pub fn first_reduction(
     a: &Machine,
     b: &Machine,
     inputs: &Inputs,
-    entries: &[Entry],
+    entries: &[InputEntry],
     steps: u64,
 ) -> Result<Option<Small>, NoMemory>
     requires steps { 1 ≤ steps }
@@ -49,7 +49,7 @@ fn reduce_at(
     a: &Machine,
     b: &Machine,
     inputs: &Inputs,
-    entry: &Entry,
+    entry: &InputEntry,
     steps: u64,
 ) -> Result<Option<Small>, NoMemory>
     requires steps { 1 ≤ steps }
@@ -92,7 +92,7 @@ fn try_number(
     a: &Machine,
     b: &Machine,
     inputs: &Inputs,
-    entry: &Entry,
+    entry: &InputEntry,
     number: &i128,
     steps: u64,
 ) -> Result<Option<Small>, NoMemory>
