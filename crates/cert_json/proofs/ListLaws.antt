@@ -15,7 +15,7 @@ use Rattle.cert_values.proofs.Views.{items_len-items_view}
 use Rattle.cert_values.specs.Shape.{are_texts, is_node, are_nodes}
 use Rattle.cert_json.specs.Trim.{first_items, short_items, short_list, trim, trim_items}
 use Rattle.cert_json.specs.declared.level.Level.{Level}
-use Rattle.cert_json.specs.Lists.{join_items, add_item, add_below, most_items, kept_items, IsShort, settled, list_of}
+use Rattle.cert_json.specs.Lists.{join_items, add_item, add_below, most_items, kept_items, IsShort, final_list, list_of}
 use Rattle.cert_json.specs.declared.short_list.ShortList.{ShortList}
 use Rattle.cert_json.proofs.TrimLaws.{node_no_text, text_no_node}
 
@@ -134,7 +134,7 @@ settled_at false true es e = absurd (false≢true (sym e))
 settled_at false false es e = refl
 
 pub settled_list : (old new : ShortList) (texts : Bool) → new.all_texts ≡ (old.all_texts && texts) → new.all_nodes ≡ false → new.items ≡ old.items
-    → list_of new ≡ settled old texts
+    → list_of new ≡ final_list old texts
 settled_list old new texts e none same =
     let es : Items = items_view old.items.items in
     let kept : items_view new.items.items ≡ es = ap (λ v. items_view v.items) same in
@@ -167,7 +167,7 @@ null_joined ds rest false true e f none = absurd (cc none)
 null_joined ds rest false false e f none = rw (no_texts ds rest (sym e), no_nodes ds rest (sym f))
 
 pub settled_none : (ds rest : Items) (l : ShortList) → IsShort ds l → l.all_texts ≡ false → l.all_nodes ≡ false
-    → settled l (are_texts rest) ≡ short_list (join_items ds rest)
+    → final_list l (are_texts rest) ≡ short_list (join_items ds rest)
 settled_none ds rest l h t n = rw t (null_joined ds rest l.all_texts l.all_nodes h.texts h.nodes (rw (t, n) refl))
 
 -- ---- a list of as many texts as are kept, and whatever follows
@@ -199,7 +199,7 @@ full_at ds rest false e texts long =
     rw (some, texts_no_nodes_behind ds rest texts (omega (arith, long)))
 
 pub settled_full : (ds rest : Items) (l : ShortList) → IsShort ds l → l.all_texts ≡ true → 65 ≤ length l.items.items
-    → settled l (are_texts rest) ≡ short_list (join_items ds rest)
+    → final_list l (are_texts rest) ≡ short_list (join_items ds rest)
 settled_full ds rest l h t long =
     let texts : are_texts ds ≡ true = sym h.texts ∙ t in
     let kept : items_view l.items.items ≡ first_items 65 ds = h.items ∙ rw texts refl in

@@ -38,8 +38,8 @@ pub record IsShort (ds : Items) (l : ShortList) : Type 0 where
   pub items : items_view l.items.items ≡ short_items ds
 
 -- what becomes of a list of which what follows changes nothing, but whether all are texts
-abbrev pub settled : ShortList → Bool → Data
-settled l texts = if l.all_texts && texts then array (items_view l.items.items) else null
+abbrev pub final_list : ShortList → Bool → Data
+final_list l texts = if l.all_texts && texts then array (items_view l.items.items) else null
 
 -- the list of what is kept, or null where it is neither one of texts nor one of nodes
 abbrev pub list_of : ShortList → Data

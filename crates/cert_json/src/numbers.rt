@@ -15,7 +15,7 @@ fn nearest(is_negative: bool, numeral: &Numeral<'_>) -> Option<Number>
     Number::from_f64(numeral.to_float::<f64>(is_negative))
 }
 
-fn unsigned(numeral: &Numeral<'_>) -> Option<Number>
+fn number_without_minus(numeral: &Numeral<'_>) -> Option<Number>
     ensures { option_map number_view result ≡ number_from false numeral.now }
 {
     match numeral.to_u64() {
@@ -24,7 +24,7 @@ fn unsigned(numeral: &Numeral<'_>) -> Option<Number>
     }
 }
 
-fn signed(numeral: &Numeral<'_>) -> Option<Number>
+fn number_with_minus(numeral: &Numeral<'_>) -> Option<Number>
     ensures { option_map number_view result ≡ number_from true numeral.now }
 {
     if let Some(n) = numeral.to_i64(true) {
@@ -48,9 +48,9 @@ fn number_of_parts(bytes: &[u8]) -> Option<Number>
     ensures { option_map number_view result ≡ number_in bytes.now }
 {
     if has_minus(bytes) {
-        signed(&Numeral::scan(&bytes[1..]))
+        number_with_minus(&Numeral::scan(&bytes[1..]))
     } else {
-        unsigned(&Numeral::scan(bytes))
+        number_without_minus(&Numeral::scan(bytes))
     }
 }
 

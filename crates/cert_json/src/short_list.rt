@@ -7,7 +7,7 @@ ghost use Rattle.serde_json.specs.Find.{as_str};
 ghost use Rattle.cert_values.specs.View.{view, items_view};
 ghost use Rattle.cert_values.specs.Shape.{is_node as is_node_in, are_texts};
 ghost use Rattle.cert_json.specs.Trim.{short_list};
-ghost use Rattle.cert_json.specs.Lists.{IsShort, join_items, add_item, add_below, most_items, kept_items, settled, list_of};
+ghost use Rattle.cert_json.specs.Lists.{IsShort, join_items, add_item, add_below, most_items, kept_items, final_list, list_of};
 
 use cert_values::shape::is_node;
 use cert_values::value::Value;
@@ -90,7 +90,7 @@ pub fn add_to_list<'a>(list: &mut ShortList<'a>, value: Value<'a>) -> Result<(),
 pub fn is_settled(list: &ShortList<'_>) -> bool
     ensures { IsTrue result
         → (ds rest : Items)
-        → IsShort ds list.now → settled list.now (are_texts rest) ≡ short_list (join_items ds rest) }
+        → IsShort ds list.now → final_list list.now (are_texts rest) ≡ short_list (join_items ds rest) }
 {
     if list.all_texts {
         list.items.len() >= 65

@@ -8,7 +8,7 @@ use Rattle.cert_values.specs.View.{view}
 use Rattle.cert_values.specs.Shape.{are_texts}
 use Rattle.cert_json.specs.Trim.{trim_items, trim_members, short_list, below, exceeds}
 use Rattle.cert_json.specs.Objects.{IsShortObject, object_of}
-use Rattle.cert_json.specs.Lists.{join_items, add_item, IsShort, settled, list_of}
+use Rattle.cert_json.specs.Lists.{join_items, add_item, IsShort, final_list, list_of}
 use Rattle.cert_json.specs.Tokens.{data_of}
 use Rattle.cert_json.specs.declared.trim.Fault.TheVariants.{NotJson, Again}
 use Rattle.cert_json.proofs.TrimLaws.{trim-are_texts}
@@ -190,7 +190,7 @@ read_items-returns-then-is_settled-clause-ok t c =
       l.invariant.3 ∙ ap (parse_map (join_items ds)) turn ∙ one_more_item ds d (converted of_items (items p (n - 1) r))
           ∙ ap (parse_map (join_items more)) (left.1 (n - 1) enough),
       settled_list c.add_to_list.new.list c.settle.new.list c.in_ok-texts.texts c.settle.ensures.texts c.settle.ensures.nodes c.settle.ensures.items
-          ∙ ap (settled c.add_to_list.new.list) texts
+          ∙ ap (final_list c.add_to_list.new.list) texts
           ∙ c.if-is_settled.ensures refl (trim_items level more) (trim_items level left.0) short
           ∙ ap short_list (sym (trim-join_items level more left.0)),
     )
