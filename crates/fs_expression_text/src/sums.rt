@@ -76,15 +76,15 @@ fn factor(alloc: Global, tokens: &[Token]) -> Result<(Expr<Name>, &[Token]), Rea
             let name = name.try_clone(alloc)?;
             variable(alloc, name, rest)
         }
-        Some(TokenKind::Minus) => negated(alloc, tokens),
-        Some(TokenKind::OpenParen) => grouped(alloc, tokens),
+        Some(TokenKind::Minus) => factor_after_minus(alloc, tokens),
+        Some(TokenKind::OpenParen) => sum_in_parentheses(alloc, tokens),
         _ => Err(refuse(tokens)),
     }
 }
 
 // A factor behind a sign.
 #[cycle(sums)]
-fn negated(alloc: Global, tokens: &[Token]) -> Result<(Expr<Name>, &[Token]), ReadError>
+fn factor_after_minus(alloc: Global, tokens: &[Token]) -> Result<(Expr<Name>, &[Token]), ReadError>
     requires { kind_at tokens.now ≡ Some Minus }
     ensures goes { (k : FactorContext) → ParsesOn result (parse_expression tokens.now (at_factor k))
         (λ x. parse_expression x.1.now (factor_done (named_term x.0) k)) }
@@ -98,7 +98,7 @@ fn negated(alloc: Global, tokens: &[Token]) -> Result<(Expr<Name>, &[Token]), Re
 
 // A sum in parentheses.
 #[cycle(sums)]
-fn grouped(alloc: Global, tokens: &[Token]) -> Result<(Expr<Name>, &[Token]), ReadError>
+fn sum_in_parentheses(alloc: Global, tokens: &[Token]) -> Result<(Expr<Name>, &[Token]), ReadError>
     requires { kind_at tokens.now ≡ Some OpenParen }
     ensures goes { (k : FactorContext) → ParsesOn result (parse_expression tokens.now (at_factor k))
         (λ x. parse_expression x.1.now (factor_done (named_term x.0) k)) }
@@ -125,7 +125,7 @@ fn variable(
     match front(tokens) {
         Some(TokenKind::OpenBracket) => {
             let rest = accept(tokens)?;
-            indexed(alloc, name, rest)
+            element_after_bracket(alloc, name, rest)
         }
         _ => Ok((Expr::Var(name), tokens)),
     }
@@ -133,7 +133,11 @@ fn variable(
 
 // An element of an array, after the bracket that opens its index.
 #[cycle(sums)]
-fn indexed(alloc: Global, name: Name, tokens: &[Token]) -> Result<(Expr<Name>, &[Token]), ReadError>
+fn element_after_bracket(
+    alloc: Global,
+    name: Name,
+    tokens: &[Token],
+) -> Result<(Expr<Name>, &[Token]), ReadError>
     ensures goes { (k : FactorContext) → ParsesOn result (parse_expression tokens.now (at_sum (index name k)))
         (λ x. parse_expression x.1.now (factor_done (named_term x.0) k)) }
     ensures shorter { IfOk result (λ x. length x.1.now < length tokens.now) }

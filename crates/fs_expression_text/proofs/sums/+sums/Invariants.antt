@@ -9,8 +9,8 @@ decreases-factor l = 6 * length l.tokens.now + 1
 abbrev pub decreases-variable : goal.decreases-variable
 decreases-variable l = 6 * length l.tokens.now
 
-abbrev pub decreases-indexed : goal.decreases-indexed
-decreases-indexed l = 6 * length l.tokens.now + 5
+abbrev pub decreases-element_after_bracket : goal.decreases-element_after_bracket
+decreases-element_after_bracket l = 6 * length l.tokens.now + 5
 
 abbrev pub decreases-product : goal.decreases-product
 decreases-product l = 6 * length l.tokens.now + 2
@@ -42,8 +42,8 @@ decreases-further_factor l = 6 * length l.tokens.now
 abbrev pub decreases-further_operand : goal.decreases-further_operand
 decreases-further_operand l = 6 * length l.tokens.now
 
-abbrev pub decreases-negated : goal.decreases-negated
-decreases-negated l = 6 * length l.tokens.now
+abbrev pub decreases-factor_after_minus : goal.decreases-factor_after_minus
+decreases-factor_after_minus l = 6 * length l.tokens.now
 
-abbrev pub decreases-grouped : goal.decreases-grouped
-decreases-grouped l = 6 * length l.tokens.now
+abbrev pub decreases-sum_in_parentheses : goal.decreases-sum_in_parentheses
+decreases-sum_in_parentheses l = 6 * length l.tokens.now
