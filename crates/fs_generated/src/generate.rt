@@ -35,11 +35,11 @@ fn machine(alloc: Global, side: Side, n: u32) -> Result<Machine, NoMemory>
     ensures { IfOk result (λ m. m ≡ machine_of (source (round_of side) n)) }
 {
     let parts = parts(alloc, states(alloc, side, n)?)?;
-    built(alloc, &parts)
+    build_machine(alloc, &parts)
 }
 
 // The machine of parts that break no rule.
-fn built(alloc: Global, parts: &Parts) -> Result<Machine, NoMemory>
+fn build_machine(alloc: Global, parts: &Parts) -> Result<Machine, NoMemory>
     requires formed { IsTrue (is_well_formed (source_of parts.now)) }
     requires lawful { BreaksNoRule (source_of parts.now) }
     ensures { IfOk result (λ m. m ≡ machine_of (source_of parts.now)) }

@@ -170,7 +170,7 @@ fn body(alloc: Global, k: u32) -> Result<RawState, NoMemory>
 }
 
 // The state that returns.
-fn last(alloc: Global, n: u32) -> Result<RawState, NoMemory>
+fn last_state(alloc: Global, n: u32) -> Result<RawState, NoMemory>
     ensures { IfOk result (λ s. source_state_of s ≡ last_state n) }
 {
     let name = entry_name(alloc, n)?;
@@ -218,5 +218,5 @@ pub fn states(alloc: Global, side: Side, n: u32) -> Result<Vec<RawState>, NoMemo
         let mut round = round(alloc, side, k)?;
         out.append(&mut round)?;
     }
-    with_last(out, last(alloc, n)?)
+    with_last(out, last_state(alloc, n)?)
 }

@@ -1,5 +1,5 @@
 use Rattle.fs_model.specs.View.{source_of}
-use Rattle.fs_generated.proofs.generate.built.Goals as goal
+use Rattle.fs_generated.proofs.generate.build_machine.Goals as goal
 use Rattle.fs_rules.proofs.Unbroken.{unbroken}
 
 pub unreachable-requires : goal.unreachable-requires
