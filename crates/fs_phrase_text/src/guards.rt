@@ -64,7 +64,7 @@ fn close_brace(tokens: &[Token]) -> Result<&[Token], ReadError>
 
 // A guard in braces, after the opening one.
 #[cycle(guards)]
-fn braced(alloc: Global, tokens: &[Token]) -> Result<(Guard, &[Token]), ReadError>
+fn guard_in_braces(alloc: Global, tokens: &[Token]) -> Result<(Guard, &[Token]), ReadError>
     ensures goes { (k : UnitContext) → ParsesOn result (parse_expression tokens.now (at_guard (braces k)))
         (λ x. parse_expression x.1.now (unit_done (named_guard x.0) k)) }
     ensures shorter { IfOk result (λ x. length x.1.now < length tokens.now) }
@@ -81,10 +81,10 @@ fn unit(alloc: Global, tokens: &[Token]) -> Result<(Guard, &[Token]), ReadError>
     ensures shorter { IfOk result (λ x. length x.1.now < length tokens.now) }
 {
     match front(tokens) {
-        Some(TokenKind::Bang) => negated(alloc, tokens),
+        Some(TokenKind::Bang) => unit_after_bang(alloc, tokens),
         Some(TokenKind::OpenBrace) => {
             let rest = accept(tokens)?;
-            braced(alloc, rest)
+            guard_in_braces(alloc, rest)
         }
         _ => literal(alloc, tokens),
     }
@@ -92,7 +92,7 @@ fn unit(alloc: Global, tokens: &[Token]) -> Result<(Guard, &[Token]), ReadError>
 
 // A unit behind `!`.
 #[cycle(guards)]
-fn negated(alloc: Global, tokens: &[Token]) -> Result<(Guard, &[Token]), ReadError>
+fn unit_after_bang(alloc: Global, tokens: &[Token]) -> Result<(Guard, &[Token]), ReadError>
     requires { kind_at tokens.now ≡ Some Bang }
     ensures goes { (k : UnitContext) → ParsesOn result (parse_expression tokens.now (at_unit k))
         (λ x. parse_expression x.1.now (unit_done (named_guard x.0) k)) }

@@ -6,8 +6,8 @@ use Rattle.fs_phrase_text.proofs.guards.+guards.Given as goal
 abbrev pub decreases-unit : goal.decreases-unit
 decreases-unit l = 7 * length l.tokens.now + 1
 
-abbrev pub decreases-braced : goal.decreases-braced
-decreases-braced l = 7 * length l.tokens.now + 5
+abbrev pub decreases-guard_in_braces : goal.decreases-guard_in_braces
+decreases-guard_in_braces l = 7 * length l.tokens.now + 5
 
 abbrev pub decreases-and_unit : goal.decreases-and_unit
 decreases-and_unit l = 7 * length l.tokens.now
@@ -39,5 +39,5 @@ invariant-guard-each l = ((k : GuardContext) → parse_expression l.tokens (at_g
 abbrev pub decreases-guard-each : goal.decreases-guard-each
 decreases-guard-each l = length l.rest
 
-abbrev pub decreases-negated : goal.decreases-negated
-decreases-negated l = 7 * length l.tokens.now
+abbrev pub decreases-unit_after_bang : goal.decreases-unit_after_bang
+decreases-unit_after_bang l = 7 * length l.tokens.now
