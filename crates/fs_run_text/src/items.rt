@@ -18,7 +18,7 @@ use fs_stores::values::Value;
 use std::alloc::Global;
 
 // What the output of a name holds, of values in order of the machine's outputs. Takes no memory.
-pub(crate) fn held<'a>(m: &Machine, outputs: &'a [Value], name: &Name) -> Option<&'a Value>
+pub(crate) fn output_value<'a>(m: &Machine, outputs: &'a [Value], name: &Name) -> Option<&'a Value>
     ensures { option_map (λ v. content_of v.now) result ≡ told_by m.now outputs.now name.now }
 {
     let mut rest = outputs;
@@ -90,7 +90,7 @@ fn add_item(
     if !variable.role.is_output() {
         return Ok(());
     }
-    match held(m, outputs, &variable.name) {
+    match output_value(m, outputs, &variable.name) {
         Some(value) => push(items, item(alloc, &variable.name, value)?),
         None => Ok(()),
     }

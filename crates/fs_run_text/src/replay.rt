@@ -9,7 +9,7 @@ ghost use Rattle.fs_runs.specs.Outcomes.{output_names, told_by, HoldsEach};
 ghost use Rattle.fs_run_text.specs.ItemTexts.{AgreeOnNames, SameOutputs};
 ghost use Rattle.fs_run_text.specs.EndTexts.{IsReplayText, replay_text, side_line, after_space, verdict_line};
 
-use crate::items::{held, items};
+use crate::items::{items, output_value};
 use crate::memory::NoMemory;
 use crate::shown::{append, join_with_commas};
 use fs_ast::machine::Machine;
@@ -107,8 +107,8 @@ fn same_output(
     if !variable.role.is_output() {
         return Ok(true);
     }
-    let left_value = held(left, lefts, &variable.name);
-    let right_value = held(right, rights, &variable.name);
+    let left_value = output_value(left, lefts, &variable.name);
+    let right_value = output_value(right, rights, &variable.name);
     same_content(alloc, left_value, right_value)
 }
 
