@@ -113,7 +113,7 @@ fn element(
 
 // A destination, after its name, up to the value.
 #[tactic(auto, using(crate::proofs::Steps::scalar_ends))]
-fn indexed(
+fn destination_after_name(
     alloc: Global,
     name: Name,
     tokens: &[Token],
@@ -136,7 +136,7 @@ fn assigned_place(alloc: Global, tokens: &[Token]) -> Result<(Destination, &[Tok
     ensures shorter { IfOk result (λ x. length x.1.now < length tokens.now) }
 {
     let (name, rest) = name(alloc, tokens)?;
-    indexed(alloc, name, rest)
+    destination_after_name(alloc, name, rest)
 }
 
 // The word `emit`, which can follow in format 2 alone.
@@ -316,7 +316,7 @@ fn goto(tokens: &[Token]) -> Result<&[Token], ReadError>
 }
 
 // The guard of a line and the word `goto`, after `when`.
-fn guarded(alloc: Global, tokens: &[Token]) -> Result<(Option<Guard>, &[Token]), ReadError>
+fn guard_and_goto(alloc: Global, tokens: &[Token]) -> Result<(Option<Guard>, &[Token]), ReadError>
     ensures goes { (d : OpenState) (n : ℕ)
         → ParsesOn result (reading tokens.now (at_guard (grammar.transition_guard d n)))
         (λ x. reading x.1.now (at_target d n (option_map named_guard x.0))) }
@@ -336,7 +336,7 @@ fn condition(alloc: Global, tokens: &[Token]) -> Result<(Option<Guard>, &[Token]
     match front(tokens) {
         Some(TokenKind::When) => {
             let rest = accept(tokens)?;
-            guarded(alloc, rest)
+            guard_and_goto(alloc, rest)
         }
         Some(TokenKind::Goto) => join(None, accept(tokens)),
         _ => Err(refuse(tokens)),

@@ -18,12 +18,12 @@ returns-in_err-name-clause-goes c =
 pub returns-clause-goes : goal.returns-clause-goes
 returns-clause-goes c =
     let ts = c.args.tokens.now in
-    λ o. goes_after c.indexed.result _ (name_assignment ts o c.requires
-    ∙ ap (λ q. q >>= λ x. reading x.1 (after_assignment_name o x.0)) c.in_ok-name.ensures) (c.indexed.ensures.goes o)
+    λ o. goes_after c.destination_after_name.result _ (name_assignment ts o c.requires
+    ∙ ap (λ q. q >>= λ x. reading x.1 (after_assignment_name o x.0)) c.in_ok-name.ensures) (c.destination_after_name.ensures.goes o)
 
 pub returns-clause-shorter : goal.returns-clause-shorter
 returns-clause-shorter c =
     let ts = c.args.tokens.now in
     let rest = c.in_ok-name.rest.now in
-    IfOk-weaker c.indexed.result (λ x. length x.1.now < length rest) (λ x. length x.1.now < length ts)
-    (λ x h. omega (arith, h, name_shorter ts rest c.in_ok-name.name c.in_ok-name.ensures)) c.indexed.ensures.shorter
+    IfOk-weaker c.destination_after_name.result (λ x. length x.1.now < length rest) (λ x. length x.1.now < length ts)
+    (λ x h. omega (arith, h, name_shorter ts rest c.in_ok-name.name c.in_ok-name.ensures)) c.destination_after_name.ensures.shorter

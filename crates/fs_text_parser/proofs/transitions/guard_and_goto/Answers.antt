@@ -2,7 +2,7 @@ use Rattle.std.proofs.Common.{Some, option_map, arith}
 use Rattle.fs_model.specs.View.{named_guard}
 use Rattle.fs_grammar.specs.Grammar.{reading, at_target, transition_guard}
 use Rattle.fs_phrase_text.proofs.Joined.{joined, if_joined}
-use Rattle.fs_text_parser.proofs.transitions.guarded.Goals as goal
+use Rattle.fs_text_parser.proofs.transitions.guard_and_goto.Goals as goal
 
 pub returns-clause-goes : goal.returns-clause-goes
 returns-clause-goes c =

@@ -5,7 +5,7 @@ use Rattle.fs_phrase_text.proofs.Joined.{joined, if_joined}
 use Rattle.fs_text_parser.specs.Destinations.{destination_of}
 use Rattle.fs_text_parser.specs.declared.transitions.Destination.TheVariants.{Scalar}
 use Rattle.fs_text_parser.proofs.Steps.{scalar_ends}
-use Rattle.fs_text_parser.proofs.transitions.indexed.Goals as goal
+use Rattle.fs_text_parser.proofs.transitions.destination_after_name.Goals as goal
 
 pub returns-in_default-clause-goes : goal.returns-in_default-clause-goes
 returns-in_default-clause-goes c =
