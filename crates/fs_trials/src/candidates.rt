@@ -109,14 +109,14 @@ impl Candidates {
         ensures { IfOk result (λ e. (i : ℤ) → entry_number e i ≡ candidate_array (candidate self.now.pool.items j) k i) }
     {
         let mut entries = Entries::new(alloc);
-        for i in 0..self.filled(j) {
+        for i in 0..self.filled_count(j) {
             entries.set(i128::from(i), self.number(j, k, i))?;
         }
         Ok(entries)
     }
 
     // How many indices of an array candidate j gives a number.
-    fn filled(&self, j: u64) -> u64
+    fn filled_count(&self, j: u64) -> u64
         ensures count { result ≡ (candidate self.now.pool.items j).filled }
         ensures bound { result ≤ 32 }
     {
