@@ -4,13 +4,13 @@ use Rattle.base_laws.specs.Division.{quotient, remainder}
 use Rattle.fs_model.specs.Terms.{Term, Number, Variable, Read, Sum, Difference, Product, Quotient, Remainder, Negative}
 
 -- what the operator of a term makes of the values of its operands, and 0 where it has not two
-abbrev pub combined : Term ℕ → (left right : ℤ) → ℤ
-combined (Number n) x y = pos 0
-combined (Variable v) x y = pos 0
-combined (Read v i) x y = pos 0
-combined (Sum a b) x y = x +ℤ y
-combined (Difference a b) x y = x -ℤ y
-combined (Product a b) x y = x *ℤ y
-combined (Quotient a b) x y = quotient x y
-combined (Remainder a b) x y = remainder x y
-combined (Negative a) x y = pos 0
+abbrev pub operation_value : Term ℕ → (left right : ℤ) → ℤ
+operation_value (Number n) x y = pos 0
+operation_value (Variable v) x y = pos 0
+operation_value (Read v i) x y = pos 0
+operation_value (Sum a b) x y = x +ℤ y
+operation_value (Difference a b) x y = x -ℤ y
+operation_value (Product a b) x y = x *ℤ y
+operation_value (Quotient a b) x y = quotient x y
+operation_value (Remainder a b) x y = remainder x y
+operation_value (Negative a) x y = pos 0

@@ -7,7 +7,7 @@ ghost use Rattle.fs_model.specs.Meaning.{value};
 ghost use Rattle.fs_model.specs.View.{term_of};
 ghost use Rattle.fs_stores.specs.Values.{value_number, entry_in, store_from};
 ghost use Rattle.fs_stores.specs.Reads.{EachFits};
-ghost use Rattle.fs_stores.specs.Operations.{combined};
+ghost use Rattle.fs_stores.specs.Operations.{operation_value};
 
 use crate::values::Value;
 use base_laws::{quotient, remainder};
@@ -36,7 +36,8 @@ fn element(values: &[Value], x: VarId, i: i128) -> i128
 // What the operator of an expression makes of two values, and `None` exactly where that lies outside 128 bits. It is 0 where
 // the expression has not two operands.
 fn combine(e: &Expr<VarId>, left: i128, right: i128) -> Option<i128>
-    ensures { SomeIff result (FitsSigned w128 (combined (term_of e.now) left right)) (combined (term_of e.now) left right) }
+    ensures { SomeIff result (FitsSigned w128 (operation_value (term_of e.now) left right))
+        (operation_value (term_of e.now) left right) }
 {
     match e {
         Expr::Add(..) => left.checked_add(right),
