@@ -18,16 +18,16 @@ use Rattle.sym_paths.specs.ValuationStores.{at}
 use Rattle.sym_paths.specs.Sequences.{each}
 
 -- what the operator of a term makes of its operands, and 0 where it has not two
-abbrev pub combined : Term ℕ → (left right : Polynomial) → Computed Polynomial
-combined (Number n) p q = number (pos 0)
-combined (Variable x) p q = number (pos 0)
-combined (Read x i) p q = number (pos 0)
-combined (Sum a b) p q = normal_sum p q
-combined (Difference a b) p q = normal_difference p q
-combined (Product a b) p q = normal_product p q
-combined (Quotient a b) p q = quotient_of p q
-combined (Remainder a b) p q = remainder_of p q
-combined (Negative a) p q = number (pos 0)
+abbrev pub normal_operation : Term ℕ → (left right : Polynomial) → Computed Polynomial
+normal_operation (Number n) p q = number (pos 0)
+normal_operation (Variable x) p q = number (pos 0)
+normal_operation (Read x i) p q = number (pos 0)
+normal_operation (Sum a b) p q = normal_sum p q
+normal_operation (Difference a b) p q = normal_difference p q
+normal_operation (Product a b) p q = normal_product p q
+normal_operation (Quotient a b) p q = quotient_of p q
+normal_operation (Remainder a b) p q = remainder_of p q
+normal_operation (Negative a) p q = number (pos 0)
 
 -- the left operand, the right operand, and then the operation; of a read the index; a variable is its vector's value
 abbrev pub evaluate : Side → List (Pos × Nf) → Term ℕ → Computed Polynomial

@@ -8,7 +8,7 @@ ghost use Rattle.nf_vectors.specs.Vectors.{array_form};
 ghost use Rattle.nf_rel.specs.View.{literal_in};
 ghost use Rattle.sym_paths.specs.ValuationStores.{at as position_of};
 ghost use Rattle.sym_paths.specs.Sequences.{each};
-ghost use Rattle.sym_paths.specs.Evaluation.{evaluate as evaluated, evaluate_literal as evaluated_literal, combined};
+ghost use Rattle.sym_paths.specs.Evaluation.{evaluate as evaluated, evaluate_literal as evaluated_literal, normal_operation};
 ghost use Rattle.sym_paths.specs.View.{answer_in_data};
 
 use fs_model::parts::{Expr, Lit, VarId};
@@ -41,7 +41,7 @@ fn read_at(alloc: Global, v: &Vector, position: &Pos, index: &Poly) -> Result<Po
 
 // What the operator of an expression makes of two numbers. It is 0 where the expression has not two operands.
 fn combine(alloc: Global, e: &Expr<VarId>, left: &Poly, right: &Poly) -> Result<Poly, NfStop>
-    ensures { Answers result (combined (term_of e.now) left.now right.now) }
+    ensures { Answers result (normal_operation (term_of e.now) left.now right.now) }
 {
     match e {
         Expr::Add(..) => add(alloc, left, right),
