@@ -12,7 +12,7 @@ use Rattle.fs_variable_sets.specs.declared.VariableSet.{VariableSet}
 use Rattle.fs_variable_sets.specs.Sets.{has_variable}
 use Rattle.fs_variable_sets.proofs.Bits.{has_none, more_bits}
 use Rattle.fs_variable_sets.specs.declared.flows.Flow.{Flow}
-use Rattle.fs_variable_sets.specs.Flows.{set_at, has_at, live_before, stepped, flow_weight, AreLive, IsLiveIn, reading, passing, IsFixedPoint, IsInside}
+use Rattle.fs_variable_sets.specs.Flows.{set_at, has_at, live_before, live_with_flow, flow_weight, AreLive, IsLiveIn, reading, passing, IsFixedPoint, IsInside}
 
 abbrev nothing : VariableSet
 nothing = record { bits = 0 }
@@ -48,7 +48,7 @@ strict a c h f = omega (arith, h, f)
 -- what a step does
 pub record Grown (reset : ℕ) (live : List VariableSet) (f : Flow) (new : List VariableSet) (changed : Bool) : Type 0 where
   pub count : length new ≡ length live
-  pub stepped : (q x : ℕ) → has_at new q x ≡ stepped reset live f q x
+  pub stepped : (q x : ℕ) → has_at new q x ≡ live_with_flow reset live f q x
   pub settled : changed ≡ false → (new ≡ live) × IsFixedPoint reset live f
   pub grows : changed ≡ true → flow_weight new < flow_weight live
 
@@ -65,7 +65,7 @@ module _ (reset : ℕ) (live : List VariableSet) (f : Flow) (old more new : Vari
       (ap (λ s. has_variable s x) (get_or-set_same live f.from new nothing inside.0) ∙ own x)
   step_by q x false e = ap (λ s. has_variable s x) (get_or-set_other live f.from q new nothing (eqb-false q f.from e)) ∙ sym (or_false (has_at live q x))
 
-  grown_step : (q x : ℕ) → has_at (slice_set live f.from new) q x ≡ stepped reset live f q x
+  grown_step : (q x : ℕ) → has_at (slice_set live f.from new) q x ≡ live_with_flow reset live f q x
   grown_step q x = step_by q x (q == f.from) refl
 
   same_sets : new.bits ≡ old.bits → slice_set live f.from new ≡ live
@@ -88,7 +88,7 @@ module _ (reset : ℕ) (live : List VariableSet) (f : Flow) (old more new : Vari
 
 -- ---- a step adds what is live
 module _ (flows : List Flow) (reset : ℕ) (live new : List VariableSet) (f : Flow) (listed : Contains flows f)
-    (is : (q x : ℕ) → has_at new q x ≡ stepped reset live f q x) (sound : AreLive flows reset live) where
+    (is : (q x : ℕ) → has_at new q x ≡ live_with_flow reset live f q x) (sound : AreLive flows reset live) where
   before_live : (x : ℕ) (t : Bool) → (f.target == reset) ≡ t → before_by t live f x ≡ true → IsLiveIn flows reset x f.from
   before_live x true e h = reading f listed h
   before_live x false e h = elim (or_cases (has_variable f.reads x) (has_at live f.target x && not (has_variable f.writes x)) h) [
@@ -118,7 +118,7 @@ Kept flows reset first live changed i =
 
 module _ (flows : List Flow) (reset : ℕ) (first live new : List VariableSet) (i : ℕ) (d : Flow) (inside : i < length flows)
     (all : All (IsInside (length first)) flows) (count : length new ≡ length live)
-    (is : (q x : ℕ) → has_at new q x ≡ stepped reset live (slice_index_or flows i d) q x) where
+    (is : (q x : ℕ) → has_at new q x ≡ live_with_flow reset live (slice_index_or flows i d) q x) where
   sound_next : AreLive flows reset live → AreLive flows reset new
   sound_next s = step_sound flows reset live new (slice_index_or flows i d) (Contains-get_or flows i d inside) is s
 

@@ -24,8 +24,8 @@ live_before reset live f = cond (f.target == reset) (has_variable f.reads)
     (λ x. has_variable f.reads x || (has_at live f.target x && not (has_variable f.writes x)))
 
 -- what is live at states, once that is added
-abbrev pub stepped : ℕ → List VariableSet → Flow → ℕ → ℕ → Bool
-stepped reset live f q x = has_at live q x || (q == f.from && live_before reset live f x)
+abbrev pub live_with_flow : ℕ → List VariableSet → Flow → ℕ → ℕ → Bool
+live_with_flow reset live f q x = has_at live q x || (q == f.from && live_before reset live f x)
 
 -- nothing more is live by a branch
 abbrev pub IsFixedPoint : ℕ → List VariableSet → Flow → Type 0

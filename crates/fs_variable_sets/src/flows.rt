@@ -2,7 +2,7 @@
 
 ghost use Rattle.std.specs.Prelude.{◌≡◌, ◌<◌, ℕ, true, false, length, All, IfOk};
 ghost use Rattle.fs_variable_sets.specs.Sets.{has_variable};
-ghost use Rattle.fs_variable_sets.specs.Flows.{has_at, live_before, stepped, IsFixedPoint, flow_weight, AreLive, IsInside};
+ghost use Rattle.fs_variable_sets.specs.Flows.{has_at, live_before, live_with_flow, IsFixedPoint, flow_weight, AreLive, IsInside};
 ghost use Rattle.fs_variable_sets.specs.Flows.{IsExact};
 
 use crate::VariableSet;
@@ -33,7 +33,7 @@ fn live_before(flow: &Flow, reset: usize, live: &[VariableSet]) -> VariableSet
 fn grow(flow: &Flow, reset: usize, live: &mut Vec<VariableSet>) -> bool
     requires inside { IsInside (length live.old.items) flow.now }
     ensures count { length live.new.items ≡ length live.old.items }
-    ensures stepped { (q x : ℕ) → has_at live.new.items q x ≡ stepped reset live.old.items flow.now q x }
+    ensures stepped { (q x : ℕ) → has_at live.new.items q x ≡ live_with_flow reset live.old.items flow.now q x }
     ensures settled { result ≡ false → (live.new.items ≡ live.old.items) × IsFixedPoint reset live.old.items flow.now }
     ensures grows { result ≡ true → flow_weight live.new.items < flow_weight live.old.items }
 {
