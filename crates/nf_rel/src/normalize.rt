@@ -47,7 +47,7 @@ fn truth(form: Form, number: &i128) -> NLit
 }
 
 // A number as it is, or negated.
-fn signed(positive: bool, number: &i128) -> i128
+fn signed_number(positive: bool, number: &i128) -> i128
     requires { unsigned_abs number.now ≤ weight_limit }
     ensures { result ≡ signed_number positive number.now }
 {
@@ -62,7 +62,7 @@ fn bound_of(positive: bool, divisor: &i128, constant: &i128) -> i128
     ensures { result ≡ signed_number positive (neg_ℤ (int_div_euclid constant.now (pos (unsigned_abs divisor.now)))) }
 {
     let floor = constant.div_euclid(*divisor);
-    signed(positive, &-floor)
+    signed_number(positive, &-floor)
 }
 
 // A direction with its bound.
@@ -150,7 +150,7 @@ fn direction(alloc: Global, p: &Poly, positive: bool, divisor: &i128) -> Result<
     ensures { IfOk result
         (λ d. d ≡ divided_form (part_with_atoms p.now) (signed_number positive (pos (common_divisor (part_with_atoms p.now))))) }
 {
-    let by = signed(positive, divisor);
+    let by = signed_number(positive, divisor);
     let monos = divide_monomials(alloc, p.monos(), &by)?;
     Ok(from_terms(monos))
 }

@@ -9,9 +9,9 @@ use Rattle.nf_rel.proofs.normalize.direction.Goals as goal
 
 pub from_terms-requires : goal.from_terms-requires
 from_terms-requires c =
-    let f : FitsSigned w128 c.signed-by.result = search rules in
+    let f : FitsSigned w128 c.signed_number-by.result = search rules in
     let h : polynomial_of (map term_in c.in_ok-monos.monos.items) ≡ divide_coefficients
-    (part_with_atoms (polynomial_of (map term_in c.monos.result.now))) c.signed-by.result = (simp to_z-of_z at c.in_ok-monos.ensures) in
+    (part_with_atoms (polynomial_of (map term_in c.monos.result.now))) c.signed_number-by.result = (simp to_z-of_z at c.in_ok-monos.ensures) in
     terms_normal c.args.p.now (polynomial_of (map term_in c.monos.result.now))
-    (polynomial_of (map term_in c.in_ok-monos.monos.items)) c.args.positive c.args.divisor.now c.signed-by.result c.monos.ensures.normal c.monos.ensures.same
-    c.requires.divisor c.requires.some c.signed-by.ensures h
+    (polynomial_of (map term_in c.in_ok-monos.monos.items)) c.args.positive c.args.divisor.now c.signed_number-by.result
+    c.monos.ensures.normal c.monos.ensures.same c.requires.divisor c.requires.some c.signed_number-by.ensures h
