@@ -41,7 +41,7 @@ impl Memo {
     }
 
     // The value of a number.
-    fn known(&self, id: AtomId) -> Option<&SharedNumber>
+    fn known_value(&self, id: AtomId) -> Option<&SharedNumber>
         ensures { option_map (λ p. p.now) result ≡ known_value self.now id.0 }
     {
         match self.by_number.get(id.0 as usize) {
@@ -54,7 +54,7 @@ impl Memo {
     pub(crate) fn get(&self, id: AtomId) -> Result<Option<SharedNumber>, NoMemory>
         ensures { IfOk result (λ value. value ≡ known_value self.now id.0) }
     {
-        match self.known(id) {
+        match self.known_value(id) {
             Some(value) => Ok(Some(value.try_clone()?)),
             None => Ok(None),
         }
