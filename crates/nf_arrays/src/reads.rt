@@ -29,7 +29,7 @@ pub(crate) fn is_same(l: &PolyTree, r: &PolyTree) -> bool
 
 // Whether two indices differ by a constant that is not 0.
 #[tactic(auto, using(crate::proofs::Stopping::apart_by_same))]
-fn apart(index: &PolyTree, i: &PolyTree) -> bool
+fn are_apart(index: &PolyTree, i: &PolyTree) -> bool
     requires left { IsTrue (ordered (polynomial_in index.now)) }
     requires right { IsTrue (ordered (polynomial_in i.now)) }
     ensures { result ≡ are_apart (polynomial_in index.now) (polynomial_in i.now) }
@@ -38,14 +38,14 @@ fn apart(index: &PolyTree, i: &PolyTree) -> bool
 }
 
 // The writes up to the last one at which a read at `i` stops.
-fn stopping<'a>(writes: &'a [(PolyTree, PolyTree)], i: &PolyTree) -> &'a [(PolyTree, PolyTree)]
+fn prefix_for<'a>(writes: &'a [(PolyTree, PolyTree)], i: &PolyTree) -> &'a [(PolyTree, PolyTree)]
     requires tidy { IsTrue (ordered_writes (writes_of (map write_in writes.now))) }
     requires index { IsTrue (ordered (polynomial_in i.now)) }
     ensures { writes_of (map write_in result.now) ≡ prefix_for (polynomial_in i.now) (writes_of (map write_in writes.now)) }
 {
     let mut rest = writes;
     'back: while let Some(((index, _value), earlier)) = rest.split_last() {
-        if !apart(index, i) {
+        if !are_apart(index, i) {
             break 'back;
         }
         rest = earlier;
@@ -108,5 +108,5 @@ pub fn read(alloc: Global, a: &Arr, i: &Poly) -> Result<Poly, NfStop>
 {
     let _size = i.size(); // The call tells the proof that the form is normal.
     let base = a.base();
-    read_stopped(alloc, base, stopping(a.writes(), i.tree()), i)
+    read_stopped(alloc, base, prefix_for(a.writes(), i.tree()), i)
 }

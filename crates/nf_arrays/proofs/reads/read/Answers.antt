@@ -7,15 +7,15 @@ use Rattle.nf_arrays.proofs.reads.read.Goals as goal
 pub read_stopped-requires-clause-normal : goal.read_stopped-requires-clause-normal
 read_stopped-requires-clause-normal c =
     stopped_normal c.args.a.now c.args.i.now _ _ _ c.base-base.ensures.same c.writes.ensures.same
-    (c.stopping.ensures ∙ ap (λ t. prefix_for t (writes_in c.writes.result.now)) c.tree.ensures.same) c.writes.ensures.normal
+    (c.prefix_for.ensures ∙ ap (λ t. prefix_for t (writes_in c.writes.result.now)) c.tree.ensures.same) c.writes.ensures.normal
 
 pub read_stopped-requires-clause-stops : goal.read_stopped-requires-clause-stops
 read_stopped-requires-clause-stops c =
     stopped_again c.args.a.now c.args.i.now _ _ _ c.base-base.ensures.same c.writes.ensures.same
-    (c.stopping.ensures ∙ ap (λ t. prefix_for t (writes_in c.writes.result.now)) c.tree.ensures.same)
+    (c.prefix_for.ensures ∙ ap (λ t. prefix_for t (writes_in c.writes.result.now)) c.tree.ensures.same)
 
 pub returns : goal.returns
 returns c =
     subst (Answers c.read_stopped.result)
     (read_whole c.args.a.now c.args.i.now _ _ _ c.base-base.ensures.same c.writes.ensures.same
-    (c.stopping.ensures ∙ ap (λ t. prefix_for t (writes_in c.writes.result.now)) c.tree.ensures.same)) c.read_stopped.ensures
+    (c.prefix_for.ensures ∙ ap (λ t. prefix_for t (writes_in c.writes.result.now)) c.tree.ensures.same)) c.read_stopped.ensures

@@ -1,7 +1,7 @@
 use Rattle.std.proofs.Common.{length}
 use Rattle.nf_terms.specs.View.{polynomial_in}
 use Rattle.nf_arrays.proofs.Stopping.{ArePassed}
-use Rattle.nf_arrays.proofs.reads.stopping.Given as goal
+use Rattle.nf_arrays.proofs.reads.prefix_for.Given as goal
 
 abbrev pub invariant-back : goal.invariant-back
 invariant-back l = ArePassed (polynomial_in l.i) l.writes l.rest
