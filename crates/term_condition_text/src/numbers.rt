@@ -18,7 +18,7 @@ fn append_digit(number: u128, digit: u8) -> u128
 
 // The number of digits, or the greatest u128 where it is greater.
 #[tactic(auto, using(crate::proofs::Saturated::digit_more, crate::proofs::Saturated::whole))]
-fn saturated(digits: &[u8]) -> u128
+fn saturated_number(digits: &[u8]) -> u128
     ensures { result ≡ min (value_of_digits digits.now) (2 ^ 128 - 1) }
 {
     let mut number = 0u128;
@@ -32,7 +32,7 @@ fn saturated(digits: &[u8]) -> u128
 pub fn fits(digits: &[u8]) -> bool
     ensures { result ≡ nat_le (value_of_digits digits.now) weight_limit }
 {
-    saturated(digits) <= WEIGHT_LIMIT
+    saturated_number(digits) <= WEIGHT_LIMIT
 }
 
 /// The number of digits, or 2^127 - 1 where it is greater.
@@ -40,5 +40,5 @@ pub fn clip_number(digits: &[u8]) -> i128
     ensures number { result ≡ pos (clipped_number digits.now) }
     ensures natural { result ≡ pos (unsigned_abs result) }
 {
-    saturated(digits).min(WEIGHT_LIMIT) as i128
+    saturated_number(digits).min(WEIGHT_LIMIT) as i128
 }

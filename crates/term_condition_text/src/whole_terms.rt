@@ -94,7 +94,7 @@ fn list_base<'a>(bytes: &'a [u8]) -> Result<(WrittenListBase<'a>, &'a [u8]), Rea
 
 // The list that nothing follows.
 #[tactic(auto, using(term_text::proofs::Steps::list_not_ended))]
-fn ended<'a>(
+fn finish_list<'a>(
     base: WrittenListBase<'a>,
     items: Vec<WrittenPolynomial<'a>>,
     bytes: &'a [u8],
@@ -139,7 +139,7 @@ fn items<'a>(
                 push_item(&mut items, item)?;
                 rest = after;
             }
-            None => return ended(base, items, rest),
+            None => return finish_list(base, items, rest),
         }
     }
 }
