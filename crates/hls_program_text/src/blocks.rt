@@ -77,13 +77,13 @@ fn ends_block(tokens: &[Token]) -> bool
     matches!(front(tokens), Some(TokenKind::CloseBrace))
 }
 
-fn assigned(line: u32, assign: Assign<Name>) -> Stmt
+fn assignment_statement(line: u32, assign: Assign<Name>) -> Stmt
     ensures { block_of_statement result ≡ Do line (named_assignment assign) End }
 {
     Stmt::Do { line, assign }
 }
 
-fn chosen(line: u32, guard: Guard, yes: Vec<Stmt>, no: Vec<Stmt>) -> Stmt
+fn if_statement(line: u32, guard: Guard, yes: Vec<Stmt>, no: Vec<Stmt>) -> Stmt
     ensures { block_of_statement result ≡ If line (named_guard guard) (block_of yes.items) (block_of no.items) End }
 {
     Stmt::If {
@@ -94,7 +94,7 @@ fn chosen(line: u32, guard: Guard, yes: Vec<Stmt>, no: Vec<Stmt>) -> Stmt
     }
 }
 
-fn repeated(line: u32, guard: Guard, body: Vec<Stmt>) -> Stmt
+fn while_statement(line: u32, guard: Guard, body: Vec<Stmt>) -> Stmt
     ensures { block_of_statement result ≡ While line (named_guard guard) (block_of body.items) End }
 {
     Stmt::While { line, guard, body }
@@ -178,12 +178,12 @@ fn statement(alloc: Global, depth: u32, tokens: &[Token]) -> Result<(Stmt, &[Tok
     match front(tokens) {
         Some(TokenKind::If) => choice(alloc, depth, tokens),
         Some(TokenKind::While) => repetition(alloc, depth, tokens),
-        _ => assigning(alloc, tokens),
+        _ => read_assignment(alloc, tokens),
     }
 }
 
 // A statement that is an assignment.
-fn assigning(alloc: Global, tokens: &[Token]) -> Result<(Stmt, &[Token]), ReadError>
+fn read_assignment(alloc: Global, tokens: &[Token]) -> Result<(Stmt, &[Token]), ReadError>
     requires { IsNoKeyword (kind_at tokens.now) }
     ensures goes { (o : Open) (b : Named)
         → ParsesOn result (program_reading tokens.now (at_statement o b))
@@ -192,7 +192,7 @@ fn assigning(alloc: Global, tokens: &[Token]) -> Result<(Stmt, &[Token]), ReadEr
 {
     let line = line_of(tokens);
     let (assign, rest) = assignment(alloc, tokens)?;
-    Ok((assigned(line, assign), rest))
+    Ok((assignment_statement(line, assign), rest))
 }
 
 #[cycle(blocks)]
@@ -207,7 +207,7 @@ fn choice(alloc: Global, depth: u32, tokens: &[Token]) -> Result<(Stmt, &[Token]
     let line = line_of(tokens);
     let (test, rest) = if_guard(alloc, tokens)?;
     let (guard, (yes, (no, rest))) = join(test, both_blocks(alloc, depth, rest))?;
-    Ok((chosen(line, guard, yes, no), rest))
+    Ok((if_statement(line, guard, yes, no), rest))
 }
 
 // The two blocks of a choice, behind its guard.
@@ -263,5 +263,5 @@ fn repetition(alloc: Global, depth: u32, tokens: &[Token]) -> Result<(Stmt, &[To
     let line = line_of(tokens);
     let (test, rest) = while_guard(alloc, tokens)?;
     let (guard, (body, rest)) = join(test, block(alloc, depth + 1, rest))?;
-    Ok((repeated(line, guard, body), rest))
+    Ok((while_statement(line, guard, body), rest))
 }

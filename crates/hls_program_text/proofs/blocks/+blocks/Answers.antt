@@ -98,7 +98,7 @@ choice-returns-clause-goes t c =
     (at_statement o (join_blocks b (If n (named_guard x.0) (block_of x.1.0.items) (block_of x.1.1.0.items) End))))
     r.ensures (c.in_ok-test.ensures.goes o b) (c.both_blocks.ensures.goes o b n (named_guard test) e)
     ∙ ap (λ m. program_reading r.rest.now (at_statement o (join_blocks b (If m (named_guard r.guard) yes no End)))) (sym c.line_of-line.ensures)
-    ∙ ap (λ s. program_reading r.rest.now (at_statement o (join_blocks b s))) (sym c.chosen.ensures)
+    ∙ ap (λ s. program_reading r.rest.now (at_statement o (join_blocks b s))) (sym c.if_statement.ensures)
 
 pub choice-returns-clause-shorter : goal.choice-returns-clause-shorter
 choice-returns-clause-shorter t c =
@@ -136,7 +136,7 @@ repetition-returns-clause-goes t c =
     (c.block.ensures.goes (in_body o b n g) deeper)
     ∙ ap (λ m. program_reading r.rest.now (at_statement o (join_blocks b (While m (named_guard r.guard) (block_of r.body.items) End))))
     (sym c.line_of-line.ensures)
-    ∙ ap (λ s. program_reading r.rest.now (at_statement o (join_blocks b s))) (sym c.repeated.ensures)
+    ∙ ap (λ s. program_reading r.rest.now (at_statement o (join_blocks b s))) (sym c.while_statement.ensures)
 
 pub repetition-returns-clause-shorter : goal.repetition-returns-clause-shorter
 repetition-returns-clause-shorter t c =
