@@ -33,7 +33,7 @@ fn may_stand(
 }
 
 // Of an item and the best before it, the one that is higher, at a tie the one before.
-fn higher(table: &[Profile], j: usize, best: Option<usize>) -> usize
+fn higher_of(table: &[Profile], j: usize, best: Option<usize>) -> usize
     requires in_range { j < length table.now }
     requires best { IsBelow (length table.now) best }
     ensures higher { result ≡ higher_of (graph_in table.now).height j best }
@@ -69,7 +69,7 @@ fn next_item(
     let mut best: Option<usize> = None;
     for j in 0..table.len() {
         if may_stand(table, rows, waits, units, used, row, j) {
-            best = Some(higher(table, j, best));
+            best = Some(higher_of(table, j, best));
         }
     }
     best
@@ -84,7 +84,7 @@ fn uses_of(table: &[Profile], k: usize) -> Uses
 }
 
 // What is used and more.
-fn added(units: Units, used: &Uses, extra: Uses) -> Uses
+fn add_uses(units: Units, used: &Uses, extra: Uses) -> Uses
     requires { suffice (units_in units) (units_of_uses used.now) (units_of_uses extra) ≡ true }
     ensures { units_of_uses result ≡ more_units (units_of_uses used.now) (units_of_uses extra) }
 {
@@ -137,7 +137,7 @@ fn fill_one(
         None => false,
         Some(k) => {
             place(table, rows, waits, row, k);
-            *used = added(*units, used, uses_of(table, k));
+            *used = add_uses(*units, used, uses_of(table, k));
             true
         }
     }

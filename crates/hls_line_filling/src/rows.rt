@@ -89,13 +89,13 @@ pub fn make_filling(alloc: Global, table: &[Profile], units: &Units) -> Result<F
     ensures count { IfOk result (λ f. length f.rows.items ≡ length table.now) }
 {
     let mut waits = first_waits(alloc, table)?;
-    let mut rows = unplaced(alloc, table.len())?;
+    let mut rows = empty_rows(alloc, table.len())?;
     let count = fill(table, rows.as_mut_slice(), waits.as_mut_slice(), units);
     Ok(Filling { rows, count })
 }
 
 // No item has a row.
-fn unplaced(alloc: Global, count: usize) -> Result<Vec<Option<u32>>, NoMemory>
+fn empty_rows(alloc: Global, count: usize) -> Result<Vec<Option<u32>>, NoMemory>
     ensures none { IfOk result (λ rows. rows_in rows.items ≡ none_placed) }
     ensures count { IfOk result (λ rows. length rows.items ≡ count) }
 {

@@ -14,8 +14,8 @@ pub place-requires-clause-free : goal.place-requires-clause-free
 place-requires-clause-free c = item_free (graph_in c.args.table.now) (units_in c.args.units.now)
     (rows_in c.args.rows.now) c.args.row (units_of_uses c.args.used.now) c.in-Some.k c.in-Some.ensures.next
 
-pub added-requires : goal.added-requires
-added-requires c =
+pub add_uses-requires : goal.add_uses-requires
+add_uses-requires c =
     subst (λ (u : Units). suffice (units_in c.args.units.now) (units_of_uses c.args.used.now) u ≡ true) (sym c.uses_of.ensures)
     (item_fits (graph_in c.args.table.now) (units_in c.args.units.now) (rows_in c.args.rows.now) c.args.row
     (units_of_uses c.args.used.now) c.in-Some.k c.in-Some.ensures.next)
@@ -23,8 +23,8 @@ added-requires c =
 pub returns-in-Some-clause-filled : goal.returns-in-Some-clause-filled
 returns-in-Some-clause-filled c = λ n.
     row_goes (graph_in c.args.table.now) (units_in c.args.units.now) n c.args.row (rows_in c.args.rows.now) (rows_in c.place.new.rows)
-    (units_of_uses c.args.used.now) (units_of_uses c.added.result) c.in-Some.k c.in-Some.ensures.next c.place.ensures.rows
-    (c.added.ensures ∙ ap (λ (u : Units). more_units (units_of_uses c.args.used.now) u) c.uses_of.ensures)
+    (units_of_uses c.args.used.now) (units_of_uses c.add_uses.result) c.in-Some.k c.in-Some.ensures.next c.place.ensures.rows
+    (c.add_uses.ensures ∙ ap (λ (u : Units). more_units (units_of_uses c.args.used.now) u) c.uses_of.ensures)
 
 pub returns-in-Some-clause-low : goal.returns-in-Some-clause-low
 returns-in-Some-clause-low c = λ w. low_put (graph_in c.args.table.now) (rows_in c.args.rows.now)
