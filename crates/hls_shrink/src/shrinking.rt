@@ -52,7 +52,7 @@ pub fn shrink(
     ensures shows { IfOk result (λ s. ShowsDifference a.now b.now (inputs_of s.inputs) steps) }
     ensures ends { IfOk result (λ s. AreApart a.now b.now (inputs_of s.inputs) steps s.left s.right) }
 {
-    let mut small = started(alloc, a, b, inputs, steps)?;
+    let mut small = inputs_with_ends(alloc, a, b, inputs, steps)?;
     let mut list = entries(alloc, a, &small.inputs)?;
     while let Some(next) = first_reduction(alloc, a, b, &small.inputs, list.as_slice(), steps)? {
         list = entries(alloc, a, &next.inputs)?;
@@ -62,7 +62,7 @@ pub fn shrink(
 }
 
 // A copy of inputs that show a difference, with how the runs end.
-fn started(
+fn inputs_with_ends(
     alloc: Global,
     a: &Machine,
     b: &Machine,

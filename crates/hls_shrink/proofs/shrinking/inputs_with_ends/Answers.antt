@@ -3,7 +3,7 @@ use Rattle.fs_stores.specs.InputValues.{signatures_of}
 use Rattle.fs_run_text.proofs.Serving.{serves_both}
 use Rattle.hls_shrink.proofs.Changed.{serve_own}
 use Rattle.hls_shrink.proofs.Smalls.{same_show}
-use Rattle.hls_shrink.proofs.shrinking.started.Goals as goal
+use Rattle.hls_shrink.proofs.shrinking.inputs_with_ends.Goals as goal
 
 pub differing_ends-requires-clause-left : goal.differing_ends-requires-clause-left
 differing_ends-requires-clause-left c = serve_own c.args.a.now c.in_ok-copy.copy c.vars-vars.ensures.sound (c.in_ok-copy.ensures.signatures ∙ c.requires.inputs)
