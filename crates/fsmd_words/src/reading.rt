@@ -153,7 +153,7 @@ fn one_word_command(alloc: Global, name: &str, found: &ArgMatches) -> Result<Ask
 }
 
 // What the command of this name asks, by its matches. `Usage` comes only for a name that is no command's.
-fn matched(alloc: Global, name: &str, found: &ArgMatches) -> Result<Ask, AskError>
+fn ask_of_command(alloc: Global, name: &str, found: &ArgMatches) -> Result<Ask, AskError>
     ensures ok { IfOk result (λ ask. asked_by name.now (rows_of (found_of found.now)) ≡ Some (asked_of_ask ask)) }
     ensures usage { IfErr result (λ error. error ≡ Usage → asked_by name.now (rows_of (found_of found.now)) ≡ None) }
 {
@@ -184,7 +184,7 @@ pub fn read(alloc: Global, name: &str, found: &ArgMatches) -> Result<Ask, AskErr
     ensures usage { IfErr result (λ error. error ≡ Usage
         → IfSome (asked_by name.now (rows_of (found_of found.now))) (λ what. is_by_turns what ≡ false)) }
 {
-    let ask = matched(alloc, name, found)?;
+    let ask = ask_of_command(alloc, name, found)?;
     if stands_by_turns(&ask) {
         Ok(ask)
     } else {

@@ -1,4 +1,4 @@
-use Rattle.fsmd_words.proofs.reading.matched.Goals as goal
+use Rattle.fsmd_words.proofs.reading.ask_of_command.Goals as goal
 
 pub returns-in-check-clause-ok : goal.returns-in-check-clause-ok
 returns-in-check-clause-ok c = rw c.in-check.is (c.ask_or_refusal.ensures.ok _ c.check.ensures)
