@@ -308,7 +308,7 @@ impl Lit<VarId> {
     {
         let (left, right) = both(self.left.try_clone(alloc), self.right.try_clone(alloc))?;
         Ok(Lit {
-            rel: self.rel.negated(),
+            rel: self.rel.opposite(),
             left,
             right,
         })

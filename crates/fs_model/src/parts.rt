@@ -98,7 +98,7 @@ impl Rel {
     }
 
     /// The relation that holds exactly when this one does not.
-    pub fn negated(self) -> Rel
+    pub fn opposite(self) -> Rel
         ensures { result ≡ opposite self }
     {
         match self {
