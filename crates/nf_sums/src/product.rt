@@ -82,7 +82,7 @@ fn single(
 /// The product of two ordered lists of terms, the product of whose weights is within the limit.
 ///
 /// A list of more than one term is halved, and the products of the halves are merged.
-pub fn multiplied(
+pub fn multiply_terms(
     alloc: Global,
     l: &[(MonoTree, i128)],
     r: &[(MonoTree, i128)],
@@ -97,14 +97,14 @@ pub fn multiplied(
 {
     if l.len() > 1 {
         let (front, back) = l.split_at(l.len() / 2);
-        let front = multiplied(alloc, front, r)?;
-        let back = multiplied(alloc, back, r)?;
+        let front = multiply_terms(alloc, front, r)?;
+        let back = multiply_terms(alloc, back, r)?;
         return merged_owned(alloc, front, back);
     }
     if r.len() > 1 {
         let (front, back) = r.split_at(r.len() / 2);
-        let front = multiplied(alloc, l, front)?;
-        let back = multiplied(alloc, l, back)?;
+        let front = multiply_terms(alloc, l, front)?;
+        let back = multiply_terms(alloc, l, back)?;
         return merged_owned(alloc, front, back);
     }
     single(alloc, l, r)

@@ -14,7 +14,7 @@ ghost use Rattle.nf_sums.specs.Operations.{number as number_of};
 use crate::limits::check_limits;
 use crate::negation::negate_terms;
 use crate::owned::merged_owned;
-use crate::product::multiplied;
+use crate::product::multiply_terms;
 use nf_terms::constants::{constant_part, is_constant};
 use nf_terms::poly::Poly;
 use nf_terms::stop::{NfStop, NoMemory};
@@ -81,7 +81,7 @@ fn narrow_product(alloc: Global, l: &Poly, r: &Poly) -> Result<Poly, NfStop>
     requires small { size_of l.now * size_of r.now ≤ size_limit }
     ensures { Answers result (product_of l.now r.now) }
 {
-    let terms = multiplied(alloc, l.monos(), r.monos())?;
+    let terms = multiply_terms(alloc, l.monos(), r.monos())?;
     Ok(from_terms(terms))
 }
 

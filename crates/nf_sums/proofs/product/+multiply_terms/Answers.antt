@@ -1,10 +1,10 @@
 use Rattle.std.proofs.Common.{rules}
 use Rattle.nf_sums.proofs.Products.{front_ordered, back_ordered, front_narrow_left, back_narrow_left, front_narrow_right, back_narrow_right, narrow_left}
 use Rattle.nf_sums.proofs.Products.{returned_left, narrow_right, returned_right}
-use Rattle.nf_sums.proofs.product.+multiplied.Goals as goal
+use Rattle.nf_sums.proofs.product.+multiply_terms.Goals as goal
 
-pub multiplied-requires : goal.multiplied-requires
-multiplied-requires t c =
+pub multiply_terms-requires : goal.multiply_terms-requires
+multiply_terms-requires t c =
     let cut = c.split_at.ensures.by_index.0 in (
       search rules,
       (
@@ -13,8 +13,8 @@ multiplied-requires t c =
       ),
     )
 
-pub multiplied-requires-then-l-gt1 : goal.multiplied-requires-then-l-gt1
-multiplied-requires-then-l-gt1 t c =
+pub multiply_terms-requires-then-l-gt1 : goal.multiply_terms-requires-then-l-gt1
+multiply_terms-requires-then-l-gt1 t c =
     let cut = c.split_at.ensures.by_index.0 in (
       search rules,
       (
@@ -33,8 +33,8 @@ returns-then-l-gt1 t c =
     returned_left _ _ _ c.split_at.ensures.by_index.0 c.args.r.now c.in_ok-front.front.items c.in_ok-back.back.items c.in_ok-front.ensures c.in_ok-back.ensures
     c.merged_owned.result c.merged_owned.ensures
 
-pub multiplied-requires-then-r-gt1 : goal.multiplied-requires-then-r-gt1
-multiplied-requires-then-r-gt1 t c =
+pub multiply_terms-requires-then-r-gt1 : goal.multiply_terms-requires-then-r-gt1
+multiply_terms-requires-then-r-gt1 t c =
     let cut = c.split_at-then-r-gt1.ensures.by_index.0 in (
       search rules,
       (
@@ -46,8 +46,8 @@ multiplied-requires-then-r-gt1 t c =
       ),
     )
 
-pub multiplied-requires-then-r-gt1-2 : goal.multiplied-requires-then-r-gt1-2
-multiplied-requires-then-r-gt1-2 t c =
+pub multiply_terms-requires-then-r-gt1-2 : goal.multiply_terms-requires-then-r-gt1-2
+multiply_terms-requires-then-r-gt1-2 t c =
     let cut = c.split_at-then-r-gt1.ensures.by_index.0 in (
       search rules,
       (
