@@ -69,7 +69,7 @@ impl<F: Files> RecordedFiles<F> {
     }
 
     /// The names that were loaded, in order, or `None` where there was no memory for one of them.
-    pub fn loaded(&self) -> Option<&[String]>
+    pub fn loaded_names(&self) -> Option<&[String]>
         ensures { option_map (λ names. map string_bytes names.now) result ≡ self.now.names }
     {
         match &self.names.list {

@@ -61,7 +61,7 @@ fn never_fail(alloc: Global, files: &mut CleanFiles) -> bool {
 
 // Whether these are the names that were loaded.
 fn loaded<F: Files>(files: &RecordedFiles<F>, want: &str) -> bool {
-    let Some(names) = files.loaded() else {
+    let Some(names) = files.loaded_names() else {
         return false;
     };
     let mut left = want.split_whitespace();
