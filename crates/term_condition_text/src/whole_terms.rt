@@ -15,7 +15,7 @@ use std::alloc::Global;
 use term_text::fault::ReadError;
 use term_text::scan::{expect, expect_three, word};
 use term_text::signs::rest_after;
-use term_text::terms::{braced, polynomial, writes};
+use term_text::terms::{polynomial, value_in_braces, writes};
 use term_text::tree::{WrittenArray, WrittenBase, WrittenList, WrittenListBase, WrittenPolynomial};
 
 // The polynomial that all bytes are read as.
@@ -135,7 +135,7 @@ fn items<'a>(
     loop {
         match rest_after(rest, b'{') {
             Some(after) => {
-                let (item, after) = braced(alloc, after)?;
+                let (item, after) = value_in_braces(alloc, after)?;
                 push_item(&mut items, item)?;
                 rest = after;
             }

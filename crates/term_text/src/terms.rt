@@ -99,7 +99,7 @@ pub fn writes<'a>(
 
 /// The value of a write or an item, up to the closing brace, and what follows that. `BadTerm` where that is not what stands
 /// there; `NoMemory` may come at any time.
-pub fn braced<'a>(
+pub fn value_in_braces<'a>(
     alloc: Global,
     bytes: &'a [u8],
 ) -> Result<(WrittenPolynomial<'a>, &'a [u8]), ReadError>
