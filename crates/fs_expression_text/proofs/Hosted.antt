@@ -7,7 +7,7 @@ use Rattle.fs_grammar.specs.declared.fault.TextKind.TheVariants.{Operators}
 use Rattle.fs_grammar.specs.declared.token.Token.{Token}
 use Rattle.fs_grammar.specs.Tokens.{◌>>=◌, ParsesOn, fault_at}
 use Rattle.fs_grammar.proofs.Refusals.{taken_by}
-use Rattle.fs_expression_text.specs.Inside.{Inside, Whole, expression_step, whole, take_expression_token, parse_expression}
+use Rattle.fs_expression_text.specs.Inside.{Inside, Whole, expression_step, whole_at, take_expression_token, parse_expression}
 use Rattle.fs_expression_text.specs.Hosts.{HostsExpressions}
 
 goes_by : {Y : Type 0} (t : Token) (ts : List Token) (o : Option Inside) (w : Option Whole) (go : Inside → Result Y TextFault)
@@ -21,7 +21,7 @@ goes_by t ts None None go F h = refl
 pub hosted : {S Y : Type 0} (read : List Token → S → Result Y TextFault) (put : Inside → S) (after : Whole → S) → HostsExpressions read put after
     → (ts : List Token) (i : Inside) → read ts (put i) ≡ (parse_expression ts i >>= λ x. read x.1 (after x.0))
 hosted read put after h [] i = h.ends i
-hosted read put after h (t ∷ ts) i = h.goes_on t ts i ∙ goes_by t ts (expression_step i t.kind) (whole i) (λ j. read ts (put j)) (λ x. read x.1 (after x.0))
+hosted read put after h (t ∷ ts) i = h.goes_on t ts i ∙ goes_by t ts (expression_step i t.kind) (whole_at i) (λ j. read ts (put j)) (λ x. read x.1 (after x.0))
     (λ j. hosted read put after h ts j)
 
 -- what a call says of a sum or a guard by itself, it says of one in the language

@@ -18,10 +18,10 @@ use Rattle.fs_expression_text.specs.Inside.{FactorContext, first_factor, next_fa
 use Rattle.fs_expression_text.specs.Inside.{right, Inside, at_unit, at_factor, after_conjunction, after_guard, after_name, after_product, after_sum, at_sum}
 use Rattle.fs_expression_text.specs.Inside.{factor_done, product_done, unit_done, conjunction_done, literal_done, step_factor, step_unit, step_guard}
 use Rattle.fs_expression_text.specs.Inside.{step_guarded, step_conjunction, step_joined, step_sum_on, step_sum, step_summed, step_product_on, step_multiplied}
-use Rattle.fs_expression_text.specs.Inside.{step_name, expression_step, whole, ends_joined, ends_guarded, ends_summed, ends_multiplied, parse_expression}
+use Rattle.fs_expression_text.specs.Inside.{step_name, expression_step, whole_at, ends_joined, ends_guarded, ends_summed, ends_multiplied, parse_expression}
 
 -- two states read alike where each token leads both to the same, and both end alike
-same_parsed : (ts : List Token) (a b : Inside) → ((t : TokenKind) → kind_at ts ≡ Some t → expression_step a t ≡ expression_step b t) → whole a ≡ whole b
+same_parsed : (ts : List Token) (a b : Inside) → ((t : TokenKind) → kind_at ts ≡ Some t → expression_step a t ≡ expression_step b t) → whole_at a ≡ whole_at b
     → parse_expression ts a ≡ parse_expression ts b
 same_parsed [] a b h e = refl
 same_parsed (t ∷ ts) a b h e = rw (h t.kind refl, e) refl
@@ -33,7 +33,7 @@ done_steps t u (negates k) = done_steps t (terms.Not u) k
 done_steps t u (first_of_all k) = refl
 done_steps t u (and_after c k) = refl
 
-done_stops : (u : Guard (List ℕ)) (k : UnitContext) → whole (unit_done u k) ≡ ends_joined (unit_done u k)
+done_stops : (u : Guard (List ℕ)) (k : UnitContext) → whole_at (unit_done u k) ≡ ends_joined (unit_done u k)
 done_stops u (negates k) = done_stops (terms.Not u) k
 done_stops u (first_of_all k) = refl
 done_stops u (and_after c k) = refl
@@ -70,7 +70,7 @@ guarded_steps : (t : TokenKind) (c : Guard (List ℕ)) (k : ConjunctionContext) 
 guarded_steps t c (first_of_any k) = refl
 guarded_steps t c (or_after g k) = refl
 
-guarded_stops : (c : Guard (List ℕ)) (k : ConjunctionContext) → whole (conjunction_done c k) ≡ ends_guarded (conjunction_done c k)
+guarded_stops : (c : Guard (List ℕ)) (k : ConjunctionContext) → whole_at (conjunction_done c k) ≡ ends_guarded (conjunction_done c k)
 guarded_stops c (first_of_any k) = refl
 guarded_stops c (or_after g k) = refl
 
@@ -87,7 +87,7 @@ summed_steps : (t : TokenKind) (p : Term (List ℕ)) (k : ProductContext) → ex
 summed_steps t p (first_product k) = refl
 summed_steps t p (next_product o s k) = refl
 
-summed_stops : (p : Term (List ℕ)) (k : ProductContext) → whole (product_done p k) ≡ ends_summed (product_done p k)
+summed_stops : (p : Term (List ℕ)) (k : ProductContext) → whole_at (product_done p k) ≡ ends_summed (product_done p k)
 summed_stops p (first_product k) = refl
 summed_stops p (next_product o s k) = refl
 
@@ -110,7 +110,7 @@ multiplied_steps t f (first_factor k) = refl
 multiplied_steps t f (next_factor o p k) = refl
 multiplied_steps t f (negative k) = multiplied_steps t (Negative f) k
 
-multiplied_stops : (f : Term (List ℕ)) (k : FactorContext) → whole (factor_done f k) ≡ ends_multiplied (factor_done f k)
+multiplied_stops : (f : Term (List ℕ)) (k : FactorContext) → whole_at (factor_done f k) ≡ ends_multiplied (factor_done f k)
 multiplied_stops f (first_factor k) = refl
 multiplied_stops f (next_factor o p k) = refl
 multiplied_stops f (negative k) = multiplied_stops (Negative f) k

@@ -212,14 +212,14 @@ abbrev pub ends_name : List ℕ → FactorContext → Option Whole
 ends_name x k = ends_multiplied (factor_done (Variable x) k)
 
 -- the sum or the guard that ends here, if one may
-abbrev pub whole : Inside → Option Whole
-whole (at_unit k) = None
-whole (after_conjunction c k) = ends_conjunction c k
-whole (after_guard g k) = ends_guard g k
-whole (at_factor k) = None
-whole (after_name x k) = ends_name x k
-whole (after_product p k) = ends_product p k
-whole (after_sum s k) = ends_sum s k
+abbrev pub whole_at : Inside → Option Whole
+whole_at (at_unit k) = None
+whole_at (after_conjunction c k) = ends_conjunction c k
+whole_at (after_guard g k) = ends_guard g k
+whole_at (at_factor k) = None
+whole_at (after_name x k) = ends_name x k
+whole_at (after_product p k) = ends_product p k
+whole_at (after_sum s k) = ends_sum s k
 
 -- a token that cannot follow ends what is whole, and is left
 abbrev pub end_whole : {Y : Type 0} → Token → Option Whole → (Whole → Result Y TextFault) → Result Y TextFault
@@ -234,5 +234,5 @@ take_expression_token t None go w after = end_whole t w after
 -- from a place inside on, what is read whole and the tokens after it, or the first fault
 abbrev pub parse_expression : List Token → Inside → Result (Whole × List Token) TextFault
 parse_expression [] s = Err (refusal [])
-parse_expression (t ∷ ts) s = take_expression_token t (expression_step s t.kind) (parse_expression ts) (whole s)
+parse_expression (t ∷ ts) s = take_expression_token t (expression_step s t.kind) (parse_expression ts) (whole_at s)
     (λ w. Ok (w, t ∷ ts))

@@ -19,14 +19,14 @@ use Rattle.fs_expression_text.specs.Inside.{first_product, next_factor, next_pro
 use Rattle.fs_expression_text.specs.Inside.{and_after, sum_alone, guard_alone, at_unit, after_conjunction, after_guard, at_factor, after_name, after_product}
 use Rattle.fs_expression_text.specs.Inside.{after_sum, at_sum, at_guard, factor_done, product_done, unit_done, conjunction_done, literal_done, step_guarded}
 use Rattle.fs_expression_text.specs.Inside.{step_conjunction, step_joined, step_sum, step_summed, step_product, step_multiplied, step_name, expression_step}
-use Rattle.fs_expression_text.specs.Inside.{Whole, whole_sum, whole_guard, ends_guarded, ends_joined, ends_summed, ends_multiplied, whole}
+use Rattle.fs_expression_text.specs.Inside.{Whole, whole_sum, whole_guard, ends_guarded, ends_joined, ends_summed, ends_multiplied, whole_at}
 use Rattle.fs_expression_text.proofs.Steps.{literal_steps}
 use Rattle.fs_phrase_text.specs.Expressions.{Expression, a_sum, a_guard, expression_start, SpellsExpression}
 use Rattle.fs_phrase_text.proofs.SoundExpressions.{walk}
 
 -- what may end behind words
 abbrev pub final : List Word → Inside → Option Whole
-final ws i = and_then (walk ws i) whole
+final ws i = and_then (walk ws i) whole_at
 
 -- the first of them
 abbrev first : List Word → Option TokenKind
@@ -39,10 +39,10 @@ regroup a b rest i = ap (λ (l : List Word). final l i) (append_assoc a b rest)
 -- ---- where a part ends without a word of its own
 
 -- two places that every word leads on alike, and where the same may end
-alike : (rest : List Word) (i j : Inside) → ((t : TokenKind) → first rest ≡ Some t → expression_step i t ≡ expression_step j t) → whole i ≡ whole j
+alike : (rest : List Word) (i j : Inside) → ((t : TokenKind) → first rest ≡ Some t → expression_step i t ≡ expression_step j t) → whole_at i ≡ whole_at j
     → final rest i ≡ final rest j
 alike [] i j h q = q
-alike (at n t ∷ ws) i j h q = ap (λ (o : Option Inside). and_then (and_then o (walk ws)) whole) (h t refl)
+alike (at n t ∷ ws) i j h q = ap (λ (o : Option Inside). and_then (and_then o (walk ws)) whole_at) (h t refl)
 
 -- a factor that is done is the last of a product, and so on
 factor_by : {A : Type 0} (F G : Inside → A) → ((p : Term (List ℕ)) (k : ProductContext) → F (after_product p k) ≡ G (after_product p k))
@@ -73,7 +73,7 @@ name_steps t x k h = factor_by (step_multiplied t) (λ i. expression_step i t) (
 
 name_ends : (rest : List Word) (x : List ℕ) (k : FactorContext) → IsNoIndex (first rest) → final rest (after_name x k) ≡ final rest (factor_done (Variable x) k)
 name_ends rest x k h = alike rest (after_name x k) (factor_done (Variable x) k) (λ t q. name_steps t x k (rw q at h))
-    (factor_by ends_multiplied whole (λ p m. refl) (Variable x) k)
+    (factor_by ends_multiplied whole_at (λ p m. refl) (Variable x) k)
 
 product_steps : (t : TokenKind) (p : Term (List ℕ)) (k : ProductContext) → IsNoProduct (Some t) → step_product t p k ≡ expression_step (product_done p k) t
 product_steps Star p k h = absurd h
@@ -84,7 +84,7 @@ product_steps t p k h = product_by (step_summed t) (λ i. expression_step i t) (
 product_ends : (rest : List Word) (p : Term (List ℕ)) (k : ProductContext) → IsNoProduct (first rest)
     → final rest (after_product p k) ≡ final rest (product_done p k)
 product_ends rest p k h = alike rest (after_product p k) (product_done p k) (λ t q. product_steps t p k (rw q at h))
-    (product_by ends_summed whole (λ s m. refl) p k)
+    (product_by ends_summed whole_at (λ s m. refl) p k)
 
 right_steps :
     (t : TokenKind) (r : Rel) (l s : Term (List ℕ)) (k : UnitContext) → IsNoSum (Some t)
@@ -97,7 +97,7 @@ literal_ends : (rest : List Word) (r : Rel) (l s : Term (List ℕ)) (k : UnitCon
     → final rest (after_sum s (right r l k)) ≡ final rest (literal_done r l s k)
 literal_ends rest r l s k h =
     alike rest (after_sum s (right r l k)) (literal_done r l s k) (λ t q. right_steps t r l s k (rw q at h))
-    (unit_by ends_joined whole (λ c m. refl) (Test (record { relation = r; left = l; right = s })) k)
+    (unit_by ends_joined whole_at (λ c m. refl) (Test (record { relation = r; left = l; right = s })) k)
 
 conjunction_steps : (t : TokenKind) (c : Guard (List ℕ)) (k : ConjunctionContext) → IsNoAnd (Some t)
     → step_conjunction t c k ≡ expression_step (conjunction_done c k) t
@@ -107,7 +107,7 @@ conjunction_steps t c k h = conjunction_by (step_guarded t) (λ i. expression_st
 conjunction_ends : (rest : List Word) (c : Guard (List ℕ)) (k : ConjunctionContext) → IsNoAnd (first rest)
     → final rest (after_conjunction c k) ≡ final rest (conjunction_done c k)
 conjunction_ends rest c k h = alike rest (after_conjunction c k) (conjunction_done c k) (λ t q. conjunction_steps t c k (rw q at h))
-    (conjunction_by ends_guarded whole (λ g m. refl) c k)
+    (conjunction_by ends_guarded whole_at (λ g m. refl) c k)
 
 -- ---- sums
 

@@ -17,7 +17,8 @@ use Rattle.fs_grammar.specs.Faults.{word_of, AreClear, IsLast, AreEndedTokens}
 use Rattle.fs_grammar.proofs.Alternatives.{completed}
 use Rattle.fs_grammar.proofs.Inside.{is_inside, IsInside, AreInside, front, sum_inside, guard_inside}
 use Rattle.fs_grammar.proofs.Exact.{words_append, clear_more}
-use Rattle.fs_expression_text.specs.Inside.{Inside, expression_step, Whole, whole_sum, whole_guard, whole, end_whole, take_expression_token, parse_expression}
+use Rattle.fs_expression_text.specs.Inside.{Inside, expression_step, Whole, whole_sum, whole_guard, whole_at, end_whole}
+use Rattle.fs_expression_text.specs.Inside.{take_expression_token, parse_expression}
 use Rattle.fs_phrase_text.specs.Expressions.{Expression, a_sum, a_guard, expression_start, rule_of, SpellsExpression, ExpressionGoesOn, ExpressionStandsFirst}
 use Rattle.fs_phrase_text.specs.Expressions.{IsWrongInExpression, over_limit, cannot_follow, ExpressionStopsAt}
 use Rattle.fs_phrase_text.proofs.SoundExpressions.{walk, sound}
@@ -54,7 +55,7 @@ goes_nowhere : (e : Expression) (ws : List Word) (i : Inside) (t : Token) → wa
     → ExpressionGoesOn e ws t → ⊥
 goes_nowhere e ws i t q s b = stuck e (ws ++ word_of t ∷ []) (walk_more e ws i t q ∙ s) b
 
-not_spelled : (e : Expression) (ws : List Word) (i : Inside) → walk ws (expression_start e) ≡ Some i → whole i ≡ None → SpellsWhole (rule_of e) ws → ⊥
+not_spelled : (e : Expression) (ws : List Word) (i : Inside) → walk ws (expression_start e) ≡ Some i → whole_at i ≡ None → SpellsWhole (rule_of e) ws → ⊥
 not_spelled e ws i q g h =
     let w = spelled_ends e ws h in
     let ends : final ws (expression_start e) ≡ Some w.0 = w.1 in
@@ -90,7 +91,7 @@ stops e k t before i ts h w =
 
 -- a token that cannot follow
 left_off : (e : Expression) (t : Token) (ts before : List Token) (i : Inside) → Done e before i → expression_step i t.kind ≡ None → (o : Option Whole)
-    → whole i ≡ o → Answers e (before ++ t ∷ ts) (end_whole t o (λ w. Ok (w, t ∷ ts)))
+    → whole_at i ≡ o → Answers e (before ++ t ∷ ts) (end_whole t o (λ w. Ok (w, t ∷ ts)))
 left_off e t ts before i h s (Some w) g =
     record {
       before = before;
@@ -115,8 +116,8 @@ let_in e t ts before i j h s go false l = subst (λ (r : List Token). Answers e 
 
 followed : (e : Expression) (t : Token) (ts before : List Token) (i : Inside) → Done e before i
     → ((b : List Token) (m : Inside) → Done e b m → Answers e (b ++ ts) (parse_expression ts m)) → (o : Option Inside) → expression_step i t.kind ≡ o
-    → Answers e (before ++ t ∷ ts) (take_expression_token t o (parse_expression ts) (whole i) (λ w. Ok (w, t ∷ ts)))
-followed e t ts before i h go None s = left_off e t ts before i h s (whole i) refl
+    → Answers e (before ++ t ∷ ts) (take_expression_token t o (parse_expression ts) (whole_at i) (λ w. Ok (w, t ∷ ts)))
+followed e t ts before i h go None s = left_off e t ts before i h s (whole_at i) refl
 followed e t ts before i h go (Some j) s = let_in e t ts before i j h s go t.past_limit refl
 
 answers : (e : Expression) (ts before : List Token) (i : Inside) → Done e before i → Answers e (before ++ ts) (parse_expression ts i)
@@ -176,7 +177,7 @@ reads_next t before rest r (Some m) w h go q = rw h (go m q)
 reads_on : (before rest : List Token) (i r : Inside) → AreClear before → walk (words before) i ≡ Some r
     → parse_expression (before ++ rest) i ≡ parse_expression rest r
 reads_on [] rest i r h q = let same : i ≡ r = cc in rw same refl
-reads_on (t ∷ before) rest i r h q = reads_next t before rest r (expression_step i t.kind) (whole i) h.0 (λ m. reads_on before rest m r h.1) q
+reads_on (t ∷ before) rest i r h q = reads_next t before rest r (expression_step i t.kind) (whole_at i) h.0 (λ m. reads_on before rest m r h.1) q
 
 none_steps : (e : Expression) (ws : List Word) (i : Inside) (t : Token) (o : Option Inside) → walk ws (expression_start e) ≡ Some i
     → expression_step i t.kind ≡ o → (ExpressionGoesOn e ws t → ⊥) → expression_step i t.kind ≡ None
@@ -184,7 +185,7 @@ none_steps e ws i t None q s h = s
 none_steps e ws i t (Some j) q s h = absurd (h (goes_on e ws i j t q s))
 
 stands_at : (e : Expression) (w : Whole) (before : List Token) (t : Token) (behind : List Token) (o : Option Inside)
-    → walk (words before) (expression_start e) ≡ o → and_then o whole ≡ Some w → AreClear before → (ExpressionGoesOn e (words before) t → ⊥)
+    → walk (words before) (expression_start e) ≡ o → and_then o whole_at ≡ Some w → AreClear before → (ExpressionGoesOn e (words before) t → ⊥)
     → parse_expression (before ++ t ∷ behind) (expression_start e) ≡ Ok (w, t ∷ behind)
 stands_at e w before t behind None q g c h = absurd cc
 stands_at e w before t behind (Some i) q g c h =
@@ -211,8 +212,8 @@ spelled_rule a_sum (whole_sum s) ws h = (s, h)
 spelled_rule a_guard (whole_guard g) ws h = (g, h)
 spelled_rule _ w ws h = absurd h
 
-none_ends : (e : Expression) (ws : List Word) (i : Inside) (o : Option Whole) → walk ws (expression_start e) ≡ Some i → whole i ≡ o
-    → (SpellsWhole (rule_of e) ws → ⊥) → whole i ≡ None
+none_ends : (e : Expression) (ws : List Word) (i : Inside) (o : Option Whole) → walk ws (expression_start e) ≡ Some i → whole_at i ≡ o
+    → (SpellsWhole (rule_of e) ws → ⊥) → whole_at i ≡ None
 none_ends e ws i None q g h = g
 none_ends e ws i (Some w) q g h = absurd (h (spelled_rule e w ws (sound e ws i w q g)))
 
@@ -221,7 +222,7 @@ wrong_at : (e : Expression) (k : TextKind) (ws : List Word) (t : Token) (behind 
 wrong_at e _ ws t behind i q (over_limit b l) = at_past_limit t behind i (expression_step i t.kind) refl (λ s. goes_nowhere e ws i t q s b) l
 wrong_at e _ ws t behind i q (cannot_follow h n) =
     let s : expression_step i t.kind ≡ None = none_steps e ws i t (expression_step i t.kind) q refl h in
-    let g : whole i ≡ None = none_ends e ws i (whole i) q refl n in
+    let g : whole_at i ≡ None = none_ends e ws i (whole_at i) q refl n in
     rw (s, g) refl
 
 stopped_at : (e : Expression) (o : Option Inside) (k : TextKind) (before : List Token) (t : Token) (behind : List Token)

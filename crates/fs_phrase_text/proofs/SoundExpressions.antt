@@ -23,7 +23,7 @@ use Rattle.fs_expression_text.specs.Inside.{first_product, next_factor, next_pro
 use Rattle.fs_expression_text.specs.Inside.{and_after, at_unit, after_conjunction, after_guard, at_factor, after_name, after_product, after_sum, factor_done}
 use Rattle.fs_expression_text.specs.Inside.{product_done, unit_done, conjunction_done, step_factor, step_unit, step_guard, step_guarded, step_conjunction}
 use Rattle.fs_expression_text.specs.Inside.{step_joined, step_sum, step_summed, step_product, step_multiplied, step_name, expression_step, Whole, ends_guard}
-use Rattle.fs_expression_text.specs.Inside.{ends_guarded, ends_joined, ends_sum, ends_summed, ends_multiplied, whole}
+use Rattle.fs_expression_text.specs.Inside.{ends_guarded, ends_joined, ends_sum, ends_summed, ends_multiplied, whole_at}
 use Rattle.fs_phrase_text.specs.Expressions.{Expression, expression_start, a_sum, a_guard, SpellsExpression}
 use Rattle.fs_phrase_text.proofs.Reached as before
 use Rattle.fs_phrase_text.proofs.Reached.{product_sign, sum_sign, BeforeUnit, BeforeConjunction, BeforeGuard, BeforeFactor, BeforeProduct, BeforeSum, Reached}
@@ -244,7 +244,7 @@ multiplied_whole : (e : Expression) (i : Inside) (ws : List Word) → Reached e 
 multiplied_whole e (after_product p k) ws h = summed_whole e (product_done p k) ws (product_reached e k h.a h.front p h.b h.back ws h.is)
 multiplied_whole e _ ws h = tt
 
-whole_spelled : (e : Expression) (i : Inside) (ws : List Word) → Reached e i ws → IfSome (whole i) (λ w. SpellsExpression e w ws)
+whole_spelled : (e : Expression) (i : Inside) (ws : List Word) → Reached e i ws → IfSome (whole_at i) (λ w. SpellsExpression e w ws)
 whole_spelled e (at_unit k) ws h = tt
 whole_spelled e (after_conjunction c k) ws h = joined_whole e (after_conjunction c k) ws h
 whole_spelled e (after_guard g k) ws h = guarded_whole e (after_guard g k) ws h
@@ -261,5 +261,5 @@ of_whole e (Some v) w ws h q =
     subst (λ (u : Whole). SpellsExpression e u ws) same h
 
 -- What may end behind words is spelled by them.
-pub sound : (e : Expression) (ws : List Word) (i : Inside) (w : Whole) → walk ws (expression_start e) ≡ Some i → whole i ≡ Some w → SpellsExpression e w ws
-sound e ws i w q g = of_whole e (whole i) w ws (whole_spelled e i ws (reached e ws i q)) g
+pub sound : (e : Expression) (ws : List Word) (i : Inside) (w : Whole) → walk ws (expression_start e) ≡ Some i → whole_at i ≡ Some w → SpellsExpression e w ws
+sound e ws i w q g = of_whole e (whole_at i) w ws (whole_spelled e i ws (reached e ws i q)) g

@@ -178,7 +178,7 @@ name_steps : (h : Hole) (n : ℕ) (t : TokenKind) (x : List ℕ) (k : inner.Fact
 name_steps h n OpenBracket x k = refl
 name_steps h n t x k = multiplied_steps h n t (Variable x) k
 
-steps : (h : Hole) (n : ℕ) (t : TokenKind) (i : Inside) → step (placed h i) n t ≡ leads h n t (inner.expression_step i t) (inner.whole i)
+steps : (h : Hole) (n : ℕ) (t : TokenKind) (i : Inside) → step (placed h i) n t ≡ leads h n t (inner.expression_step i t) (inner.whole_at i)
 steps h n t (inner.at_unit k) = unit_steps h n t k
 steps h n t (inner.after_conjunction c k) = conjunction_steps h n t c k
 steps h n t (inner.after_guard g k) = guard_steps h n t g k
@@ -210,9 +210,9 @@ goes_by h t ts None (Some w) = rw (behind_stops h w) refl
 goes_by h t ts None None = none_stops t.kind (refusal (t ∷ []))
 
 goes_on : (h : Hole) (t : Token) (ts : List Token) (i : Inside)
-    → reading (t ∷ ts) (placed h i) ≡ inner.take_expression_token t (inner.expression_step i t.kind) (λ j. reading ts (placed h j)) (inner.whole i)
+    → reading (t ∷ ts) (placed h i) ≡ inner.take_expression_token t (inner.expression_step i t.kind) (λ j. reading ts (placed h j)) (inner.whole_at i)
     (λ v. reading (t ∷ ts) (behind h v))
-goes_on h t ts i = rw (steps h t.place.line t.kind i, stops h i) (goes_by h t ts (inner.expression_step i t.kind) (inner.whole i))
+goes_on h t ts i = rw (steps h t.place.line t.kind i, stops h i) (goes_by h t ts (inner.expression_step i t.kind) (inner.whole_at i))
 
 -- machine texts host sums and guards
 pub hosts : (h : Hole) → HostsExpressions reading (placed h) (behind h)

@@ -11,7 +11,7 @@ use Rattle.fs_expression_text.specs.Inside.{first_product, next_product, parens,
 use Rattle.fs_expression_text.specs.Inside.{at_factor, after_name, after_product, after_sum, factor_done, product_done, unit_done, conjunction_done}
 use Rattle.fs_expression_text.specs.Inside.{literal_done, step_guard, step_guarded, step_conjunction, step_joined, step_closed, step_sum, step_summed}
 use Rattle.fs_expression_text.specs.Inside.{step_product, step_multiplied, step_name, expression_step, Whole, ends_guard, ends_conjunction, ends_joined}
-use Rattle.fs_expression_text.specs.Inside.{ends_sum, ends_product, ends_multiplied, whole}
+use Rattle.fs_expression_text.specs.Inside.{ends_sum, ends_product, ends_multiplied, whole_at}
 
 -- With this token no part of a sum or a guard goes on, unless it closes a bracket in one.
 pub record Closes (t : TokenKind) : Type 0 where
@@ -89,7 +89,7 @@ multiplied_closes t h f (next_factor o p k) w e = product_closes t h (product_te
 multiplied_closes t h f (negative k) w e = multiplied_closes t h (Negative f) k w e
 
 -- what may end does not go on
-pub ends_here : (t : TokenKind) → Closes t → (i : Inside) (w : Whole) → whole i ≡ Some w → expression_step i t ≡ None
+pub ends_here : (t : TokenKind) → Closes t → (i : Inside) (w : Whole) → whole_at i ≡ Some w → expression_step i t ≡ None
 ends_here t h (at_unit k) w e = absurd cc
 ends_here t h (after_conjunction c k) w e = conjunction_closes t h c k w e
 ends_here t h (after_guard g k) w e = guard_closes t h g k w e

@@ -13,7 +13,7 @@ use Rattle.fs_grammar.specs.Grammar.{Destination, destination_assignment}
 use Rattle.fs_grammar.specs.Spelling.{Word, at, IsGuard, IsDestination, scalar_name, element_at, IsAssignment, assign, IsKind, scalars, arrays}
 use Rattle.fs_grammar.specs.Spelling.{IsDeclaration, declaration, AreDeclarations, no_declarations, more_declarations}
 use Rattle.fs_grammar.specs.WordWalks.{and_then}
-use Rattle.fs_expression_text.specs.Inside.{Inside, Whole, whole_sum, whole_guard, whole, at_sum, at_guard, sum_alone, guard_alone}
+use Rattle.fs_expression_text.specs.Inside.{Inside, Whole, whole_sum, whole_guard, whole_at, at_sum, at_guard, sum_alone, guard_alone}
 use Rattle.fs_expression_text.specs.Inside as inner
 use Rattle.fs_phrase_text.specs.Expressions.{Expression, a_sum, a_guard, expression_start, SpellsExpression}
 use Rattle.fs_phrase_text.proofs.SoundExpressions.{walk as walk_inside}
@@ -62,10 +62,10 @@ pub inside_walks : (h : Hole) (c rest : List Word) (i j : Inside) → walk_insid
 inside_walks h [] rest i j e =
     let same : i ≡ j = cc in
     rw same refl
-inside_walks h (at n t ∷ c) rest i j e = inside_next h t c rest j (inner.expression_step i t) (whole i) (λ m. inside_walks h c rest m j) e
+inside_walks h (at n t ∷ c) rest i j e = inside_next h t c rest j (inner.expression_step i t) (whole_at i) (λ m. inside_walks h c rest m j) e
 
 ended_at : (h : Hole) (e : Expression) (w : Whole) (c rest : List Word) (n : ℕ) (t : TokenKind) → Closes t → (o : Option Inside)
-    → walk_inside c (expression_start e) ≡ o → and_then o whole ≡ Some w
+    → walk_inside c (expression_start e) ≡ o → and_then o whole_at ≡ Some w
     → walk (c ++ at n t ∷ rest) (inside h (expression_start e)) ≡ walk (at n t ∷ rest) (after h w)
 ended_at h e w c rest n t k None q g = absurd cc
 ended_at h e w c rest n t k (Some i) q g = inside_walks h c (at n t ∷ rest) (expression_start e) i q ∙ rw (ends_here t k i w g, g) refl

@@ -14,7 +14,7 @@ use Rattle.fs_grammar.specs.Spelling.{Word, at, number, factor, product, IsGuard
 use Rattle.fs_grammar.specs.Beginnings as rules
 use Rattle.fs_grammar.proofs.Reached.{Cut}
 use Rattle.fs_grammar.proofs.Alternatives.{completed}
-use Rattle.fs_expression_text.specs.Inside.{Inside, Whole, whole_guard, whole}
+use Rattle.fs_expression_text.specs.Inside.{Inside, Whole, whole_guard, whole_at}
 use Rattle.fs_expression_text.specs.Inside as inner
 use Rattle.fs_phrase_text.specs.Expressions.{rule_of, SpellsExpression}
 use Rattle.fs_phrase_text.proofs.SoundExpressions.{sound as sound_expression}
@@ -118,7 +118,7 @@ after_counted Semicolon h w n v c ws f s e k = absurd cc
 after_counted _ h w n v c ws f s e k = tt
 
 inside_counted : (n : ℕ) (t : TokenKind) (h : Hole) (i : Inside) (ws : List Word) (k : Cut (BeforeHole h) (LeadsInside h i) ws) (o : Option Inside)
-    (w : Option Whole) → inner.expression_step i t ≡ o → whole i ≡ w → IsTrue (is_counted (unit_behind false ws) t)
+    (w : Option Whole) → inner.expression_step i t ≡ o → whole_at i ≡ w → IsTrue (is_counted (unit_behind false ws) t)
     → IfSome (step_inside o w h t) (λ r. GoesOnWith ws (at n t))
 inside_counted n t h i ws k (Some j) w e g c = went_on h i j n t ws k e
 inside_counted n t h i ws k None (Some w) e g c = after_counted t h w n k.a k.b ws k.front (sound_expression (expression_of h) k.b i w k.back g) k.is c
@@ -177,7 +177,7 @@ counted_goes (at_statement o b) n t ws h k = statement_counted t n o b ws (unit_
 counted_goes (after_name o b m x) n Equals ws h k = absurd cc
 counted_goes (after_name o b m x) n OpenBracket ws h k = index_goes o b m n x h.a ws h.front (h.is ∙ ap (λ (l : List Word). h.a ++ l) h.back)
 counted_goes (at_equals o b m d) n Equals ws h k = absurd cc
-counted_goes (inside h i) n t ws c k = inside_counted n t h i ws c (inner.expression_step i t) (whole i) refl refl k
+counted_goes (inside h i) n t ws c k = inside_counted n t h i ws c (inner.expression_step i t) (whole_at i) refl refl k
 counted_goes (after h w) n t ws c k = absurd c
 counted_goes (after_yes o b m g y) n Else ws h k = absurd cc
 counted_goes (after_yes o b m g y) n t ws h k = statement_counted t n o (join_blocks b (If m g y End End)) ws (unit_behind false ws) k

@@ -13,7 +13,7 @@ use Rattle.fs_grammar.specs.Spelling.{Word, at, scalar_name, element_at, assign,
 use Rattle.fs_grammar.specs.WordWalks.{and_then}
 use Rattle.fs_grammar.proofs.Reached.{Cut, Is}
 use Rattle.fs_grammar.proofs.Sound.{snoc}
-use Rattle.fs_expression_text.specs.Inside.{Inside, Whole, whole_sum, whole_guard, whole}
+use Rattle.fs_expression_text.specs.Inside.{Inside, Whole, whole_sum, whole_guard, whole_at}
 use Rattle.fs_expression_text.specs.Inside as inner
 use Rattle.fs_phrase_text.specs.Expressions.{expression_start, SpellsExpression}
 use Rattle.fs_phrase_text.proofs.SoundExpressions.{sound as sound_expression}
@@ -141,7 +141,7 @@ pub leads_on : (h : Hole) (i j : Inside) (n : ℕ) (t : TokenKind) (c : List Wor
 leads_on h i j n t c q e = walk_append_inside c (at n t ∷ []) (expression_start (expression_of h)) ∙ rw (q, e) refl
 
 inside_keeps : (n : ℕ) (t : TokenKind) (h : Hole) (i : Inside) (ws : List Word) (k : Cut (BeforeHole h) (LeadsInside h i) ws) (o : Option Inside)
-    (w : Option Whole) → inner.expression_step i t ≡ o → whole i ≡ w → IfSome (step_inside o w h t) (λ r. Reached r (ws ++ at n t ∷ []))
+    (w : Option Whole) → inner.expression_step i t ≡ o → whole_at i ≡ w → IfSome (step_inside o w h t) (λ r. Reached r (ws ++ at n t ∷ []))
 inside_keeps n t h i ws k (Some j) w e g = record {
   a = k.a;
   b = k.b ++ at n t ∷ [];
@@ -246,7 +246,7 @@ keeps (at_equals o b m d) n Equals ws h = record {
   back = refl;
   is = sym (append-nil (ws ++ at n Equals ∷ []));
 }
-keeps (inside h i) n t ws k = inside_keeps n t h i ws k (inner.expression_step i t) (whole i) refl refl
+keeps (inside h i) n t ws k = inside_keeps n t h i ws k (inner.expression_step i t) (whole_at i) refl refl
 keeps (after h w) n t ws k = absurd k
 keeps (after_yes o b m g y) n Else ws h = record {
   a = h.a;

@@ -10,7 +10,7 @@ use Rattle.fs_expression_text.specs.Inside.{UnitContext, ConjunctionContext, Gua
 use Rattle.fs_expression_text.specs.Inside.{first_of_all, and_after, first_of_any, or_after, first_factor, next_factor, negative, first_product, next_product}
 use Rattle.fs_expression_text.specs.Inside.{parens, index, left, right, sum_alone, at_unit, after_conjunction, after_guard, at_factor, after_name}
 use Rattle.fs_expression_text.specs.Inside.{after_product, after_sum, factor_done, unit_done, step_factor, step_unit, step_guard, step_conjunction, step_joined}
-use Rattle.fs_expression_text.specs.Inside.{step_closed, step_sum, step_product, step_multiplied, Whole, whole}
+use Rattle.fs_expression_text.specs.Inside.{step_closed, step_sum, step_product, step_multiplied, Whole, whole_at}
 use Rattle.fs_expression_text.specs.Inside as inner
 use Rattle.fs_phrase_text.specs.Declaring.{Declaring}
 use Rattle.fs_phrase_text.specs.Declaring as declaring
@@ -118,12 +118,12 @@ bad_declaring j (declaring.at_name d) = refl
 bad_declaring j (declaring.after_name d) = refl
 
 pub end_steps : (s : ProgramParseState) (n : ℕ) → program_step s n End ≡ None
-end_steps (inside h i) n = step_none End end_strange h (inner.expression_step i End) (whole i) (inside_none End end_strange i)
+end_steps (inside h i) n = step_none End end_strange h (inner.expression_step i End) (whole_at i) (inside_none End end_strange i)
 end_steps (in_declaration ds s) n = rw (end_declaring s) refl
 end_steps _ n = refl
 
 pub bad_steps : (j : Flaw) (s : ProgramParseState) (n : ℕ) → program_step s n (Bad j) ≡ None
-bad_steps j (inside h i) n = step_none (Bad j) (bad_strange j) h (inner.expression_step i (Bad j)) (whole i) (inside_none (Bad j) (bad_strange j) i)
+bad_steps j (inside h i) n = step_none (Bad j) (bad_strange j) h (inner.expression_step i (Bad j)) (whole_at i) (inside_none (Bad j) (bad_strange j) i)
 bad_steps j (in_declaration ds s) n = rw (bad_declaring j s) refl
 bad_steps j _ n = refl
 

@@ -13,7 +13,7 @@ use Rattle.fs_grammar.specs.Tokens.{refusal, fault_at}
 use Rattle.fs_grammar.specs.Grammar.{Destination, scalar, element, destination_assignment}
 use Rattle.hls_program_parts.specs.Programs.{Block, End, Do, If, While, Program, join_blocks}
 use Rattle.hls_program_parts.specs.WellFormedPrograms.{most_depth}
-use Rattle.fs_expression_text.specs.Inside.{Inside, Whole, whole_sum, whole_guard, whole, at_sum, at_guard, sum_alone}
+use Rattle.fs_expression_text.specs.Inside.{Inside, Whole, whole_sum, whole_guard, whole_at, at_sum, at_guard, sum_alone}
 use Rattle.fs_expression_text.specs.Inside.{guard_alone}
 use Rattle.fs_expression_text.specs.Inside as inner
 use Rattle.fs_phrase_text.specs.Declaring.{Declaring, Lead}
@@ -120,7 +120,7 @@ program_step (after_name o b m x) n OpenBracket = Some (inside (for_index o b m 
 program_step (after_name o b m x) n _ = None
 program_step (at_equals o b m d) n Equals = Some (inside (for_value o b m d) (at_sum sum_alone))
 program_step (at_equals o b m d) n _ = None
-program_step (inside h i) n t = step_inside (inner.expression_step i t) (whole i) h t
+program_step (inside h i) n t = step_inside (inner.expression_step i t) (whole_at i) h t
 program_step (after h w) n t = step_after t h w
 program_step (after_yes o b m g y) n Else = Some (at_no o b m g y)
 program_step (after_yes o b m g y) n t = step_statement n t o (join_blocks b (If m g y End End))

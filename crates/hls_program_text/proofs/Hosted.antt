@@ -10,7 +10,7 @@ use Rattle.fs_grammar.specs.declared.fault.ReadError.TheVariants.{Text, NoMemory
 use Rattle.fs_grammar.specs.declared.token.Token.{Token}
 use Rattle.fs_grammar.specs.Tokens.{refusal, ParsesOn}
 use Rattle.fs_grammar.specs.PartEnds.{EndsSum, EndsGuard}
-use Rattle.fs_expression_text.specs.Inside.{Inside, Whole, whole_sum, whole_guard, whole, at_sum, at_guard, after_sum, after_guard, sum_alone, guard_alone}
+use Rattle.fs_expression_text.specs.Inside.{Inside, Whole, whole_sum, whole_guard, whole_at, at_sum, at_guard, after_sum, after_guard, sum_alone, guard_alone}
 use Rattle.fs_expression_text.specs.Inside.{parse_expression}
 use Rattle.fs_expression_text.specs.Inside as inner
 use Rattle.fs_expression_text.specs.Hosts as sums
@@ -30,7 +30,7 @@ inside_by t ts h None None = stop_none t.kind (refusal (t ∷ []))
 
 -- programs host sums and guards
 pub hosts : (h : Hole) → sums.HostsExpressions program_reading (inside h) (after h)
-hosts h = record { ends = λ i. refl; goes_on = λ t ts i. inside_by t ts h (inner.expression_step i t.kind) (whole i) }
+hosts h = record { ends = λ i. refl; goes_on = λ t ts i. inside_by t ts h (inner.expression_step i t.kind) (whole_at i) }
 
 declaring_by : (t : Token) (ts : List Token) (ds : List Declaration) (o : Option Lead)
     → take_program_token t (step_declaring o ds) (program_reading ts) None
