@@ -24,8 +24,8 @@ use search_worklist::state::{State, begin, make};
 use search_worklist::turns::{Step, next};
 use std::alloc::Global;
 
-// The nodes alone, with the moves that made them and how these end. The one refusal is out of memory.
-fn ended(alloc: Global, state: State, moves: Vec<Move>, end: End) -> Result<Ended, NoMemory>
+// Ends a search: the nodes alone, with the moves that made them and how these end. The one refusal is out of memory.
+fn end_search(alloc: Global, state: State, moves: Vec<Move>, end: End) -> Result<Ended, NoMemory>
     ensures { IfOk result (IsEndedWith (table_now state) moves end) }
 {
     Ok(Ended {
@@ -92,7 +92,7 @@ fn run_sides<'a>(
     let mut state = begin(alloc, &sides)?;
     let mut moves = Vec::new(alloc);
     let end = make_moves(alloc, &sides, &mut state, &mut moves)?;
-    ended(alloc, state, moves, end)
+    end_search(alloc, state, moves, end)
 }
 
 /// Makes a table from the start node by the moves that are next, up to the first obstacle or until nothing is next. The one
