@@ -52,7 +52,7 @@ fn units_with(rest: u64, more: u64) -> Option<u64>
 }
 
 // Gives the node at two points a fact, beside so many units of the other nodes.
-fn changed(rest: u64, left: Point, right: Point, fact: Fact) -> Trial
+fn give_fact(rest: u64, left: Point, right: Point, fact: Fact) -> Trial
     ensures { (T : Table) → rest + size_of_fact fact ≡ units (put_fact T (point_of left) (point_of right) fact)
         → GivesChange T (within_units (put_fact T (point_of left) (point_of right) fact)) result }
 {
@@ -93,7 +93,7 @@ fn try_new(
         return Ok(Trial::Exceeds(Budget::Nodes));
     }
     let fact = rebase(alloc, post, m.pairing)?;
-    Ok(changed(state.units, left, right, fact))
+    Ok(give_fact(state.units, left, right, fact))
 }
 
 // A post that arrives at two points where a node stands.
@@ -120,7 +120,7 @@ fn try_known(
         return Ok(Trial::Entailed { target: number });
     }
     let fact = join(alloc, &target.fact, post, &miss, m.pairing)?;
-    Ok(changed(state.units - target.fact.size(), left, right, fact))
+    Ok(give_fact(state.units - target.fact.size(), left, right, fact))
 }
 
 // A post that arrives at two points.

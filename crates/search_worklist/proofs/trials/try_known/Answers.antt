@@ -51,7 +51,7 @@ returns c =
     let s = c.requires.stands in
     let same : s.0 ≡ l = (let a = s.1 in let b = c.node_at.ensures in cc) in
     let there : node_target T P Q ≡ Known c.args.number l.node = s.2 ∙ ap (λ (z : NodeRecord). Known c.args.number z.node) same in
-    gives_change T P Q post (effect_there ps T P Q post) (within_units (put_fact T P Q f)) c.changed.result
+    gives_change T P Q post (effect_there ps T P Q post) (within_units (put_fact T P Q f)) c.give_fact.result
     (join_gives ps T P Q post c.args.number l.node there (missing_in c.in_ok-miss.miss) c.in_ok-miss.ensures
     (sym c.if-is_nothing.ensures) f c.in_ok-fact.ensures)
-    (c.changed.ensures T (put_known_units ps T P Q post c.args.number l.node there f c.args.state.now.units c.size.result c.requires.sized c.size.ensures))
+    (c.give_fact.ensures T (put_known_units ps T P Q post c.args.number l.node there f c.args.state.now.units c.size.result c.requires.sized c.size.ensures))

@@ -42,7 +42,7 @@ returns c =
     let post = post_in c.args.post.now in
     let f = c.in_ok-fact.fact in
     let many = as_many c.args.state.now c.len.result c.len.ensures.len in
-    subst (λ e. GivesChange T e c.changed.result)
+    subst (λ e. GivesChange T e c.give_fact.result)
     (rebase_gives ps T P Q post c.requires.absent (subst (λ n. n < most_nodes) many c.if-len-ge-NODE_LIMIT.false) f
     (subst (λ qs. rebase post qs ≡ Done f) c.args.m.now.paired c.in_ok-fact.ensures))
-    (c.changed.ensures T (put_last_units ps T P Q post c.requires.absent f c.args.state.now.units c.requires.sized))
+    (c.give_fact.ensures T (put_last_units ps T P Q post c.requires.absent f c.args.state.now.units c.requires.sized))
