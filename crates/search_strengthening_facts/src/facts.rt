@@ -49,7 +49,7 @@ fn found_fact(found: Result<Option<Fact>, NoMemory>) -> Result<Fact, Stop> {
     }
 }
 
-// The fact of the values of positions, once all their classes have these. `Bound` comes where they make none.
+// The fact of the values of positions, after those of the terms of each class are made equal. `Bound` comes where they make none.
 fn fact_over(
     alloc: Global,
     work: &mut Work,

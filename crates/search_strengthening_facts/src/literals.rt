@@ -82,7 +82,7 @@ fn spend_on_pairs(work: &mut Work, literals: &[NLit]) -> Result<(), Stop> {
 }
 
 // The first 64 literals that no other one implies.
-fn needed(alloc: Global, literals: &[NLit]) -> Result<Vec<NLit>, Stop> {
+fn needed_literals(alloc: Global, literals: &[NLit]) -> Result<Vec<NLit>, Stop> {
     let mut out = Vec::new(alloc);
     for (place, literal) in literals.iter().enumerate() {
         if out.len() < LITERAL_LIMIT && !is_needless(literals, place, literal) {
@@ -102,5 +102,5 @@ pub fn literals_over(
 ) -> Result<Vec<NLit>, Stop> {
     let all = all_values(alloc, work, values, literals)?;
     spend_on_pairs(work, all.as_slice())?;
-    needed(alloc, all.as_slice())
+    needed_literals(alloc, all.as_slice())
 }
