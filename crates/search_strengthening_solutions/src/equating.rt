@@ -109,7 +109,7 @@ fn needed_value(alloc: Global, work: &mut Work, s: &mut Subst<'_>, form: &Nf) ->
 }
 
 // The value of a position over the positions that stay free. `Bound` comes where it meets a limit.
-fn replaced(
+fn replaced_value(
     alloc: Global,
     work: &mut Work,
     s: &mut Subst<'_>,
@@ -130,7 +130,7 @@ fn put_replaced(
     values: &mut Vector,
 ) -> Result<(), Stop> {
     for position in positions {
-        let value = replaced(alloc, work, s, solution, position)?;
+        let value = replaced_value(alloc, work, s, solution, position)?;
         values.put(position.pos, value)?;
     }
     Ok(())

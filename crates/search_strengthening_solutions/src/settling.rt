@@ -219,7 +219,7 @@ fn next_free<'p>(
 }
 
 // Frees the position at a place: the others of its class have its symbol as their value.
-fn free(
+fn free_position(
     alloc: Global,
     positions: &[Position],
     claims: &Claims,
@@ -249,7 +249,7 @@ fn settle_all(
         tell_all(alloc, work, universe, positions, claims, solution)?;
         match next_free(positions, claims, solution) {
             Some((place, position)) => {
-                free(alloc, positions, claims, solution, place, position)?;
+                free_position(alloc, positions, claims, solution, place, position)?;
             }
             None => return Ok(()),
         }
