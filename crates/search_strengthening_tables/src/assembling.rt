@@ -42,7 +42,7 @@ fn copied_equations(
 }
 
 // The same fact, which is tested to be one of the pairing.
-fn retested(alloc: Global, p: &Pairing, fact: &Fact) -> Result<Option<Fact>, NoMemory>
+fn retested_fact(alloc: Global, p: &Pairing, fact: &Fact) -> Result<Option<Fact>, NoMemory>
     ensures { IfOk result (λ found. IfSome found (IsFactOf p.now)) }
 {
     let equations = copied_equations(alloc, fact.positions())?;
@@ -62,7 +62,7 @@ fn certificate_node(
     let (Some(mode), Some(rank)) = (node.mode, rank) else {
         return Ok(None);
     };
-    match retested(alloc, p, &node.fact)? {
+    match retested_fact(alloc, p, &node.fact)? {
         Some(fact) => Ok(Some(Node {
             left: node.left,
             right: node.right,

@@ -17,7 +17,7 @@ fn is_alone(mode: Option<Mode>) -> bool {
     matches!(mode, Some(Mode::Left | Mode::Right))
 }
 
-// The place of the node that a move reaches, where it has the mode of this node and one machine moves alone in that.
+// The place of the node that a move reaches, where it has the mode of this node, in which one machine moves alone.
 fn lone_target(nodes: &[ClaimedNode], node: &ClaimedNode, settled: Settled) -> Option<u32> {
     let Settled::Held { version } = settled else {
         return None;
