@@ -38,7 +38,8 @@ pub fn value_of(
 ) -> Result<Option<Nf>, Stop> {
     work.spend(form.size())?;
     let value = unless_stopped(substitute(alloc, s, form))?;
-    spend_on_value(work, &value).and(Ok(value))
+    spend_on_value(work, &value)?;
+    Ok(value)
 }
 
 // The first term that had this class and has this value, which then shares its class.
@@ -53,14 +54,9 @@ fn share_first(firsts: &mut [First], old: usize, value: &Nf) -> Option<usize> {
 }
 
 // The class of a term that had a class and has a value.
-fn class_with(
-    firsts: &mut Vec<First>,
-    old: usize,
-    place: usize,
-    value: Nf,
-) -> Result<Option<usize>, Stop> {
+fn class_with(firsts: &mut Vec<First>, old: usize, place: usize, value: Nf) -> Result<usize, Stop> {
     if let Some(first) = share_first(firsts, old, &value) {
-        return Ok(Some(first));
+        return Ok(first);
     }
     firsts.push(First {
         old,
@@ -68,7 +64,7 @@ fn class_with(
         value,
         is_shared: false,
     })?;
-    Ok(Some(place))
+    Ok(place)
 }
 
 // The class of a term after an arrival; none where its value meets a limit.
@@ -85,7 +81,7 @@ fn class_after(
         return Ok(None);
     };
     match value_of(alloc, work, s, form)? {
-        Some(value) => class_with(firsts, old, place, value),
+        Some(value) => Ok(Some(class_with(firsts, old, place, value)?)),
         None => Ok(None),
     }
 }
