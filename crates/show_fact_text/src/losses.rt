@@ -41,7 +41,7 @@ fn write_computed(
 }
 
 // A form with a vector's forms in place of its symbols.
-fn substituted(alloc: Global, vector: &Vector, form: &Nf) -> Result<Nf, NfStop>
+fn substitute_form(alloc: Global, vector: &Vector, form: &Nf) -> Result<Nf, NfStop>
     ensures { Answers result (form_substituted vector.now form.now) }
 {
     match form {
@@ -62,7 +62,7 @@ fn write_asked(
     ensures { OnOk result (out.new.items ≡ out.old.items
         ++ computed_text (side_names_in names.now) (form_substituted vector.now form.now)) }
 {
-    write_computed(out, names, substituted(alloc, vector, form))
+    write_computed(out, names, substitute_form(alloc, vector, form))
 }
 
 // Adds a form that arrived, and what an equation asked for.
