@@ -44,17 +44,17 @@ IsOfPairView pair_views.Why = IsOfWhy 10000
 IsOfPairView pair_views.Inputs = IsOfInputs 10000
 
 -- an answer that is lines, behind others
-abbrev pub behind : (lines : List ℕ) → Answer → Answer
-behind lines (Text more) = Text (lines ++ more)
-behind lines (Differs more) = Differs (lines ++ more)
-behind lines (Undecided more) = Undecided (lines ++ more)
-behind lines other = other
+abbrev pub verdict_behind : (lines : List ℕ) → Answer → Answer
+verdict_behind lines (Text more) = Text (lines ++ more)
+verdict_behind lines (Differs more) = Differs (lines ++ more)
+verdict_behind lines (Undecided more) = Undecided (lines ++ more)
+verdict_behind lines other = other
 
 -- the obligations of a certificate, and then the lines of `verify`, with its status
 pub record IsOfCertificate (a b : Fsmd) (nodes : List (Node Fact)) (answer : Answer) : Type 0 where
   pub verdict : Answer
   pub judged : IsJudged a b nodes verdict
-  pub told : answer ≡ behind (obligation_lines (machines a b) nodes) verdict
+  pub told : answer ≡ verdict_behind (obligation_lines (machines a b) nodes) verdict
 
 -- which answer follows for a view, from what was read of the files from a number on
 abbrev pub ShownFrom : View → (file : ℕ) → Reading → Answer → Type 0

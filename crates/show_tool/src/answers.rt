@@ -9,7 +9,7 @@ ghost use Rattle.fsmd_tool.specs.ComparisonAnswers.{IsOfPair};
 ghost use Rattle.fsmd_replies.specs.declared.answer.Answer.TheVariants.{Differs};
 ghost use Rattle.fsmd_replies.specs.Replies.{equivalent_text};
 ghost use Rattle.show_search_views.specs.Why.{answer_behind};
-ghost use Rattle.show_tool.specs.Views.{behind, IsOfPicture, IsOfWhy, IsOfInputs, IsOfCertificate};
+ghost use Rattle.show_tool.specs.Views.{verdict_behind, IsOfPicture, IsOfWhy, IsOfInputs, IsOfCertificate};
 
 use cert_model::cert::Cert;
 use fs_ast::machine::Machine;
@@ -34,7 +34,7 @@ fn equivalent_line(alloc: Global, nodes: usize) -> Result<String, AllocError>
 }
 
 // The lines with others behind them.
-fn joined(mut lines: Vec<u8>, more: &[u8]) -> Result<Lines, AllocError>
+fn join_lines(mut lines: Vec<u8>, more: &[u8]) -> Result<Lines, AllocError>
     ensures { IfOk result (λ all. all ≡ lines.items ++ more.now) }
 {
     lines.extend_from_slice(more)?;
@@ -49,14 +49,14 @@ fn why_answer(alloc: Global, lines: Vec<u8>, answer: &PairAnswer) -> Result<Answ
         PairAnswer::Equivalent { cert } => {
             let line = equivalent_line(alloc, cert.nodes.len())?;
             Ok(Answer::Text {
-                lines: joined(lines, line.as_bytes())?,
+                lines: join_lines(lines, line.as_bytes())?,
             })
         }
         PairAnswer::Counterexample { lines: more } => Ok(Answer::Differs {
-            lines: joined(lines, more.as_slice())?,
+            lines: join_lines(lines, more.as_slice())?,
         }),
         PairAnswer::Undecided { lines: more } => Ok(Answer::Undecided {
-            lines: joined(lines, more.as_slice())?,
+            lines: join_lines(lines, more.as_slice())?,
         }),
     }
 }
@@ -138,18 +138,18 @@ pub fn differing_machines(
 }
 
 // The verdict on a certificate behind lines.
-fn behind(lines: Vec<u8>, answer: Answer) -> Result<Answer, AllocError>
-    ensures { IfOk result (λ told. told ≡ behind lines.items answer) }
+fn verdict_behind(lines: Vec<u8>, answer: Answer) -> Result<Answer, AllocError>
+    ensures { IfOk result (λ told. told ≡ verdict_behind lines.items answer) }
 {
     match answer {
         Answer::Text { lines: more } => Ok(Answer::Text {
-            lines: joined(lines, more.bytes())?,
+            lines: join_lines(lines, more.bytes())?,
         }),
         Answer::Differs { lines: more } => Ok(Answer::Differs {
-            lines: joined(lines, more.bytes())?,
+            lines: join_lines(lines, more.bytes())?,
         }),
         Answer::Undecided { lines: more } => Ok(Answer::Undecided {
-            lines: joined(lines, more.bytes())?,
+            lines: join_lines(lines, more.bytes())?,
         }),
         other => Ok(other),
     }
@@ -170,7 +170,7 @@ pub fn certificate_of(
     ensures { IfOk result (IsOfCertificate a.now b.now (map node_of cert.now.nodes.items)) }
 {
     match obligation_lines(alloc, a, b, cert.nodes.as_slice()) {
-        Ok(lines) => behind(lines, judge(alloc, a, b, p, cert)?),
+        Ok(lines) => verdict_behind(lines, judge(alloc, a, b, p, cert)?),
         Err(_) => Err(AllocError),
     }
 }
