@@ -40,7 +40,7 @@ fn kept_text(
 }
 
 // The answer to two machines that a certificate shows to have the same behaviour.
-fn equivalent(
+fn equivalent_answer(
     alloc: Global,
     a: &Machine,
     b: &Machine,
@@ -74,7 +74,7 @@ pub fn compare(
     ensures { IfOk result (IsOfPair steps keeps a.now b.now) }
 {
     match compare_pair(alloc, a, b, p, steps) {
-        Ok(PairAnswer::Equivalent { cert }) => equivalent(alloc, a, b, p, &cert, keeps),
+        Ok(PairAnswer::Equivalent { cert }) => equivalent_answer(alloc, a, b, p, &cert, keeps),
         Ok(PairAnswer::Counterexample { lines }) => Ok(Answer::Differs {
             lines: Lines::of(lines),
         }),

@@ -16,7 +16,7 @@ use fsmd_replies::answer::{Answer, Lines};
 use std::alloc::{AllocError, Global};
 
 // What a run without an end answers.
-fn unended(alloc: Global, side: Side, stop: RunStop) -> Result<Answer, AllocError>
+fn stop_answer(alloc: Global, side: Side, stop: RunStop) -> Result<Answer, AllocError>
     ensures { IfOk result (IsOfStop side stop) }
 {
     match stop_text(alloc, side, stop) {
@@ -40,7 +40,7 @@ pub fn run_machine(
 {
     let ended = match run(alloc, machine, inputs, steps) {
         Ok(ended) => ended,
-        Err(stop) => return unended(alloc, Side::Only, stop),
+        Err(stop) => return stop_answer(alloc, Side::Only, stop),
     };
     match end_text(alloc, machine, &ended) {
         Ok(text) => Ok(Answer::Text {
@@ -51,7 +51,7 @@ pub fn run_machine(
 }
 
 // What two runs that ended answer, with the same outputs or others.
-fn compared(same: bool, lines: Lines) -> Answer
+fn replay_answer(same: bool, lines: Lines) -> Answer
     ensures { result ≡ cond same (Text lines) (Differs lines) }
 {
     if same {
@@ -78,14 +78,14 @@ pub fn replay_machines(
 {
     let left_end = match run(alloc, left, inputs, steps) {
         Ok(ended) => ended,
-        Err(stop) => return unended(alloc, Side::Left, stop),
+        Err(stop) => return stop_answer(alloc, Side::Left, stop),
     };
     let right_end = match run(alloc, right, inputs, steps) {
         Ok(ended) => ended,
-        Err(stop) => return unended(alloc, Side::Right, stop),
+        Err(stop) => return stop_answer(alloc, Side::Right, stop),
     };
     match replay_text(alloc, left, &left_end, right, &right_end) {
-        Ok(Replay { same, text }) => Ok(compared(same, Lines::of(text))),
+        Ok(Replay { same, text }) => Ok(replay_answer(same, Lines::of(text))),
         Err(_) => Err(AllocError),
     }
 }

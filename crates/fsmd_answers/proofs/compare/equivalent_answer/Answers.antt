@@ -3,7 +3,7 @@ use Rattle.std.proofs.lemmas.List.{length-map}
 use Rattle.std.specs.Prelude.{map}
 use Rattle.cert_model.specs.View.{node_of}
 use Rattle.fsmd_answers.proofs.Pairs.{equivalent}
-use Rattle.fsmd_answers.proofs.compare.equivalent.Goals as goal
+use Rattle.fsmd_answers.proofs.compare.equivalent_answer.Goals as goal
 
 pub returns : goal.returns
 returns c =

@@ -4,7 +4,7 @@ use Rattle.fsmd_answers.proofs.runs.run_machine.Goals as goal
 
 pub returns-in-Err : goal.returns-in-Err
 returns-in-Err c = run_stopped c.args.steps c.args.machine.now
-    (inputs_of c.args.inputs.now) c.in-Err.stop c.unended.result c.in-Err.ensures.stopped c.unended.ensures
+    (inputs_of c.args.inputs.now) c.in-Err.stop c.stop_answer.result c.in-Err.ensures.stopped c.stop_answer.ensures
 
 pub returns-in-Ok-end_text : goal.returns-in-Ok-end_text
 returns-in-Ok-end_text c =
