@@ -69,7 +69,7 @@ fn end_of(point: Point, path: Option<&Path>) -> Point
     }
 }
 
-// Why what arrives at two points fails: no node stands there, or it is not reached. What is refuted does not.
+// Why what arrives at two points fails: no node stands there, or it is not reached. What is refuted never fails.
 fn judge_arrival(
     alloc: Global,
     table: &Table<'_>,

@@ -118,7 +118,7 @@ fn name_at<'a>(a: &'a Machine, b: &'a Machine, pos: Pos) -> &'a [u8]
     }
 }
 
-// The name of a position, empty where it is not on a side.
+// The name of a position, empty where it is not on this side.
 fn name_on<'a>(a: &'a Machine, b: &'a Machine, side: Side, pos: Pos) -> &'a [u8]
     ensures { result.now ≡ cond (same_side pos.side side) (position_name a.now b.now pos) [] }
 {
