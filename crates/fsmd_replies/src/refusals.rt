@@ -200,7 +200,7 @@ fn node_text(alloc: Global, node: Option<u32>) -> Result<String, AllocError>
 }
 
 // The line of a refused file, of a kind and a node.
-fn refused(alloc: Global, word: &str, kind: &str, node: &str) -> Result<String, AllocError>
+fn refusal_line(alloc: Global, word: &str, kind: &str, node: &str) -> Result<String, AllocError>
     ensures { IfOk result
         (λ text. string_bytes text ≡ codes "bad input: "
         ++ (word.now ++ (codes ": " ++ (kind.now ++ (node.now ++ codes "\n"))))) }
@@ -215,7 +215,7 @@ pub fn cert_refused(alloc: Global, word: &str, error: CertError) -> Result<Strin
         ++ (word.now ++ (codes ": " ++ (cert_error_name error ++ (node_count_text (node_in error) ++ codes "\n"))))) }
 {
     let node = node_text(alloc, node_of(error))?;
-    refused(alloc, word, cert_error_name(error), node.as_str())
+    refusal_line(alloc, word, cert_error_name(error), node.as_str())
 }
 
 /// The line of a file that has more bytes than are read.
