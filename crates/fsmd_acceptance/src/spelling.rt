@@ -7,14 +7,14 @@ use std::alloc::{AllocError, Global};
 pub fn fill(alloc: Global, form: &str, line: &str, row: &str) -> Result<String, AllocError> {
     let mut all = String::from_str(alloc, form)?;
     for round in 0..10 {
-        all = written(alloc, all.as_str(), round, line, row)?;
+        all = write_round(alloc, all.as_str(), round, line, row)?;
     }
     Ok(all)
 }
 
 // A text with the marks of one round written out: a cell of the line may have marks of the row's cells, and those may have names
 // of texts.
-fn written(
+fn write_round(
     alloc: Global,
     text: &str,
     round: u32,

@@ -23,7 +23,7 @@ state q0: goto q1: i = 0, r = 1, d = 1, e = 1, f = 1;
 state q1: when i < n goto q1: i = i + 1, r = r + d, d = d + e, e = e + f, f = f + 1; goto q0: y = r;";
 
 // What further candidate j gives index i of input k of a machine.
-fn given(alloc: Global, m: &Machine, j: u64, k: u32, i: i128) -> Option<i128> {
+fn further_value(alloc: Global, m: &Machine, j: u64, k: u32, i: i128) -> Option<i128> {
     if j >= 256 {
         return None;
     }
@@ -61,7 +61,7 @@ fn numbers_of_further_candidates(rt: HostRuntime) -> Result<(), &'static str> {
     let machine = machine(rt.alloc(), CONSTANTS)?;
     for (j, k, i, number) in &NUMBERS {
         assert!(rt;
-            given(rt.alloc(), &machine, *j, *k, *i) == Some(*number),
+            further_value(rt.alloc(), &machine, *j, *k, *i) == Some(*number),
             "candidate {j}, input {k}, index {i}"
         );
     }

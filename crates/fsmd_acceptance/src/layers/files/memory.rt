@@ -60,7 +60,7 @@ fn never_fail(alloc: Global, files: &mut CleanFiles) -> bool {
 }
 
 // Whether these are the names that were loaded.
-fn loaded<F: Files>(files: &RecordedFiles<F>, want: &str) -> bool {
+fn has_loaded<F: Files>(files: &RecordedFiles<F>, want: &str) -> bool {
     let Some(names) = files.loaded_names() else {
         return false;
     };
@@ -76,12 +76,12 @@ fn loaded<F: Files>(files: &RecordedFiles<F>, want: &str) -> bool {
 // Whether files without a file, whose call 5 fails, tell which were loaded.
 fn tells_which<F: Files>(alloc: Global, files: &mut RecordedFiles<F>) -> bool {
     files.store(alloc, "a", b"three") == Ok(())
-        && loaded(files, "")
+        && has_loaded(files, "")
         && load_and_store(alloc, files)
-        && loaded(files, "a a a")
+        && has_loaded(files, "a a a")
         && load_fails(alloc, files, "a")
         && load_fails(alloc, files, "b")
-        && loaded(files, "a a a a b")
+        && has_loaded(files, "a a a a b")
 }
 
 #[test]

@@ -27,7 +27,12 @@ fn with_machine(
 }
 
 // The same of the machine of a text, and nothing where the text has none.
-fn linked(alloc: Global, chain: Chain, next: &str, cert: &str) -> Option<Result<Chain, ChainStop>> {
+fn with_machine_of(
+    alloc: Global,
+    chain: Chain,
+    next: &str,
+    cert: &str,
+) -> Option<Result<Chain, ChainStop>> {
     let next = machine(alloc, next).ok()?;
     with_machine(alloc, chain, next, cert)
 }
@@ -74,12 +79,12 @@ fn no_link(alloc: Global) -> Option<Result<Chain, ChainStop>> {
 
 // The chain of the first two machines.
 fn first_link(alloc: Global) -> Option<Result<Chain, ChainStop>> {
-    linked(alloc, no_link(alloc)?.ok()?, PRODUCTS, SUM_TO_PRODUCTS)
+    with_machine_of(alloc, no_link(alloc)?.ok()?, PRODUCTS, SUM_TO_PRODUCTS)
 }
 
 // The chain of three machines by this certificate, or why the third one is not added.
 fn second_link(alloc: Global, cert: &str) -> Option<Result<Chain, ChainStop>> {
-    linked(alloc, first_link(alloc)?.ok()?, STEPS, cert)
+    with_machine_of(alloc, first_link(alloc)?.ok()?, STEPS, cert)
 }
 
 // Whether a link is refused since obligation 3 fails at the equation of place 5.

@@ -42,7 +42,7 @@ fn has_lines(alloc: Global, m: &Machine, text: &str) -> bool {
 }
 
 // How many assignments a state makes by a text, as `2: 1`, if it is named there.
-fn told(text: &str, state: u32) -> Option<usize> {
+fn assignment_count(text: &str, state: u32) -> Option<usize> {
     for part in text.split("; ") {
         let (place, count) = part.split_once(": ").unwrap_or(("", ""));
         if number(place) == state {
@@ -55,7 +55,7 @@ fn told(text: &str, state: u32) -> Option<usize> {
 // Whether the states of a machine that stand in lines are those of a text, each with how many assignments it makes.
 fn has_states(m: &Machine, text: &str) -> bool {
     for q in 0..m.state_count() {
-        let count = told(text, q);
+        let count = assignment_count(text, q);
         let is_told = if is_straight(m, StateId(q)) {
             count == Some(item(m, StateId(q)).len())
         } else {

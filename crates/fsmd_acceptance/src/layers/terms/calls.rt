@@ -85,7 +85,7 @@ fn copy_is_same(alloc: Global, form: &Nf) -> bool {
 }
 
 // A form that is made anew of the tree taken out of it.
-fn taken_out(form: Nf) -> Option<Nf> {
+fn rebuild(form: Nf) -> Option<Nf> {
     match form {
         Nf::Num(sum) => Some(Nf::Num(Poly::of(sum.into_tree())?)),
         Nf::Arr(array) => Some(Nf::Arr(Arr::of(array.into_tree())?)),
@@ -98,7 +98,7 @@ fn is_taken_out(alloc: Global, text: &str) -> bool {
     let Ok(form) = form(alloc, text) else {
         return false;
     };
-    match taken_out(form) {
+    match rebuild(form) {
         Some(again) => is_written(alloc, &again, text),
         None => false,
     }

@@ -18,7 +18,7 @@ use nf_terms::tree::SeqBase;
 use std::alloc::Global;
 
 // The normal form that the last array is, or the last sum where there is no array.
-fn normal(trees: &mut Trees) -> Option<Nf> {
+fn last_form(trees: &mut Trees) -> Option<Nf> {
     match trees.arrays.pop() {
         Some(array) => Some(Nf::Arr(Arr::of(array)?)),
         None => Some(Nf::Num(Poly::of(trees.sums.pop()?)?)),
@@ -32,7 +32,7 @@ pub fn normal_form(alloc: Global, text: &str) -> Result<Option<Nf>, NfStop> {
         arrays: Vec::new(alloc),
     };
     if put_trees(alloc, &mut trees, text) {
-        Ok(normal(&mut trees))
+        Ok(last_form(&mut trees))
     } else {
         Err(NfStop::NoMemory)
     }
@@ -47,7 +47,7 @@ pub fn written_form(alloc: Global, text: &str) -> Result<Nf, NfStop> {
 }
 
 // The list, sum or array of one word.
-fn simple(alloc: Global, word: &str) -> Result<Nf, NfStop> {
+fn simple_form(alloc: Global, word: &str) -> Result<Nf, NfStop> {
     match word.strip_prefix("#") {
         None => normal_form(alloc, word)?.ok_or(NfStop::NoMemory),
         Some("0") => Ok(Nf::Seq(Seq::bare(alloc, SeqBase::Empty))),
@@ -59,7 +59,7 @@ fn simple(alloc: Global, word: &str) -> Result<Nf, NfStop> {
 }
 
 // An operation on two sums.
-fn combined(alloc: Global, word: &str, left: &Poly, right: &Poly) -> Result<Poly, NfStop> {
+fn combine(alloc: Global, word: &str, left: &Poly, right: &Poly) -> Result<Poly, NfStop> {
     match word {
         "+" => add(alloc, left, right),
         "-" => sub(alloc, left, right),
@@ -71,23 +71,23 @@ fn combined(alloc: Global, word: &str, left: &Poly, right: &Poly) -> Result<Poly
 }
 
 // The sum that a word makes of the forms that it works on: of one sum its negation, and of an array and an index a read.
-fn sum_made(alloc: Global, forms: &[Nf], word: &str) -> Result<Poly, NfStop> {
+fn sum_by_word(alloc: Global, forms: &[Nf], word: &str) -> Result<Poly, NfStop> {
     match forms {
         [Nf::Num(sum)] => Ok(neg(alloc, sum)?),
         [Nf::Arr(array), Nf::Num(index)] => read(alloc, array, index),
-        [Nf::Num(left), Nf::Num(right)] => combined(alloc, word, left, right),
+        [Nf::Num(left), Nf::Num(right)] => combine(alloc, word, left, right),
         _ => Err(NfStop::NoMemory),
     }
 }
 
 // What a word makes of the forms that it works on: of three a write, and of a list and an item the list with that.
-fn made(alloc: Global, forms: &[Nf], word: &str) -> Result<Nf, NfStop> {
+fn form_by_word(alloc: Global, forms: &[Nf], word: &str) -> Result<Nf, NfStop> {
     match forms {
         [Nf::Arr(array), Nf::Num(index), Nf::Num(value)] => {
             Ok(Nf::Arr(write(alloc, array, index, value)?))
         }
         [Nf::Seq(list), Nf::Num(item)] => Ok(Nf::Seq(push(alloc, list, item)?)),
-        _ => Ok(Nf::Num(sum_made(alloc, forms, word)?)),
+        _ => Ok(Nf::Num(sum_by_word(alloc, forms, word)?)),
     }
 }
 
@@ -96,8 +96,8 @@ fn put(alloc: Global, forms: &mut Vec<Nf>, word: &str) -> Result<(), NfStop> {
     let (first, last) = operands(word);
     let count = forms.len().saturating_sub(first).saturating_sub(last);
     let form = match last {
-        0 => simple(alloc, word)?,
-        _ => made(alloc, forms.as_slice().get(count..).unwrap_or(&[]), word)?,
+        0 => simple_form(alloc, word)?,
+        _ => form_by_word(alloc, forms.as_slice().get(count..).unwrap_or(&[]), word)?,
     };
     forms.truncate(count);
     if put_last(forms, form) {

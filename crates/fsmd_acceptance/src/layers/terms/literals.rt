@@ -28,7 +28,7 @@ fn relation(word: &str) -> Option<Rel> {
 }
 
 // The literal of two sums and the relation of a word.
-fn against(alloc: Global, sides: &[Nf], word: &str) -> Result<NLit, NfStop> {
+fn make_literal(alloc: Global, sides: &[Nf], word: &str) -> Result<NLit, NfStop> {
     match (sides, relation(word)) {
         ([Nf::Num(left), Nf::Num(right)], Some(relation)) => literal(alloc, relation, left, right),
         _ => Err(NfStop::NoMemory),
@@ -42,7 +42,7 @@ fn read_literal(alloc: Global, text: &str) -> Result<NLit, NfStop> {
     let mut sides = Vec::new(alloc);
     put_each(alloc, &mut sides, first)?;
     put_each(alloc, &mut sides, second)?;
-    against(alloc, sides.as_slice(), word.trim())
+    make_literal(alloc, sides.as_slice(), word.trim())
 }
 
 // Puts the literals of a text, between `;`.

@@ -6,7 +6,7 @@ use std::alloc::Global;
 use std::cmp::Ordering;
 
 // The order of two forms of one sort.
-fn compare(left: &Nf, right: &Nf) -> Option<Ordering> {
+fn order_of(left: &Nf, right: &Nf) -> Option<Ordering> {
     match (left, right) {
         (Nf::Num(left), Nf::Num(right)) => Some(left.cmp(right)),
         (Nf::Arr(left), Nf::Arr(right)) => Some(left.cmp(right)),
@@ -17,9 +17,9 @@ fn compare(left: &Nf, right: &Nf) -> Option<Ordering> {
 
 // Whether two forms stand in this order, and no other.
 fn stand(lower: &Nf, higher: &Nf) -> bool {
-    compare(lower, higher) == Some(Ordering::Less)
-        && compare(higher, lower) == Some(Ordering::Greater)
-        && compare(lower, lower) == Some(Ordering::Equal)
+    order_of(lower, higher) == Some(Ordering::Less)
+        && order_of(higher, lower) == Some(Ordering::Greater)
+        && order_of(lower, lower) == Some(Ordering::Equal)
         && lower.is_same(lower)
         && !lower.is_same(higher)
 }

@@ -34,7 +34,7 @@ fn put_each(alloc: Global, vector: &mut Vector, text: &str) -> bool {
 }
 
 // A form with a vector's forms in place of its symbols.
-fn substituted(alloc: Global, form: &Nf, vector: &Vector) -> Result<Nf, NfStop> {
+fn substitute(alloc: Global, form: &Nf, vector: &Vector) -> Result<Nf, NfStop> {
     match form {
         Nf::Num(sum) => Ok(Nf::Num(subst_poly(alloc, sum, vector)?)),
         Nf::Arr(array) => Ok(Nf::Arr(subst_arr(alloc, array, vector)?)),
@@ -43,7 +43,7 @@ fn substituted(alloc: Global, form: &Nf, vector: &Vector) -> Result<Nf, NfStop> 
 }
 
 // The same by a substitution that has kept what it met before.
-fn again(alloc: Global, form: &Nf, subst: &mut Subst) -> Result<Nf, NfStop> {
+fn substitute_again(alloc: Global, form: &Nf, subst: &mut Subst) -> Result<Nf, NfStop> {
     match form {
         Nf::Num(sum) => Ok(Nf::Num(subst.poly(alloc, sum)?)),
         Nf::Arr(array) => Ok(Nf::Arr(subst.arr(alloc, array)?)),
@@ -61,14 +61,14 @@ fn is_wanted(alloc: Global, found: Result<Nf, NfStop>, text: &str) -> bool {
 
 // Whether a kept substitution gives the form of a text twice, or stops so.
 fn gives_twice(alloc: Global, subst: &mut Subst, given: &Nf, text: &str) -> bool {
-    is_wanted(alloc, again(alloc, given, subst), text)
-        && is_wanted(alloc, again(alloc, given, subst), text)
+    is_wanted(alloc, substitute_again(alloc, given, subst), text)
+        && is_wanted(alloc, substitute_again(alloc, given, subst), text)
 }
 
 // Whether a form over a vector is the form of a text, or stops as that says, by a kept substitution, too.
 fn is_given(alloc: Global, vector: &Vector, given: &Nf, text: &str) -> bool {
     let mut subst = Subst::new(alloc, vector);
-    is_wanted(alloc, substituted(alloc, given, vector), text)
+    is_wanted(alloc, substitute(alloc, given, vector), text)
         && gives_twice(alloc, &mut subst, given, text)
 }
 

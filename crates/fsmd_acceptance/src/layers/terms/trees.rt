@@ -95,8 +95,8 @@ fn put_sum(alloc: Global, sums: &mut Vec<PolyTree>, word: &str) -> bool {
 // Puts the array of a symbol, or that of zeros.
 fn put_array(alloc: Global, arrays: &mut Vec<ArrTree>, name: &str) -> bool {
     match position(name) {
-        Some(symbol) => put_last(arrays, bare(alloc, Base::Sym(symbol))),
-        None => name == "0" && put_last(arrays, bare(alloc, Base::Zero)),
+        Some(symbol) => put_last(arrays, bare_array(alloc, Base::Sym(symbol))),
+        None => name == "0" && put_last(arrays, bare_array(alloc, Base::Zero)),
     }
 }
 
@@ -129,7 +129,7 @@ fn zero(alloc: Global) -> PolyTree {
     }
 }
 
-fn bare(alloc: Global, base: Base) -> ArrTree {
+fn bare_array(alloc: Global, base: Base) -> ArrTree {
     ArrTree {
         base,
         writes: Vec::new(alloc),
@@ -148,7 +148,7 @@ fn take_sum(alloc: Global, sums: &mut Vec<PolyTree>) -> PolyTree {
 fn take_array(alloc: Global, arrays: &mut Vec<ArrTree>) -> ArrTree {
     match arrays.pop() {
         Some(array) => array,
-        None => bare(alloc, Base::Zero),
+        None => bare_array(alloc, Base::Zero),
     }
 }
 
