@@ -3,8 +3,22 @@
 use crate::named::text_of;
 use std::alloc::{AllocError, Global};
 
+/// Why the marks of a text are not written out.
+#[derive(Debug, Drop)]
+pub enum SpellError {
+    /// A run has no end, or is none of those that the crate's page names.
+    Misspelt,
+    NoMemory,
+}
+
+impl From<AllocError> for SpellError {
+    fn from(_refused: AllocError) -> SpellError {
+        SpellError::NoMemory
+    }
+}
+
 /// A form with the cells of a line of the head and of a row in their places, and all other marks written out.
-pub fn fill(alloc: Global, form: &str, line: &str, row: &str) -> Result<String, AllocError> {
+pub fn fill(alloc: Global, form: &str, line: &str, row: &str) -> Result<String, SpellError> {
     let mut all = String::from_str(alloc, form)?;
     for round in 0..10 {
         all = write_round(alloc, all.as_str(), round, line, row)?;
@@ -20,17 +34,18 @@ fn write_round(
     round: u32,
     line: &str,
     row: &str,
-) -> Result<String, AllocError> {
-    match round {
+) -> Result<String, SpellError> {
+    let all = match round {
         0 | 1 | 2 => with_texts(alloc, text, line, row),
         3 => text.replace(alloc, "\\n", "\n"),
         4 => text.replace(alloc, "\\t", "\t"),
         5 => text.replace(alloc, "\\r", "\r"),
-        6 => with_runs(alloc, text, "(*", "*)"),
-        7 => with_runs(alloc, text, "<<", ">>"),
+        6 => return with_runs(alloc, text, "(*", "*)"),
+        7 => return with_runs(alloc, text, "<<", ">>"),
         8 => with_place(alloc, text),
         _ => with_change(alloc, text),
-    }
+    };
+    Ok(all?)
 }
 
 // A text with what stands for each mark between braces.
@@ -71,28 +86,47 @@ fn cell<'a>(marks: &str, cells: &'a str, mark: &str) -> Option<&'a str> {
 }
 
 /// A text with each run between these marks written out.
-pub fn with_runs(alloc: Global, text: &str, open: &str, close: &str) -> Result<String, AllocError> {
+pub fn with_runs(alloc: Global, text: &str, open: &str, close: &str) -> Result<String, SpellError> {
     let mut all = String::new(alloc);
-    for piece in text.split(open) {
-        let (run, rest) = piece.split_once(close).unwrap_or(("", piece));
-        push_run(&mut all, run)?;
-        all.push_str(rest)?;
+    let mut pieces = text.split(open);
+    all.push_str(pieces.next().unwrap_or(""))?;
+    for piece in pieces {
+        push_run(&mut all, piece, close)?;
     }
     Ok(all)
 }
 
-fn push_run(all: &mut String, run: &str) -> Result<(), AllocError> {
-    let (span, item) = run.split_once(':').unwrap_or(("", ""));
-    let mut words = span.split(' ');
-    let first = number(words.next().unwrap_or(""));
-    if words.next() == Some("times") {
-        return push_times(all, item, first);
+// Adds a run up to its last mark, and what stands behind that.
+fn push_run(all: &mut String, piece: &str, close: &str) -> Result<(), SpellError> {
+    let (run, rest) = piece.split_once(close).ok_or(SpellError::Misspelt)?;
+    let (span, item) = run.split_once(':').ok_or(SpellError::Misspelt)?;
+    push_span(all, span, item)?;
+    Ok(all.push_str(rest)?)
+}
+
+// Adds the item as often, with such numbers or as much of it as a span says.
+fn push_span(all: &mut String, span: &str, item: &str) -> Result<(), SpellError> {
+    if let Some(times) = span.strip_suffix(" times") {
+        return Ok(push_times(all, item, number(times)?)?);
     }
-    let end = number(words.next().unwrap_or(""));
-    match words.next() {
-        None => push_numbered(all, item, first, end),
-        Some(_) => all.push_str(item.get(first as usize..end as usize).unwrap_or("")),
+    let (first, end) = span.split_once(" to ").ok_or(SpellError::Misspelt)?;
+    match end.strip_suffix(" of") {
+        Some(end) => push_part(all, item, number(first)?, number(end)?),
+        None => Ok(push_numbered(all, item, number(first)?, number(end)?)?),
     }
+}
+
+// The number of a text.
+fn number(digits: &str) -> Result<u32, SpellError> {
+    digits.parse::<u32>().ok().ok_or(SpellError::Misspelt)
+}
+
+// Adds what stands in the item from one byte on up to another.
+fn push_part(all: &mut String, item: &str, first: u32, end: u32) -> Result<(), SpellError> {
+    let part = item
+        .get(first as usize..end as usize)
+        .ok_or(SpellError::Misspelt)?;
+    Ok(all.push_str(part)?)
 }
 
 fn push_times(all: &mut String, item: &str, times: u32) -> Result<(), AllocError> {
@@ -127,11 +161,6 @@ fn push_number(all: &mut String, piece: &str, this: u32) -> Result<(), AllocErro
         None => (this, piece),
     };
     write!(all, "{number}{rest}")
-}
-
-/// The number of a text, and the largest one where it has none.
-pub fn number(digits: &str) -> u32 {
-    digits.parse().unwrap_or(u32::MAX)
 }
 
 // A case with the place behind the first `▸` in place of the second one.

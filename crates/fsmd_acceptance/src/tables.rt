@@ -8,7 +8,7 @@ use std::process::Abort;
 /// Asserts each case of each table of these texts.
 pub fn each_text(rt: &impl Abort, alloc: Global, texts: &[&str]) {
     for text in texts {
-        let text = with_runs(alloc, text, "(each ", "each)").expect(rt, "no memory");
+        let text = with_runs(alloc, text, "(each ", "each)").expect(rt, "rows");
         each_table(rt, alloc, text.as_str());
     }
 }
@@ -31,16 +31,9 @@ fn each_line(rt: &impl Abort, alloc: Global, head: &str, rows: &str) {
 
 // The same with the cells of one such line.
 fn each_row(rt: &impl Abort, alloc: Global, front: &str, line: &str, rows: &str) {
-    for row in rows.lines() {
-        assert!(rt; holds(alloc, front, line, row), "{front}\n{line}\n{row}");
-    }
-}
-
-// Whether there is memory, and the program answers as the form says with the cells of this line and this row.
-fn holds(alloc: Global, front: &str, line: &str, row: &str) -> bool {
     let (_, form) = front.rsplit_once('\n').unwrap_or(("", front));
-    match fill(alloc, form, line, row) {
-        Ok(case) => is_answered(alloc, case.as_str()),
-        Err(_) => false,
+    for row in rows.lines() {
+        let case = fill(alloc, form, line, row).expect(rt, row);
+        assert!(rt; is_answered(alloc, case.as_str()), "{front}\n{line}\n{row}");
     }
 }

@@ -1,10 +1,10 @@
 //! Words of the command line with what they ask, and words that are refused.
 
 use crate::cases::words_of;
-use crate::spelling::with_runs;
+use crate::spelling::{SpellError, with_runs};
 use fsmd_words::asking::{Ask, AskError};
 use fsmd_words::words::ask;
-use std::alloc::{AllocError, Global};
+use std::alloc::Global;
 
 // Words, and what they ask; words that are refused have no more. The longest chain is of 129 files. The empty line has no words.
 const ROWS: &str =
@@ -131,7 +131,7 @@ fn holds(alloc: Global, row: &str) -> bool {
 }
 
 #[test]
-fn words_of_commands(rt: HostRuntime) -> Result<(), AllocError> {
+fn words_of_commands(rt: HostRuntime) -> Result<(), SpellError> {
     let rows = with_runs(rt.alloc(), ROWS, "<<", ">>")?;
     for row in rows.as_str().lines() {
         assert!(rt; holds(rt.alloc(), row), "{row}");

@@ -2,7 +2,6 @@
 
 use crate::machines::reading::machine;
 use crate::machines::samples::SOLVER;
-use crate::spelling::number;
 use fs_ast::machine::Machine;
 use fs_model::parts::StateId;
 use hls_sched::arrivals::count_arrivals;
@@ -14,11 +13,12 @@ fn is_line(line: &Line, text: &str) -> bool {
     let (states, exit) = text.split_once(" to ").unwrap_or((text, ""));
     let mut words = states.split(' ');
     for state in line.states.as_slice() {
-        if number(words.next().unwrap_or("")) != state.0 {
+        let word = words.next().unwrap_or("");
+        if word.parse::<u32>().ok() != Some(state.0) {
             return false;
         }
     }
-    words.next().is_none() && number(exit) == line.exit.0
+    words.next().is_none() && exit.parse::<u32>().ok() == Some(line.exit.0)
 }
 
 // Whether the lines of a machine, in order, are those of a text.
@@ -41,12 +41,12 @@ fn has_lines(alloc: Global, m: &Machine, text: &str) -> bool {
     wanted.next().unwrap_or("").is_empty()
 }
 
-// How many assignments a state makes by a text, as `2: 1`, if it is named there.
+// How many assignments a state makes by a text, as `2: 1`, if it is named there; the most where that is no number.
 fn assignment_count(text: &str, state: u32) -> Option<usize> {
     for part in text.split("; ") {
         let (place, count) = part.split_once(": ").unwrap_or(("", ""));
-        if number(place) == state {
-            return Some(number(count) as usize);
+        if place.parse::<u32>().ok() == Some(state) {
+            return Some(count.parse::<usize>().unwrap_or(usize::MAX));
         }
     }
     None

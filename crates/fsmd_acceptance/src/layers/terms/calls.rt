@@ -43,7 +43,8 @@ fn form_holds(alloc: Global, name: &str, row: &str) -> bool {
     match name {
         "symbols" => has_symbols(alloc, &form, cells),
         "copy" => copy_is_same(alloc, &form),
-        _ => is_put(alloc, &form),
+        "put" => is_put(alloc, &form),
+        _ => false,
     }
 }
 

@@ -25,13 +25,18 @@ fn last_form(trees: &mut Trees) -> Option<Nf> {
     }
 }
 
+// Whether one tree is there.
+fn is_one(trees: &Trees) -> bool {
+    matches!((trees.arrays.len(), trees.sums.len()), (0, 1) | (1, 0))
+}
+
 /// The normal form that the tree of a text is, where it is one.
 pub fn normal_form(alloc: Global, text: &str) -> Result<Option<Nf>, NfStop> {
     let mut trees = Trees {
         sums: Vec::new(alloc),
         arrays: Vec::new(alloc),
     };
-    if put_trees(alloc, &mut trees, text) {
+    if put_trees(alloc, &mut trees, text) && is_one(&trees) {
         Ok(last_form(&mut trees))
     } else {
         Err(NfStop::NoMemory)
@@ -70,23 +75,23 @@ fn combine(alloc: Global, word: &str, left: &Poly, right: &Poly) -> Result<Poly,
     }
 }
 
-// The sum that a word makes of the forms that it works on: of one sum its negation, and of an array and an index a read.
+// The sum that a word makes of the forms that it works on, where they are such as it can work on.
 fn sum_by_word(alloc: Global, forms: &[Nf], word: &str) -> Result<Poly, NfStop> {
-    match forms {
-        [Nf::Num(sum)] => Ok(neg(alloc, sum)?),
-        [Nf::Arr(array), Nf::Num(index)] => read(alloc, array, index),
-        [Nf::Num(left), Nf::Num(right)] => combine(alloc, word, left, right),
+    match (word, forms) {
+        ("neg", [Nf::Num(sum)]) => Ok(neg(alloc, sum)?),
+        ("[]", [Nf::Arr(array), Nf::Num(index)]) => read(alloc, array, index),
+        (_, [Nf::Num(left), Nf::Num(right)]) => combine(alloc, word, left, right),
         _ => Err(NfStop::NoMemory),
     }
 }
 
-// What a word makes of the forms that it works on: of three a write, and of a list and an item the list with that.
+// The same of any form.
 fn form_by_word(alloc: Global, forms: &[Nf], word: &str) -> Result<Nf, NfStop> {
-    match forms {
-        [Nf::Arr(array), Nf::Num(index), Nf::Num(value)] => {
+    match (word, forms) {
+        ("{}", [Nf::Arr(array), Nf::Num(index), Nf::Num(value)]) => {
             Ok(Nf::Arr(write(alloc, array, index, value)?))
         }
-        [Nf::Seq(list), Nf::Num(item)] => Ok(Nf::Seq(push(alloc, list, item)?)),
+        ("<<", [Nf::Seq(list), Nf::Num(item)]) => Ok(Nf::Seq(push(alloc, list, item)?)),
         _ => Ok(Nf::Num(sum_by_word(alloc, forms, word)?)),
     }
 }
@@ -115,11 +120,14 @@ pub fn put_each(alloc: Global, forms: &mut Vec<Nf>, text: &str) -> Result<(), Nf
     Ok(())
 }
 
-/// The normal form of a text.
+/// The normal form of a text whose words leave one form.
 pub fn form(alloc: Global, text: &str) -> Result<Nf, NfStop> {
     let mut forms = Vec::new(alloc);
     put_each(alloc, &mut forms, text)?;
-    forms.pop().ok_or(NfStop::NoMemory)
+    match (forms.pop(), forms.is_empty()) {
+        (Some(form), true) => Ok(form),
+        _ => Err(NfStop::NoMemory),
+    }
 }
 
 /// Whether a form is that of a text.

@@ -158,7 +158,7 @@ fn pair_holds(alloc: Global, name: &str, left: &NLit, right: &NLit) -> bool {
 // Whether a row holds whose literals are these.
 fn row_holds(alloc: Global, name: &str, list: &[NLit]) -> bool {
     match list {
-        [front @ .., last] if name.ends_with("implied") => {
+        [front @ .., last] if name == "implied" || name == "not implied" => {
             implied(front, last) == (name == "implied")
         }
         [left, right] => pair_holds(alloc, name, left, right),

@@ -3,11 +3,20 @@
 use crate::layers::terms::forms::normal_form;
 use std::alloc::Global;
 
-/// Whether the tree of a text is a normal form, or is none, as wanted.
-pub fn is_normal(alloc: Global, text: &str, wanted: bool) -> bool {
+// Whether the tree of a text is a normal form, or is none, as wanted.
+fn is_normal(alloc: Global, text: &str, wanted: bool) -> bool {
     match normal_form(alloc, text) {
         Ok(form) => form.is_some() == wanted,
         Err(_) => false,
+    }
+}
+
+/// Whether a row about normal forms holds.
+pub fn holds(alloc: Global, name: &str, row: &str) -> bool {
+    match name {
+        "normal" => is_normal(alloc, row, true),
+        "not normal" => is_normal(alloc, row, false),
+        _ => false,
     }
 }
 

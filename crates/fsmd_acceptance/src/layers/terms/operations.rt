@@ -9,10 +9,10 @@ use std::alloc::Global;
 /// Whether a row about what is made holds.
 pub fn holds(alloc: Global, name: &str, row: &str) -> bool {
     let (left, right) = row.split_once('=').unwrap_or((row, ""));
-    if name == "operation" {
-        gives(alloc, left, right)
-    } else {
-        is_wide(alloc, left, right)
+    match name {
+        "operation" => gives(alloc, left, right),
+        "wide number" => is_wide(alloc, left, right),
+        _ => false,
     }
 }
 

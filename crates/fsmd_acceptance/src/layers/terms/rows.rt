@@ -1,4 +1,4 @@
-//! Assertions of rows, by the name of their table.
+//! Assertions of rows, by their subject and the name of their table.
 
 use crate::layers::terms::{calls, literals, measures, normal, operations, orders, substitutions};
 use std::alloc::Global;
@@ -30,16 +30,16 @@ fn each_row(rt: &impl Abort, alloc: Global, subject: &Subject, name: &str, rows:
     }
 }
 
-// Whether a row of a table of this name holds.
+// Whether a row of a table of this name holds; where no table of the subject has such a name, none does.
 fn holds(alloc: Global, subject: &Subject, name: &str, row: &str) -> bool {
     match subject {
         Subject::Calls => calls::holds(alloc, name, row),
         Subject::Literals => literals::holds(alloc, name, row),
-        Subject::Measures => measures::has_measures(alloc, row),
-        Subject::Normal => normal::is_normal(alloc, row, name == "normal"),
+        Subject::Measures => name == "measures" && measures::has_measures(alloc, row),
+        Subject::Normal => normal::holds(alloc, name, row),
         Subject::Operations => operations::holds(alloc, name, row),
-        Subject::Orders => orders::stands(alloc, row),
-        Subject::Substitutions => substitutions::gives(alloc, row),
+        Subject::Orders => name == "order" && orders::stands(alloc, row),
+        Subject::Substitutions => name == "substitution" && substitutions::gives(alloc, row),
     }
 }
 

@@ -86,9 +86,9 @@ fn put_number(alloc: Global, sums: &mut Vec<PolyTree>, word: &str) -> bool {
 // Puts a symbol, a power of one or a number.
 fn put_sum(alloc: Global, sums: &mut Vec<PolyTree>, word: &str) -> bool {
     let (name, times) = word.split_once('^').unwrap_or((word, "1"));
-    match position(name) {
-        Some(symbol) => put_power(alloc, sums, symbol, times.parse::<u32>().unwrap_or(0)),
-        None => put_number(alloc, sums, word),
+    match (position(name), times.parse::<u32>()) {
+        (Some(symbol), Ok(times)) => put_power(alloc, sums, symbol, times),
+        _ => put_number(alloc, sums, word),
     }
 }
 
