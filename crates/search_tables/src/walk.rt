@@ -184,7 +184,11 @@ fn ranks_in(alloc: Global, marks: &[Mark]) -> Result<Vec<u32>, NoMemory>
 
 // The cycle that begins at the least node on any, where there is a cycle.
 #[tactic(auto, using(crate::proofs::WayBack::some_cycle))]
-fn least(alloc: Global, edges: &[Vec<u32>], cycle: Vec<u32>) -> Result<Vec<u32>, NoMemory>
+fn expect_least_cycle(
+    alloc: Global,
+    edges: &[Vec<u32>],
+    cycle: Vec<u32>,
+) -> Result<Vec<u32>, NoMemory>
     requires range { InRange (lists_in edges.now) }
     requires cycle { IsCycle (lists_in edges.now) cycle.items }
     ensures { IfOk result (λ v. IsCycle (lists_in edges.now) v.items × BeginsLeast (lists_in edges.now) v.items) }
@@ -208,7 +212,7 @@ pub fn rank_all(alloc: Global, edges: &[Vec<u32>]) -> Result<Ranking, NoMemory>
     let mut marks = new_marks(alloc, edges)?;
     'roots: for root in 0..edges.len() {
         match rank_root(alloc, edges, &mut marks, root as u32)? {
-            Some(cycle) => return Ok(Ranking::Cycle(least(alloc, edges, cycle)?)),
+            Some(cycle) => return Ok(Ranking::Cycle(expect_least_cycle(alloc, edges, cycle)?)),
             None => {}
         }
     }
