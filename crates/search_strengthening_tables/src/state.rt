@@ -79,7 +79,7 @@ pub fn begin(alloc: Global, p: &Pairing) -> Result<State, NoMemory> {
     Ok(State {
         nodes,
         flags: Vec::new(alloc),
-        work: Work::whole(),
+        work: Work::new(),
         version: 0,
         changes: 0,
         clearings: 0,

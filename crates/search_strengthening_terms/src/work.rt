@@ -13,7 +13,7 @@ pub struct Work {
 
 impl Work {
     /// All of it.
-    pub fn whole() -> Work {
+    pub fn new() -> Work {
         Work { left: WORK_LIMIT }
     }
 
