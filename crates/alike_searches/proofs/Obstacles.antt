@@ -18,7 +18,7 @@ use Rattle.cert_bisimulation.specs.Alike.{Alike}
 use Rattle.alike_searches.specs.Evenness.{IsEven}
 use Rattle.search_tables.specs.declared.moves.Move.{Move}
 use Rattle.search_tables.specs.SearchTables.{MachinePair, SearchNode, Table, is_at}
-use Rattle.search_tables.specs.Legal.{Difference, first_differing, output_at, stuck_from, stuck, Makes}
+use Rattle.search_tables.specs.Legal.{Difference, first_differing, output_at, difference_among, difference_in, Makes}
 use Rattle.search_tables.specs.LoneMoves.{lone_mode, Spins}
 use Rattle.search_tables.specs.Obstacles.{Stuck, Spin, IsObstacle}
 use Rattle.alike_searches.specs.Even.{IsEvenNode, IsEvenTable}
@@ -63,11 +63,12 @@ module _ (m : MachinePair) (sound_left : IsSound m.left) (sound_right : IsSound 
       by_end true = none
       by_end false = refl
 
-  none_from : (i : ℕ) (ns : List SearchNode) → AllByRecursion EvenNode ns → stuck_from m i ns ≡ None
+  none_from : (i : ℕ) (ns : List SearchNode) → AllByRecursion EvenNode ns → difference_among m i ns ≡ None
   none_from i [] h = refl
-  none_from i (n ∷ ns) h = ap (λ (x : Option ℕ). option_or (option_map (difference i) x) (stuck_from m (i + 1) ns)) (no_output n h.0) ∙ none_from (i + 1) ns h.1
+  none_from i (n ∷ ns) h = ap (λ (x : Option ℕ). option_or (option_map (difference i) x) (difference_among m (i + 1) ns)) (no_output n h.0)
+      ∙ none_from (i + 1) ns h.1
 
-  pub none_stuck : (T : Table) → IsEvenTable m.left m.right K T → stuck m T ≡ None
+  pub none_stuck : (T : Table) → IsEvenTable m.left m.right K T → difference_in m T ≡ None
   none_stuck T h = none_from 0 T h
 
   pub none_spins : (T : Table) → IsEvenTable m.left m.right K T → (d : Side) (cycle : List ℕ) → Spins m T d cycle → ⊥

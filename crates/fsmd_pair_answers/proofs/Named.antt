@@ -21,7 +21,7 @@ use Rattle.cert_model.specs.Obligations.{same_forms}
 use Rattle.search_tables.specs.declared.moves.Move.{Move}
 use Rattle.search_tables.specs.SearchTables.{MachinePair, positions_of, SearchNode, Table, first_table, is_at, with_fact}
 use Rattle.search_tables.specs.Next.{Change, next_move}
-use Rattle.search_tables.specs.Legal.{Difference, first_differing, output_at, stuck_from, stuck, MovesLead, Makes}
+use Rattle.search_tables.specs.Legal.{Difference, first_differing, output_at, difference_among, difference_in, MovesLead, Makes}
 use Rattle.search_tables.specs.LoneMoves.{Spins}
 use Rattle.search_tables.specs.Obstacles.{Obstacle, Stuck, Spin, Wide, Large, Exhausted, StandsIn}
 use Rattle.search_tables.specs.View.{Points, points_at}
@@ -142,13 +142,13 @@ module _ (m : MachinePair) where
           (pairs_within 0 m.left.variables m.right.variables) g
       by_test false g = absurd (cc g)
 
-  stuck_within : (i : ℕ) (ns : List SearchNode) (k x : ℕ) → stuck_from m i ns ≡ Some (record { node = k; output = x }) → HasOutput m.left.variables x
+  stuck_within : (i : ℕ) (ns : List SearchNode) (k x : ℕ) → difference_among m i ns ≡ Some (record { node = k; output = x }) → HasOutput m.left.variables x
   stuck_within i [] k x e = absurd (cc e)
   stuck_within i (n ∷ ns) k x e = by_output (output_at m n) refl e (λ g. stuck_within (i + 1) ns k x g)
     where
-      by_output : (o : Option ℕ) → output_at m n ≡ o → option_or (option_map (λ y. record { node = i; output = y }) o) (stuck_from m (i + 1) ns)
+      by_output : (o : Option ℕ) → output_at m n ≡ o → option_or (option_map (λ y. record { node = i; output = y }) o) (difference_among m (i + 1) ns)
           ≡ Some (record { node = k; output = x })
-          → (stuck_from m (i + 1) ns ≡ Some (record { node = k; output = x }) → HasOutput m.left.variables x) → HasOutput m.left.variables x
+          → (difference_among m (i + 1) ns ≡ Some (record { node = k; output = x }) → HasOutput m.left.variables x) → HasOutput m.left.variables x
       by_output None q g again = again g
       by_output (Some y) q g again = output_within n x (q ∙ ap Some (same_output (record { node = i; output = y }) (record { node = k; output = x }) g))
 
@@ -167,9 +167,9 @@ module _ (m : MachinePair) where
     next_there : (moves : List Move) (T : Table) (y : Move) → Makes m moves T → moved (next_move m T) ≡ Some y → IsThere m (map points_at T) y
     next_there moves T y h e = goes_there T y (next_goes m sound_left sound_right T y (well_formed m sound_left sound_right moves T h).points e)
 
-    last_there : (moves : List Move) (T : Table) (k x : ℕ) → Makes m moves T → stuck m T ≡ Some (record { node = k; output = x })
+    last_there : (moves : List Move) (T : Table) (k x : ℕ) → Makes m moves T → difference_in m T ≡ Some (record { node = k; output = x })
         → LastIsThere m moves (map points_at T) x
-    last_there [] T k x h e = absurd (let none : stuck m T ≡ None = ap (stuck m) (sym h.lead) in cc (none, e))
+    last_there [] T k x h e = absurd (let none : difference_in m T ≡ None = ap (difference_in m) (sym h.lead) in cc (none, e))
     last_there (y ∷ ys) T k x h e =
         let r = last_of m y ys (first_table m) T h.lead in
         let t = next_there r.front r.table r.move (record { lead = r.before }) (ap moved r.changes) in

@@ -12,7 +12,7 @@ use Rattle.cert_model.proofs.AllHold.{same_where_yes}
 use Rattle.search_tables.specs.declared.moves.Move.{Move}
 use Rattle.search_tables.specs.SearchTables.{MachinePair, Table, first_table, WideEvent, LargeEvent, machines}
 use Rattle.search_tables.specs.Next.{Next, Nothing, Change, Stop, Excess, next_move, IsClosed}
-use Rattle.search_tables.specs.Legal.{Difference, stuck}
+use Rattle.search_tables.specs.Legal.{Difference, difference_in}
 use Rattle.search_tables.specs.Graphs.{AreRanks}
 use Rattle.search_tables.specs.LoneMoves.{lone_moves}
 use Rattle.search_tables.specs.Certifying.{Certifies}
@@ -94,7 +94,7 @@ record IsCycle (o : Obstacle) : Type 0 where
 abbrev Stands : Option Obstacle → Obstacle → Type 0
 Stands p o = (p ≡ Some o) ⊎ ((p ≡ None) × IsCycle o)
 
-stands : (m : MachinePair) (T : Table) (o : Obstacle) → StandsIn m T o → Stands (plain_obstacle (stuck m T) (next_move m T)) o
+stands : (m : MachinePair) (T : Table) (o : Obstacle) → StandsIn m T o → Stands (plain_obstacle (difference_in m T) (next_move m T)) o
 stands m T (Stuck k x) h = inl (ap (λ s. plain_obstacle s (next_move m T)) h)
 stands m T (Spin d xs) h = inr (ap₂ plain_obstacle h.0 h.1, record { side = d; cycle = xs; is = refl })
 stands m T (Wide at) h = inl (ap₂ plain_obstacle h.0 h.3)
@@ -126,8 +126,8 @@ one_line m l k x y =
     (stands_ends m y.stops.table y.obstacle y.stops.stands) x.stops.makes.lead y.stops.makes.lead in
     let points : x.points ≡ y.points = sym x.stops.points_are ∙ ap (map points_at) same.1 ∙ y.stops.points_are in
     let there : StandsIn m x.stops.table y.obstacle = subst (λ T. StandsIn m T y.obstacle) (sym same.1) y.stops.stands in
-    elim (are_one (plain_obstacle (stuck m x.stops.table) (next_move m x.stops.table)) x.obstacle y.obstacle (stands m x.stops.table x.obstacle x.stops.stands)
-    (stands m x.stops.table y.obstacle there)) as (λ _. l ≡ k) [
+    elim (are_one (plain_obstacle (difference_in m x.stops.table) (next_move m x.stops.table)) x.obstacle y.obstacle
+    (stands m x.stops.table x.obstacle x.stops.stands) (stands m x.stops.table y.obstacle there)) as (λ _. l ≡ k) [
       | inl e ↦ x.told ∙ ap (λ ms. obstacle_text m ms x.points x.obstacle) same.0 ∙ ap (λ ps. obstacle_text m y.moves ps x.obstacle) points
           ∙ ap (obstacle_text m y.moves y.points) e ∙ sym y.told
       | inr c ↦ x.told ∙ ap (λ ms. obstacle_text m ms x.points x.obstacle) same.0 ∙ ap (λ ps. obstacle_text m y.moves ps x.obstacle) points
@@ -140,7 +140,7 @@ one_obstacle m ms ns ps qs o p x y =
     let same =
     (same_moves m ms ns (first_table m) x.table y.table (stands_ends m x.table o x.stands) (stands_ends m y.table p y.stands) x.makes.lead y.makes.lead).1 in
     let there : StandsIn m x.table p = subst (λ T. StandsIn m T p) (sym same) y.stands in
-    are_one (plain_obstacle (stuck m x.table) (next_move m x.table)) o p (stands m x.table o x.stands) (stands m x.table p there)
+    are_one (plain_obstacle (difference_in m x.table) (next_move m x.table)) o p (stands m x.table o x.stands) (stands m x.table p there)
 
 both_open : (o p : Obstacle) → AreOne o p → is_open_obstacle o ≡ is_open_obstacle p
 both_open o p (inl e) = ap is_open_obstacle e

@@ -11,7 +11,7 @@ use Rattle.cert_model.specs.Kept.{AreNormal}
 use Rattle.search_tables.specs.declared.moves.Move.{Move}
 use Rattle.search_tables.specs.SearchTables.{MachinePair, Table, positions_of}
 use Rattle.search_tables.specs.Next.{IsClosed}
-use Rattle.search_tables.specs.Legal.{Makes, stuck}
+use Rattle.search_tables.specs.Legal.{Makes, difference_in}
 use Rattle.search_tables.specs.Obstacles.{Obstacle, StandsIn}
 use Rattle.search_tables.specs.View.{Points, points_at}
 use Rattle.search_tables.proofs.Forming.{well_formed}
@@ -24,7 +24,7 @@ use Rattle.search.proofs.FewPositions.{few_positions}
 
 pub closes : (m : MachinePair) (moves : List Move) (T : Table) (nodes : List (CertificateNode Fact)) → IsSound m.left → IsSound m.right
     → interface_fault m.left m.right ≡ None → Makes m moves T
-    → AllByRecursion (λ n. IsFactOf (positions_of m) n.fact) T → IsClosed m T → stuck m T ≡ None → HasCertificate m T nodes → AreNormal nodes
+    → AllByRecursion (λ n. IsFactOf (positions_of m) n.fact) T → IsClosed m T → difference_in m T ≡ None → HasCertificate m T nodes → AreNormal nodes
     → IsClosedWith m nodes
 closes m moves T nodes left right matched makes facts closed none h normal = record {
   left_sound = left;

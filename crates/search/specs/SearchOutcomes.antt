@@ -14,7 +14,7 @@ use Rattle.search_tables.specs.declared.outcome.Outcome.{Outcome}
 use Rattle.search_tables.specs.declared.outcome.Outcome.TheVariants as outcomes
 use Rattle.search_tables.specs.SearchTables.{MachinePair, Table, positions_of}
 use Rattle.search_tables.specs.Next.{IsClosed}
-use Rattle.search_tables.specs.Legal.{Makes, stuck}
+use Rattle.search_tables.specs.Legal.{Makes, difference_in}
 use Rattle.search_tables.specs.LoneMoves.{lone_moves}
 use Rattle.search_tables.specs.Certifying.{Certifies}
 use Rattle.search_tables.specs.Obstacles.{Obstacle, Stuck, Spin, Wide, Large, Exhausted, StandsIn}
@@ -29,7 +29,7 @@ pub record IsClosedWith (m : MachinePair) (nodes : List (CertificateNode Fact)) 
   pub table : Table
   pub makes : Makes m moves table
   pub closed : IsClosed m table
-  pub none_differ : stuck m table ≡ None
+  pub none_differ : difference_in m table ≡ None
   pub ranks : List ℕ
   pub are_ranks : AreRanks (lone_moves m table) ranks
   pub certifies : Certifies m table ranks nodes

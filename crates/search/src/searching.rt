@@ -7,7 +7,7 @@ ghost use Rattle.fs_pair.specs.Interfaces.{interface_fault};
 ghost use Rattle.fs_pair.specs.Positions.{positions};
 ghost use Rattle.sym_facts.specs.Pairings.{IsFactOf};
 ghost use Rattle.search_tables.specs.Next.{IsClosed};
-ghost use Rattle.search_tables.specs.Legal.{Makes, stuck};
+ghost use Rattle.search_tables.specs.Legal.{Makes, difference_in};
 ghost use Rattle.search_tables.specs.View.{table_in, points_in, points_at};
 ghost use Rattle.cert_bisimulation.specs.Alike.{WhereAlike};
 ghost use Rattle.search_tables.specs.SearchTables.{machines};
@@ -59,7 +59,7 @@ fn close_table(
     requires makes { Makes (machines a.now b.now) moves.items (table_in nodes.items) }
     requires facts { AllByRecursion (λ n. IsFactOf (positions a.now b.now) n.fact) (table_in nodes.items) }
     requires closed { IsClosed (machines a.now b.now) (table_in nodes.items) }
-    requires none_differ { stuck (machines a.now b.now) (table_in nodes.items) ≡ None }
+    requires none_differ { difference_in (machines a.now b.now) (table_in nodes.items) ≡ None }
     requires points { map points_at (table_in nodes.items) ≡ map points_in points.items }
     ensures { IfOk result (IsSearchOutcome (machines a.now b.now)) }
 {

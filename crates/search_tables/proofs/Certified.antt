@@ -26,7 +26,7 @@ use Rattle.search_tables.specs.Graphs.{above, AreRanks}
 use Rattle.search_tables.specs.declared.moves.Move.{Move}
 use Rattle.search_tables.specs.SearchTables.{MachinePair, positions_of, SearchNode, Table, is_at, start_node, Keeps, effect}
 use Rattle.search_tables.specs.Next.{mode_at, paths_in, Nothing, next_move}
-use Rattle.search_tables.specs.Legal.{Difference, first_differing, output_at, difference_at, stuck_from, stuck, Makes}
+use Rattle.search_tables.specs.Legal.{Difference, first_differing, output_at, difference_at, difference_among, difference_in, Makes}
 use Rattle.search_tables.specs.LoneMoves.{lone_targets, lone_in, lone_moves}
 use Rattle.search_tables.specs.Certifying.{node_without_mode, Certifies}
 use Rattle.search_tables.proofs.Lists.{all_in, all_maps, all_flat, all_flats}
@@ -49,15 +49,16 @@ yes_where_held k (r ∷ rs) h = ap (λ z. verdict_by k z (verdict_from (k + 1) r
 abbrev difference : ℕ → ℕ → Difference
 difference i x = record { node = i; output = x }
 
-none_stuck : (m : MachinePair) (ns : List SearchNode) (i k : ℕ) (n : SearchNode) → stuck_from m i ns ≡ None → slice_get ns k ≡ Some n → output_at m n ≡ None
+none_stuck : (m : MachinePair) (ns : List SearchNode) (i k : ℕ) (n : SearchNode) → difference_among m i ns ≡ None → slice_get ns k ≡ Some n
+    → output_at m n ≡ None
 none_stuck m [] i k n e g = absurd (cc g)
 none_stuck m (a ∷ ns) i zero n e g = let s : a ≡ n = cc g in ap (output_at m) (sym s)
-    ∙ not_mapped (output_at m a) (option_or_parts (difference_at m i a) (stuck_from m (i + 1) ns) e).0
+    ∙ not_mapped (output_at m a) (option_or_parts (difference_at m i a) (difference_among m (i + 1) ns) e).0
   where
     not_mapped : (o : Option ℕ) → option_map (λ x. difference i x) o ≡ None → o ≡ None
     not_mapped None h = refl
     not_mapped (Some x) h = absurd (cc h)
-none_stuck m (a ∷ ns) i (suc k) n e g = none_stuck m ns (i + 1) k n (option_or_parts (difference_at m i a) (stuck_from m (i + 1) ns) e).1 g
+none_stuck m (a ∷ ns) i (suc k) n e g = none_stuck m ns (i + 1) k n (option_or_parts (difference_at m i a) (difference_among m (i + 1) ns) e).1 g
 
 outputs_hold : (c : CertificateNode Fact) (os : List OutputPair) → first_differing (vector_of c.fact.positions) os ≡ None
     → AllByRecursion Held (map (judge_output c) os)
@@ -96,8 +97,8 @@ module _ (m : MachinePair) (cs : List (CertificateNode Fact)) (modes : AllByRecu
       outputs_hold c (output_pairs 0 m.left.variables m.right.variables)
       (sym (ap (λ b. cond b (first_differing (vector_of c.fact.positions) (output_pairs 0 m.left.variables m.right.variables)) None) fits) ∙ outputs)
 
-  node_holds : next_move m T ≡ Nothing → stuck m T ≡ None → AreRanks (lone_moves m T) ranks → (k : ℕ) (c : CertificateNode Fact) → slice_get cs k ≡ Some c
-      → AllByRecursion Held (owed_by m.left m.right cs c)
+  node_holds : next_move m T ≡ Nothing → difference_in m T ≡ None → AreRanks (lone_moves m T) ranks → (k : ℕ) (c : CertificateNode Fact)
+      → slice_get cs k ≡ Some c → AllByRecursion Held (owed_by m.left m.right cs c)
   node_holds closed free are k c e =
       let g = mapped_at cs k c e in
       let mode : mode_at m (node_without_mode c) ≡ Found c.mode = each_at (λ d. mode_at m (node_without_mode d) ≡ Found d.mode) cs k c modes e in
@@ -129,7 +130,7 @@ module _ (m : MachinePair) (cs : List (CertificateNode Fact)) (modes : AllByRecu
       ap (λ o. start_reaches o post) first ∙ ap (λ z. after z (λ x. Done (first_missing x.equations x.literals true))) entailed
 
   all_held : (rest : List SearchNode) → IsSound m.left → interface_fault m.left m.right ≡ None → T ≡ start_node m ∷ rest → next_move m T ≡ Nothing
-      → stuck m T ≡ None → AreRanks (lone_moves m T) ranks → verdict m.left m.right (start_fact (positions_of m)) cs ≡ Yes
+      → difference_in m T ≡ None → AreRanks (lone_moves m T) ranks → verdict m.left m.right (start_fact (positions_of m)) cs ≡ Yes
   all_held rest sound matched begins closed free are =
       yes_where_held 1 (obligations m.left m.right (start_fact (positions_of m)) cs) (
         start_held rest sound matched cs begins,
@@ -137,10 +138,10 @@ module _ (m : MachinePair) (cs : List (CertificateNode Fact)) (modes : AllByRecu
       )
 
 pub certified : (m : MachinePair) → IsSound m.left → interface_fault m.left m.right ≡ None
-    → (moves : List Move) (T : Table) (ranks : List ℕ) (cs : List (CertificateNode Fact)) → Makes m moves T → next_move m T ≡ Nothing → stuck m T ≡ None
+    → (moves : List Move) (T : Table) (ranks : List ℕ) (cs : List (CertificateNode Fact)) → Makes m moves T → next_move m T ≡ Nothing → difference_in m T ≡ None
     → AreRanks (lone_moves m T) ranks → Certifies m T ranks cs → verdict m.left m.right (start_fact (positions_of m)) cs ≡ Yes
 certified m sound matched moves T ranks cs makes closed free are h =
     let s = begins_with_start m moves T makes in
     let t = sym h.nodes in
-    all_held m cs h.modes s.0 sound matched (h.nodes ∙ s.1) (subst (λ U. next_move m U ≡ Nothing) t closed) (subst (λ U. stuck m U ≡ None) t free)
+    all_held m cs h.modes s.0 sound matched (h.nodes ∙ s.1) (subst (λ U. next_move m U ≡ Nothing) t closed) (subst (λ U. difference_in m U ≡ None) t free)
     (subst (λ rs. AreRanks (lone_moves m (map node_without_mode cs)) rs) (sym h.ranks_are) (subst (λ U. AreRanks (lone_moves m U) ranks) t are))

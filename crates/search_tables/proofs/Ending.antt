@@ -5,14 +5,14 @@ use Rattle.search_tables.proofs.Falls.{no_cycle}
 use Rattle.search_tables.specs.declared.moves.Move.{Move}
 use Rattle.search_tables.specs.SearchTables.{MachinePair, Table, first_table}
 use Rattle.search_tables.specs.Next.{Change, next_move, IsClosed}
-use Rattle.search_tables.specs.Legal.{stuck, MovesLead}
+use Rattle.search_tables.specs.Legal.{difference_in, MovesLead}
 use Rattle.search_tables.specs.LoneMoves.{lone_moves}
 use Rattle.search_tables.specs.Obstacles.{Obstacle, Stuck, Spin, Wide, Large, Exhausted, StandsIn, IsObstacle}
 use Rattle.search_tables.proofs.Prefixes.{same_change}
 
 -- no legal list goes on from a table
 abbrev pub Ends : MachinePair → Table → Type 0
-Ends m T = (x : Move) (V : Table) → stuck m T ≡ None → next_move m T ≡ Change x V → ⊥
+Ends m T = (x : Move) (V : Table) → difference_in m T ≡ None → next_move m T ≡ Change x V → ⊥
 
 pub stands_ends : (m : MachinePair) (T : Table) (o : Obstacle) → StandsIn m T o → Ends m T
 stands_ends m T (Stuck k x) h y V s e = cc (h, s)
@@ -35,7 +35,7 @@ pub one_end : (m : MachinePair) (xs ys : List Move) (o p : Obstacle) (h : IsObst
 one_end m xs ys o p h k = same_moves m xs ys (first_table m) h.table k.table (stands_ends m h.table o h.stands)
     (stands_ends m k.table p k.stands) h.makes.lead k.makes.lead
 
-pub no_certificate : (m : MachinePair) (T : Table) (o : Obstacle) (ranks : List ℕ) → StandsIn m T o → IsClosed m T → stuck m T ≡ None
+pub no_certificate : (m : MachinePair) (T : Table) (o : Obstacle) (ranks : List ℕ) → StandsIn m T o → IsClosed m T → difference_in m T ≡ None
     → AreRanks (lone_moves m T) ranks → ⊥
 no_certificate m T (Stuck k x) ranks h c s a = cc (h, s)
 no_certificate m T (Spin d xs) ranks h c s a = no_cycle (lone_moves m T) ranks xs a h.2.follow

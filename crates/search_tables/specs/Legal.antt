@@ -28,18 +28,18 @@ output_at m n = cond (is_at Done Done n)
 abbrev pub difference_at : MachinePair → ℕ → SearchNode → Option Difference
 difference_at m i n = option_map (λ x. record { node = i; output = x }) (output_at m n)
 
-abbrev pub stuck_from : MachinePair → ℕ → List SearchNode → Option Difference
-stuck_from m i [] = None
-stuck_from m i (n ∷ ns) = option_or (difference_at m i n) (stuck_from m (i + 1) ns)
+abbrev pub difference_among : MachinePair → ℕ → List SearchNode → Option Difference
+difference_among m i [] = None
+difference_among m i (n ∷ ns) = option_or (difference_at m i n) (difference_among m (i + 1) ns)
 
 -- the first node at the end with a left output whose two terms differ, and the first such output
-abbrev pub stuck : MachinePair → Table → Option Difference
-stuck m T = stuck_from m 0 T
+abbrev pub difference_in : MachinePair → Table → Option Difference
+difference_in m T = difference_among m 0 T
 
 -- the moves lead from a table to another: each is next and changes its table, in which no outputs differ
 abbrev pub MovesLead : MachinePair → Table → List Move → Table → Type 0
 MovesLead m T [] U = T ≡ U
-MovesLead m T (x ∷ xs) U = (V : Table) × (stuck m T ≡ None) × (next_move m T ≡ Change x V) × MovesLead m V xs U
+MovesLead m T (x ∷ xs) U = (V : Table) × (difference_in m T ≡ None) × (next_move m T ≡ Change x V) × MovesLead m V xs U
 
 -- a legal list of moves, with the table that it makes
 pub record Makes (m : MachinePair) (moves : List Move) (T : Table) : Type 0 where

@@ -19,7 +19,7 @@ ghost use Rattle.search_tables.specs.Graphs.{LongestChain, AreRanks};
 ghost use Rattle.search_tables.specs.declared.moves.Move.{Move as PlainMove};
 ghost use Rattle.search_tables.specs.SearchTables.{MachinePair, Table, positions_of};
 ghost use Rattle.search_tables.specs.Next.{IsClosed};
-ghost use Rattle.search_tables.specs.Legal.{stuck, Makes, IsPrefixOf};
+ghost use Rattle.search_tables.specs.Legal.{difference_in, Makes, IsPrefixOf};
 ghost use Rattle.search_tables.specs.LoneMoves.{lone_moves};
 ghost use Rattle.search_tables.specs.TableInvariants.{IsWellFormed};
 ghost use Rattle.search_tables.specs.Certifying.{Certifies};
@@ -43,7 +43,7 @@ pub fn the_start_fact_entails_itself()
 pub fn closed_tables_are_certified()
     ensures { (m : MachinePair) → IsSound m.left → interface_fault m.left m.right ≡ None
         → (moves : List PlainMove) (T : Table) (ranks : List ℕ) (nodes : List (CertificateNode PlainFact)) → Makes m moves T
-        → IsClosed m T → stuck m T ≡ None → AreRanks (lone_moves m T) ranks → Certifies m T ranks nodes
+        → IsClosed m T → difference_in m T ≡ None → AreRanks (lone_moves m T) ranks → Certifies m T ranks nodes
         → verdict m.left m.right (start_fact (positions_of m)) nodes ≡ Yes }
 {}
 
@@ -88,7 +88,7 @@ pub fn obstacles_stand_in_one_table()
     ensures one { (m : MachinePair) (xs ys : List PlainMove) (o p : Obstacle) (h : IsObstacle m xs o) (k : IsObstacle m ys p)
         → (xs ≡ ys) × (h.table ≡ k.table) }
     ensures no_certificate { (m : MachinePair) (T : Table) (o : Obstacle) (ranks : List ℕ) → StandsIn m T o → IsClosed m T
-        → stuck m T ≡ None → AreRanks (lone_moves m T) ranks → ⊥ }
+        → difference_in m T ≡ None → AreRanks (lone_moves m T) ranks → ⊥ }
 {}
 
 /// A legal list of moves has at most 4,096 times as many moves as there are positions and 65 more: each move makes a node, or

@@ -29,7 +29,7 @@ use Rattle.search_tables.specs.SearchTables.{arrival}
 use Rattle.search_tables.specs.SearchTables.{LargeEvent, MoveEffect, Keeps, Changes, Meets, Exceeds, within_units, add_node, weaken_node, keep_or_join}
 use Rattle.search_tables.specs.SearchTables.{look_up_target, effect_of_arrival, PathPair, effect}
 use Rattle.search_tables.specs.Next.{mode_at, path_at, next_by, or_next, next_move}
-use Rattle.search_tables.specs.Legal.{stuck}
+use Rattle.search_tables.specs.Legal.{difference_in}
 use Rattle.search_tables.proofs.Forming.{known_in}
 use Rattle.search_waiting.specs.declared.item.Item.{Item}
 use Rattle.search_places.specs.NodeRecords.{NodeRecord, node_with_fact, table_of}
@@ -232,7 +232,7 @@ module _ (m : MachinePair) (T : Table) (at : Move) (e : MoveEffect) (c : Comes m
   comes_so : (d : MoveEffect) → e ≡ d → next_move m T ≡ or_next (next_by at d c.rest) c.after
   comes_so d h = c.is ∙ ap (λ z. or_next (next_by at z c.rest) c.after) h
 
-  pub end_next : stuck m T ≡ None → (s : NfStop) (x : End) → IsEndAt at s x → IsMet s e → IsNext m T (step.Ends x)
+  pub end_next : difference_in m T ≡ None → (s : NfStop) (x : End) → IsEndAt at s x → IsMet s e → IsNext m T (step.Ends x)
   end_next f (stop.Wide l r) x i h = subst (EndsSo m T) (sym i) (f, l, r, comes_so (Meets (WideEvent l r)) h)
   end_next f (stop.Large u d) x i h = subst (EndsSo m T) (sym i) (f, u, d, comes_so (Meets (LargeEvent u d)) h)
   end_next f stop.NoMemory x i h = absurd i
@@ -244,11 +244,12 @@ change_next m ls at c f = (
   f.tries.2.1,
 )
 
-pub excess_next : (m : MachinePair) (ls : List NodeRecord) (at : Move) (b : Budget) → stuck m (table_of ls) ≡ None → IsFirst m ls at (Ok (tried.Exceeds b))
+pub excess_next : (m : MachinePair) (ls : List NodeRecord) (at : Move) (b : Budget) → difference_in m (table_of ls) ≡ None
+    → IsFirst m ls at (Ok (tried.Exceeds b))
     → IsNext m (table_of ls) (step.Ends (end.Exhausted at b))
 excess_next m ls at b s f = (s, comes_so m (table_of ls) at (effect m (table_of ls) f.node f.paths) f.comes (Exceeds b) f.tries.2)
 
-pub stop_next : (m : MachinePair) (ls : List NodeRecord) (at : Move) (s : NfStop) (x : End) → stuck m (table_of ls) ≡ None → IsFirst m ls at (Err s)
+pub stop_next : (m : MachinePair) (ls : List NodeRecord) (at : Move) (s : NfStop) (x : End) → difference_in m (table_of ls) ≡ None → IsFirst m ls at (Err s)
     → IsEndAt at s x
     → IsNext m (table_of ls) (step.Ends x)
 stop_next m ls at s x h f i = end_next m (table_of ls) at (effect m (table_of ls) f.node f.paths) f.comes h s x i f.tries
@@ -256,7 +257,7 @@ stop_next m ls at s x h f i = end_next m (table_of ls) at (effect m (table_of ls
 -- the event of a mode is next
 pub mode_stops : (m : MachinePair) (ls : List NodeRecord) (waits : Item → Bool) (i : ℕ) (l : NodeRecord) (s : NfStop) (d : Side) (k : ℕ) (x : End)
     → IsWaiting m ls waits
-    → IsLeastWaiting waits i 0 → slice_get ls i ≡ Some l → stuck m (table_of ls) ≡ None
+    → IsLeastWaiting waits i 0 → slice_get ls i ≡ Some l → difference_in m (table_of ls) ≡ None
     → IsStopAt s d k (mode_at m l.node) → IsEndAt (path_at i d k) s x → IsNext m (table_of ls) (step.Ends x)
 mode_stops m ls waits i l (stop.Wide a b) d k x w least g f h e =
     let c = mode_next m ls waits w i l (WideAt d k a b) least g h in

@@ -16,7 +16,7 @@ use Rattle.cert_model.specs.Lawful.{most_nodes}
 use Rattle.search_tables.specs.declared.moves.Move.{Move}
 use Rattle.search_tables.specs.SearchTables.{MachinePair, positions_of, SearchNode, Table, first_table}
 use Rattle.search_tables.specs.Next.{Change, next_move}
-use Rattle.search_tables.specs.Legal.{stuck, MovesLead, Makes}
+use Rattle.search_tables.specs.Legal.{difference_in, MovesLead, Makes}
 use Rattle.search_tables.proofs.Forming.{well_formed}
 use Rattle.search_tables.proofs.Bounded.{legal_short}
 use Rattle.search_tables.specs.View.{table_in}
@@ -30,20 +30,20 @@ use Rattle.search_worklist.specs.Endings.{IsEndedWith}
 use Rattle.search_worklist.specs.States.{IsMade}
 use Rattle.search_tables.proofs.FactsOfPairing.{AreOf, legal_facts}
 
-lead_more : (m : MachinePair) (xs : List Move) (S T U : Table) (x : Move) → MovesLead m S xs T → stuck m T ≡ None → next_move m T ≡ Change x U
+lead_more : (m : MachinePair) (xs : List Move) (S T U : Table) (x : Move) → MovesLead m S xs T → difference_in m T ≡ None → next_move m T ≡ Change x U
     → MovesLead m S (xs ++ x ∷ []) U
-lead_more m [] S T U x h s n = (U, subst (λ V. stuck m V ≡ None) (sym h) s, subst (λ V. next_move m V ≡ Change x U) (sym h) n, refl)
+lead_more m [] S T U x h s n = (U, subst (λ V. difference_in m V ≡ None) (sym h) s, subst (λ V. next_move m V ≡ Change x U) (sym h) n, refl)
 lead_more m (y ∷ ys) S T U x h s n = (h.0, h.1, h.2, lead_more m ys h.0 T U x h.3 s n)
 
 pub makes_none : (m : MachinePair) (xs : List Move) (T : Table) → xs ≡ [] → T ≡ first_table m → Makes m xs T
 makes_none m xs T e f = subst (λ ys. Makes m ys T) (sym e) (record { lead = sym f })
 
-pub makes_more : (m : MachinePair) (xs ys : List Move) (x : Move) (T U V : Table) → Makes m xs T → stuck m T ≡ None → next_move m T ≡ Change x U
+pub makes_more : (m : MachinePair) (xs ys : List Move) (x : Move) (T U V : Table) → Makes m xs T → difference_in m T ≡ None → next_move m T ≡ Change x U
     → ys ≡ xs ++ x ∷ [] → V ≡ U → Makes m ys V
 makes_more m xs ys x T U V h s n e f = subst (λ zs. Makes m zs V) (sym e)
     (subst (λ W. Makes m (xs ++ x ∷ []) W) (sym f) (record { lead = lead_more m xs (first_table m) T U x h.lead s n }))
 
-pub made : (m : MachinePair) (xs : List Move) (T : Table) → IsSound m.left → IsSound m.right → Makes m xs T → stuck m T ≡ None → IsMade m T
+pub made : (m : MachinePair) (xs : List Move) (T : Table) → IsSound m.left → IsSound m.right → Makes m xs T → difference_in m T ≡ None → IsMade m T
 made m xs T l r h s = record { formed = well_formed m l r xs T h; facts = legal_facts m xs T h; agrees = s }
 
 -- how many moves are left at most

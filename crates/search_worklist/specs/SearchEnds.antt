@@ -4,7 +4,7 @@ use Rattle.std.specs.List.{AllByRecursion}
 use Rattle.sym_facts.specs.Pairings.{IsFactOf}
 use Rattle.search_tables.specs.SearchTables.{MachinePair, Table, positions_of}
 use Rattle.search_tables.specs.Next.{IsClosed}
-use Rattle.search_tables.specs.Legal.{Makes, stuck}
+use Rattle.search_tables.specs.Legal.{Makes, difference_in}
 use Rattle.search_tables.specs.Obstacles.{Stuck, Wide, Large, Exhausted, StandsIn}
 use Rattle.search_tables.specs.View.{table_in}
 use Rattle.search_worklist.specs.declared.ends.End.{End}
@@ -13,7 +13,7 @@ use Rattle.search_worklist.specs.declared.ends.Ended.{Ended}
 
 -- what stands in a table where the moves end so
 abbrev pub EndsSo : MachinePair → Table → End → Type 0
-EndsSo m T ends.Closed = IsClosed m T × (stuck m T ≡ None)
+EndsSo m T ends.Closed = IsClosed m T × (difference_in m T ≡ None)
 EndsSo m T (ends.Stuck node var) = StandsIn m T (Stuck node var)
 EndsSo m T (ends.Wide at) = StandsIn m T (Wide at)
 EndsSo m T (ends.Large at) = StandsIn m T (Large at)

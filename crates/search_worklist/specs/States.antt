@@ -4,7 +4,7 @@ use Rattle.std.specs.List.{AllByRecursion}
 use Rattle.std.specs.BTreeSet.{BTreeSet, btree_set_len}
 use Rattle.sym_facts.specs.Pairings.{IsFactOf}
 use Rattle.search_tables.specs.SearchTables.{MachinePair, positions_of, Table, units}
-use Rattle.search_tables.specs.Legal.{stuck}
+use Rattle.search_tables.specs.Legal.{difference_in}
 use Rattle.search_tables.specs.TableInvariants.{IsWellFormed}
 use Rattle.search_waiting.specs.declared.item.Item.{Item}
 use Rattle.search_places.specs.NodeRecords.{NodeRecord, node_records, table_of}
@@ -33,7 +33,7 @@ IsReady m s = Ready m (records s) s.waiting s.units
 pub record IsMade (m : MachinePair) (T : Table) : Type 0 where
   pub formed : IsWellFormed m T
   pub facts : AllByRecursion (λ n. IsFactOf (positions_of m) n.fact) T
-  pub agrees : stuck m T ≡ None
+  pub agrees : difference_in m T ≡ None
 
 -- a node whose mode is not found counts more than its moves
 abbrev pub record_weight : NodeRecord → ℕ

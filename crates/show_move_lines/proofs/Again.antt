@@ -26,7 +26,7 @@ use Rattle.search_tables.specs.SearchTables.{MachinePair, SearchNode, Table, Pat
 use Rattle.search_tables.specs.SearchTables.{first_table, positions_of}
 use Rattle.search_tables.specs.Next.{mode_at, paths_in, move_by, Next, Nothing, Change, Stop, Excess, next_by, first_change_of, next_in, next_at, or_next}
 use Rattle.search_tables.specs.Next.{next_from, next_move}
-use Rattle.search_tables.specs.Legal.{stuck, MovesLead, Makes}
+use Rattle.search_tables.specs.Legal.{difference_in, MovesLead, Makes}
 use Rattle.search_tables.proofs.Lists.{all_in, all_from, all_flat}
 use Rattle.search_tables.proofs.Changing.{Adds, Weakens, arrives_so}
 use Rattle.search_tables.proofs.Forming.{well_formed}
@@ -201,8 +201,9 @@ module _ (m : MachinePair) where
       ∙ ap₂ (λ (l r : Option Path). with_turn T (turn_or_idle (turn_by_paths ps m T d.node l r))) left right
       ∙ by_paths_again T U d.node d.paths d.does
 
-  lead_more : (xs : List Move) (S T U : Table) (x : Move) → MovesLead m S xs T → stuck m T ≡ None → next_move m T ≡ Change x U → MovesLead m S (xs ++ x ∷ []) U
-  lead_more [] S T U x h s n = (U, subst (λ V. stuck m V ≡ None) (sym h) s, subst (λ V. next_move m V ≡ Change x U) (sym h) n, refl)
+  lead_more : (xs : List Move) (S T U : Table) (x : Move) → MovesLead m S xs T → difference_in m T ≡ None → next_move m T ≡ Change x U
+      → MovesLead m S (xs ++ x ∷ []) U
+  lead_more [] S T U x h s n = (U, subst (λ V. difference_in m V ≡ None) (sym h) s, subst (λ V. next_move m V ≡ Change x U) (sym h) n, refl)
   lead_more (y ∷ ys) S T U x h s n = (h.0, h.1, h.2, lead_more ys h.0 T U x h.3 s n)
 
   lead_again : IsSound m.left → IsSound m.right → (done xs : List Move) (S T : Table) → Makes m done S → MovesLead m S xs T
