@@ -9,7 +9,7 @@ pub mod Lifted
 pub mod OneBranch
 pub mod Repeats
 pub mod Faultless
-pub mod KeptRules
+pub mod LawfulParts
 pub use Rattle.fs_branches.proofs.Leaves
 pub use Rattle.fs_rules.proofs.FirstFaults
 pub use Rattle.fs_rules.proofs.Rounds

@@ -6,7 +6,7 @@
 //! of parts that break no rule; `lawful_where`: parts keep all rules where the machine that they spell does and is nowhere
 //! endless.
 //!
-//! Rules: `specs/Shapes`, `specs/Branches`, `src/laws`, `proofs/KeptRules`.
+//! Rules: `specs/Shapes`, `specs/Branches`, `src/laws`, `proofs/LawfulParts`.
 #![tactic(auto)]
 
 pub mod build;

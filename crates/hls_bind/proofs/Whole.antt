@@ -25,7 +25,7 @@ use Rattle.fs_ast.specs.Rules.{IsEndless, BreaksNoRule}
 use Rattle.fs_ast.proofs.Uses.{emits_over}
 use Rattle.fs_ast.proofs.Kept.{no_state, get_mapped, not_endless}
 use Rattle.fs_ast.proofs.Faultless.{IsFaultless}
-use Rattle.fs_ast.proofs.KeptRules.{KeepsRules, lawful_where}
+use Rattle.fs_ast.proofs.LawfulParts.{KeepsRules, lawful_where}
 use Rattle.hls_bind.specs.Bindings.{register, is_bound, is_local, is_scalar_local, bound_parts, IsBindingOf, AreRegisters}
 use Rattle.hls_bind.specs.Conflicts.{Conflict, IsShared, IsTwice}
 use Rattle.hls_bind.proofs.RegisterMachines.{state_over}

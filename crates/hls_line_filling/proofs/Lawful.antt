@@ -23,7 +23,7 @@ use Rattle.fs_ast.specs.Rules.{IsEndless, BreaksNoRule}
 use Rattle.fs_ast.proofs.Kept.{no_state, get_mapped}
 use Rattle.fs_ast.proofs.Repeats.{kept_differ}
 use Rattle.fs_ast.proofs.Faultless.{IsFaultless, of_sound}
-use Rattle.fs_ast.proofs.KeptRules.{KeepsRules, lawful_where}
+use Rattle.fs_ast.proofs.LawfulParts.{KeepsRules, lawful_where}
 use Rattle.hls_line_filling.specs.Items.{Item}
 use Rattle.hls_line_filling.specs.Placings.{is_valid, join_assignments, row_at}
 use Rattle.hls_line_filling.proofs.Once.{assigns_once}

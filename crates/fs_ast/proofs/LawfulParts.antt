@@ -1,4 +1,4 @@
--- Parts that keep the rules.
+-- Parts are lawful where the machine that they spell keeps the rules and is nowhere endless.
 use Rattle.std.proofs.Common.{◌≡◌, ℕ, ◌<◌, ◌≤◌, List, [], length, map, ap, sym, refl, ◌∙◌, arith, true, false}
 use Rattle.std.specs.Prelude.{not, nat_lt, Some, slice_get, option_map}
 use Rattle.std.proofs.lemmas.Option.{slice_get_within, slice_get-map}
