@@ -24,7 +24,7 @@ pub fn is_inner(bound: &i128) -> bool
 fn see_normal(p: &Poly)
     ensures { is_normal p.now ≡ true }
 {
-    let _ = p.size();
+    let _ = p.size(); // The call tells the proof that the polynomial is normal.
 }
 
 /// Whether a literal is in normal form: it is true or false; or its direction has no constant part, no common divisor of

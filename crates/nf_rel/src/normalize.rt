@@ -176,7 +176,7 @@ fn literal_form(alloc: Global, form: Form, p: &Poly) -> Result<NLit, NfStop>
     ensures literal { Answers (normal_literal_of result) (Done (literal_form (form_in form) p.now)) }
     ensures normal { IfOk result (λ l. IsNormalLiteral (literal_in l)) }
 {
-    let _ = p.size();
+    let _ = p.size(); // The call tells the proof that the polynomial is normal.
     Ok(by_divisor(alloc, form, p)?)
 }
 

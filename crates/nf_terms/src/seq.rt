@@ -61,7 +61,7 @@ fn see_normal(items: &[Poly])
     ensures { AreNormalItems items.now }
 {
     for item in items {
-        let _ = item.size();
+        let _ = item.size(); // The call tells the proof that the item is normal.
     }
 }
 

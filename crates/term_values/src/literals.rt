@@ -51,7 +51,7 @@ fn inner_literal(dir: Poly, kind: Kind, bound: &i128) -> NLit
 fn bound_direction(dir: Poly, kind: Kind, bound: &i128) -> Result<NLit, TermError>
     ensures { IsJudgedAs literal_in result (is_normal_literal (literals.Is dir kind bound.now)) (literals.Is dir kind bound.now) }
 {
-    let _ = dir.tree();
+    let _ = dir.tree(); // The call tells the proof that the direction is normal.
     if !is_inner(bound) {
         return Err(TermError::NotNormal);
     }

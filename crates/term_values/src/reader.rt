@@ -35,7 +35,7 @@ pub(crate) fn normal_polynomial<N: Names>(
     let tree = polynomial_tree(alloc, names, written)?;
     match Poly::of(tree) {
         Some(polynomial) => {
-            let _ = polynomial.tree();
+            let _ = polynomial.tree(); // The call tells the proof that the polynomial is normal.
             Ok(polynomial)
         }
         None => Err(TermError::NotNormal),
@@ -59,7 +59,7 @@ fn normal_array<N: Names>(
     let tree = array_tree(alloc, names, written)?;
     match Arr::of(tree) {
         Some(array) => {
-            let _ = array.tree();
+            let _ = array.tree(); // The call tells the proof that the array is normal.
             Ok(array)
         }
         None => Err(TermError::NotNormal),
@@ -101,7 +101,7 @@ fn normal_list<N: Names>(
     let base = list_base_tree(names, &written.base);
     match Seq::of(base, items) {
         Some(list) => {
-            let _ = list.items();
+            let _ = list.items(); // The call tells the proof that the list is normal.
             Ok(list)
         }
         None => Err(TermError::NotNormal),
