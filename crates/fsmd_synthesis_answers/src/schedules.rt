@@ -96,7 +96,7 @@ fn schedule_text(
 
 /// What is told of the lines of the machine of parts under unit counts, and the canonical text of the parts with their lines in
 /// rows. Together they spell the schedule of the machine. `Over` comes exactly where a transition uses more of a unit than is
-/// given, and names the first by state, branch and unit. `NoMemory` may come at any time.
+/// given, and names the state of the first such transition and its first such unit. `NoMemory` may come at any time.
 pub fn scheduled_text(
     alloc: Global,
     parts: &Parts,

@@ -26,7 +26,9 @@ pub fn examples_are_refused()
     ensures { RefusedExamples }
 {}
 
-/// Whatever word stands behind `--steps` of a command and its files, it is refused where it spells no number from 1 to 100,000.
+/// Where `--steps` stands last, behind the files of a command, none of which begins with a hyphen, its value is refused where it
+/// spells no number from 1 to 100,000: a word of its own that begins with no hyphen, or any text behind `=`. Words that spell
+/// lesser or greater numbers are among these.
 pub fn other_steps_are_refused()
     ensures { OtherStepsAreRefused }
 {}

@@ -1,4 +1,4 @@
--- The first transition of a machine that uses more of a unit than is given.
+-- The first state of a machine a transition of which uses more of a unit than is given, and that unit.
 use Rattle.std.specs.Prelude.{ℕ, nat_lt, List, [], ◌∷◌, map, Option, None, option_map}
 use Rattle.std.specs.List.{find}
 use Rattle.std.specs.Option.{option_or}

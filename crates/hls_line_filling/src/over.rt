@@ -1,4 +1,4 @@
-//! The first transition that uses more of a unit than is given.
+//! The first state a transition of which uses more of a unit than is given, and that unit.
 
 ghost use Rattle.std.specs.Prelude.{◌≡◌, nat_lt, map, option_map};
 ghost use Rattle.fs_model.specs.View.{assignment_of, branch_of};

@@ -1,4 +1,4 @@
--- Programs that a text can spell, lines aside.
+-- Programs that keep the rules and limits of texts, lines aside.
 use Rattle.std.specs.Prelude.{ℕ, suc, max, nat_le, Bool, true, false, not, ◌&&◌, List, [], ◌∷◌, codes, pos, int_lt}
 use Rattle.std.specs.List.{list_all, list_any}
 use Rattle.std.specs.Str.{bytes_eq}

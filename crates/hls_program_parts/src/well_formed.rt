@@ -1,4 +1,4 @@
-//! Programs that a text can spell, lines aside.
+//! Programs that keep the rules and limits of texts, lines aside.
 
 ghost use Rattle.std.specs.Prelude.{◌≡◌, ◌&&◌, nat_le, map};
 ghost use Rattle.std.specs.List.{list_all};

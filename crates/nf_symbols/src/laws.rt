@@ -45,7 +45,7 @@ pub fn operations_add_no_symbols()
         → list_all test (symbols_of q) ≡ true → normal_product p q ≡ Done r → list_all test (symbols_of r) ≡ true }
 {}
 
-/// A substituted term has the symbols that the vector's forms have at the term's symbols, and no others.
+/// A substituted term has no other symbols than those that the vector's forms have at the term's symbols.
 pub fn substitution_leads_to_the_vectors_symbols()
     ensures numbers { (from to : Pos × Sort → Bool) (v : List (Pos × Nf)) (p r : Polynomial) → LeadsTo from to v
         → list_all from (symbols_of p) ≡ true → polynomial_substituted v p ≡ Done r → list_all to (symbols_of r) ≡ true }
