@@ -1,68 +1,21 @@
 //! Judges a certificate.
 
-ghost use Rattle.std.specs.Prelude.{◌≡◌, ◌++◌, IfOk, None, map, codes, decimal, string_bytes};
+ghost use Rattle.std.specs.Prelude.{◌≡◌, IfOk, None, map};
 ghost use Rattle.fs_pair.specs.Interfaces.{interface_fault};
 ghost use Rattle.fs_pair.specs.Positions.{positions};
 ghost use Rattle.cert_model.specs.Lawful.{IsLawful};
 ghost use Rattle.cert_model.specs.View.{node_of};
 ghost use Rattle.cert_check.specs.View.{verdict_in};
 ghost use Rattle.fsmd_pair_answers.specs.Verdicts.{answer_to, IsJudged};
-ghost use Rattle.fsmd_replies.specs.Reasons.{reason_text};
 
 use cert_check::verdict::Verdict;
 use cert_check::verify::verify;
 use cert_model::cert::Cert;
-use cert_model::reason::Reason;
 use fs_ast::machine::Machine;
 use fs_pair::positions::Pairing;
-use fsmd_replies::answer::{Answer, Lines};
-use fsmd_replies::reason::reason_text;
+use fsmd_replies::answer::Answer;
+use fsmd_replies::verdicts::{failure_line, undecided_line, yes_line};
 use std::alloc::{AllocError, Global};
-
-// The line of an obligation that fails, up to the reason.
-fn obligation_text(alloc: Global, obligation: u32) -> Result<String, AllocError>
-    ensures { IfOk result (λ text. string_bytes text ≡ codes "no: obligation " ++ (decimal obligation ++ codes ", ")) }
-{
-    format!(in alloc; "no: obligation {obligation}, ")
-}
-
-// The line of an obligation that fails for a reason.
-fn failed_for(alloc: Global, obligation: u32, reason: &[u8]) -> Result<Lines, AllocError>
-    ensures { IfOk result
-        (λ lines. lines ≡ codes "no: obligation " ++ (decimal obligation ++ (codes ", " ++ (reason.now ++ codes "\n")))) }
-{
-    let mut bytes = obligation_text(alloc, obligation)?.into_bytes();
-    bytes.extend_from_slice(reason)?;
-    bytes.extend_from_slice(b"\n")?;
-    Ok(Lines::of(bytes))
-}
-
-// The line of an obligation that fails.
-fn failed(
-    alloc: Global,
-    a: &Machine,
-    b: &Machine,
-    p: &Pairing,
-    obligation: u32,
-    reason: Reason,
-) -> Result<Lines, AllocError>
-    requires { p.now ≡ positions a.now b.now }
-    ensures { IfOk result
-        (λ lines. lines ≡ codes "no: obligation "
-        ++ (decimal obligation ++ (codes ", " ++ (reason_text a.now b.now reason ++ codes "\n")))) }
-{
-    let reason = reason_text(alloc, a, b, p, reason)?;
-    failed_for(alloc, obligation, reason.as_slice())
-}
-
-// The line of an obligation that has an event.
-fn undecided(alloc: Global, obligation: u32, event: &str) -> Result<Lines, AllocError>
-    ensures { IfOk result
-        (λ lines. lines ≡ codes "undecided: obligation " ++ (decimal obligation ++ (codes ", " ++ (event.now ++ codes "\n")))) }
-{
-    let text = format!(in alloc; "undecided: obligation {obligation}, {event}\n")?;
-    Ok(Lines::of(text.into_bytes()))
-}
 
 /// The answer that a verdict gets. The one refusal is out of memory.
 pub fn answer_to(
@@ -77,16 +30,16 @@ pub fn answer_to(
 {
     match verdict {
         Verdict::Yes => Ok(Answer::Text {
-            lines: Lines::of(b"yes\n".to_vec(alloc)?),
+            lines: yes_line(alloc)?,
         }),
         Verdict::No { obligation, reason } => Ok(Answer::Differs {
-            lines: failed(alloc, a, b, p, obligation, reason)?,
+            lines: failure_line(alloc, a, b, p, obligation, reason)?,
         }),
         Verdict::Wide { obligation } => Ok(Answer::Undecided {
-            lines: undecided(alloc, obligation, "wide")?,
+            lines: undecided_line(alloc, obligation, "wide")?,
         }),
         Verdict::Large { obligation } => Ok(Answer::Undecided {
-            lines: undecided(alloc, obligation, "large")?,
+            lines: undecided_line(alloc, obligation, "large")?,
         }),
     }
 }

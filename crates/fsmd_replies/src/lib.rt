@@ -1,8 +1,10 @@
-//! The words of replies: what each answer puts, and the names of faults, obstacles and reasons.
+//! The words of replies: what each answer puts, the names of faults, obstacles and reasons, and the lines of verdicts.
 //!
-//! Promises: the bytes of each answer, its status, and the words that name the files of a command.
+//! Promises: the bytes of each answer, its status, the lines that answers hold, and the words that name the files of a
+//! command.
 //!
-//! Rules: `specs/Replies`, `specs/Statuses`, `specs/AskedFiles`, `specs/ObstacleTexts`, `specs/Reasons`.
+//! Rules: `specs/Replies`, `specs/Statuses`, `specs/AskedFiles`, `specs/ObstacleTexts`, `specs/Reasons`,
+//! `specs/VerdictTexts`.
 //!
 //! Words:
 //! - answer: what a command says to what was read, before it is text
@@ -16,4 +18,5 @@ mod refusals;
 pub mod reply;
 mod texts;
 pub mod variables;
+pub mod verdicts;
 pub mod words;
