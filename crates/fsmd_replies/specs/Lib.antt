@@ -4,4 +4,6 @@ pub mod Reasons
 pub mod Replies
 pub mod Statuses
 pub mod VerdictTexts
+pub mod BindingTexts
+pub mod ScheduleTexts
 pub use Rattle.search_tables.specs.SearchTables

@@ -1,5 +1,5 @@
 -- What a machine gets by a binding of its locals to registers.
-use Rattle.std.specs.Prelude.{◌≡◌, ℕ, Bool, List, ◌++◌, cond, codes, decimal}
+use Rattle.std.specs.Prelude.{◌≡◌, ℕ, Bool, List}
 use Rattle.fs_model.specs.Machines.{Fsmd}
 use Rattle.fs_model.specs.Source.{Source}
 use Rattle.fs_model.specs.VariableNames.{variable_name}
@@ -10,6 +10,7 @@ use Rattle.fs_lex.specs.MachineTexts.{TextSpells}
 use Rattle.fs_write.specs.Canonical.{canonical}
 use Rattle.hls_bind.specs.Conflicts.{Conflict, IsFirstConflict}
 use Rattle.hls_bind.specs.Results.{IsYes}
+use Rattle.fsmd_replies.specs.BindingTexts.{conflict_line}
 use Rattle.fsmd_synthesis_answers.specs.declared.bindings.BindingAnswer.{BindingAnswer}
 use Rattle.fsmd_synthesis_answers.specs.declared.bindings.BindingAnswer.TheVariants.{Bound, Lost}
 
@@ -19,10 +20,8 @@ Binding = List (ℕ × List ℕ)
 
 -- the line of a branch that loses a local by writing another, or writes both
 abbrev pub conflict_text : Fsmd → Conflict → Bool → List ℕ
-conflict_text m c twice =
-    codes "no: "
-    ++ (state_name_of m c.state ++ (codes "." ++ (decimal c.branch ++ (codes " writes " ++ (variable_name m.variables c.written
-    ++ (cond twice (codes " and ") (codes " over ") ++ (variable_name m.variables c.other ++ codes "\n")))))))
+conflict_text m c twice = conflict_line (state_name_of m c.state) c.branch (variable_name m.variables c.written) twice
+    (variable_name m.variables c.other)
 
 -- no branch loses a local, and this is the canonical text of the parts with registers, whose machine behaves as before; what it
 -- spells breaks no rule, and its machine is that one

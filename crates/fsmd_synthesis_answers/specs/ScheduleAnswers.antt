@@ -1,5 +1,5 @@
 -- What a machine gets under unit counts.
-use Rattle.std.specs.Prelude.{◌≡◌, ℕ, List, ◌++◌, None, codes, decimal}
+use Rattle.std.specs.Prelude.{◌≡◌, ℕ, List, ◌++◌, None}
 use Rattle.std.specs.List.{All, flat_map}
 use Rattle.fs_model.specs.Machines.{Fsmd}
 use Rattle.fs_model.specs.Runs.{SameBehaviour}
@@ -14,14 +14,11 @@ use Rattle.hls_sched.specs.Over.{over_in}
 use Rattle.hls_line_filling.specs.Schedules.{IsWithin, schedule_of}
 use Rattle.hls_line_filling.specs.Sources.{scheduled_source}
 use Rattle.hls_sched.specs.Reports.{Report, reports, KeepsLengths}
+use Rattle.fsmd_replies.specs.ScheduleTexts.{report_line}
 
 -- what is told of a line: its first state, its length before and now, and its chain
 abbrev pub report_text : Fsmd → Report → List ℕ
-report_text m r =
-    codes "# "
-    ++ (state_name_of m r.first
-    ++ (codes ": "
-    ++ (decimal r.before ++ (codes " to " ++ (decimal r.after ++ (codes ", chain " ++ (decimal r.chain ++ codes "\n")))))))
+report_text m r = report_line (state_name_of m r.first) r.before r.after r.chain
 
 -- what is told of each line, in a comment, and the canonical text of the parts with their lines in rows
 abbrev pub schedule_text : Units → Source → List ℕ

@@ -1,6 +1,6 @@
 //! The texts of schedules.
 
-ghost use Rattle.std.specs.Prelude.{◌≡◌, ◌++◌, length, map, codes, decimal, IsTrue, IfOk, string_bytes};
+ghost use Rattle.std.specs.Prelude.{◌≡◌, ◌++◌, length, map, IsTrue, IfOk};
 ghost use Rattle.std.specs.List.{flat_map};
 ghost use Rattle.std.specs.Result.{OnOk, IfErr};
 ghost use Rattle.fs_model.specs.View.{source_of};
@@ -19,25 +19,10 @@ use fs_cut::cover::Point;
 use fs_cut::path_text::point_text;
 use fs_model::parts::Parts;
 use fs_write::write_parts;
+use fsmd_replies::schedules::write_report_line;
 use hls_sched::{LineReport, SchedError, Scheduled, schedule};
 use hls_unit_counts::Units;
 use std::alloc::{AllocError, Global};
-
-// What is told of a line behind the name of its first state.
-fn lengths_text(alloc: Global, line: &LineReport) -> Result<String, AllocError>
-    ensures { IfOk result
-        (λ text. string_bytes text ≡ codes ": "
-        ++ (decimal line.now.before
-        ++ (codes " to " ++ (decimal line.now.after ++ (codes ", chain " ++ (decimal line.now.chain ++ codes "\n")))))) }
-{
-    let LineReport {
-        before,
-        after,
-        chain,
-        ..
-    } = *line;
-    format!(in alloc; ": {before} to {after}, chain {chain}\n")
-}
 
 // Adds what is told of a line.
 fn write_report(
@@ -48,9 +33,20 @@ fn write_report(
 ) -> Result<(), AllocError>
     ensures { OnOk result (out.new.items ≡ out.old.items ++ report_text machine.now (report_of line.now)) }
 {
-    out.extend_from_slice(b"# ")?;
-    out.extend_from_slice(point_text(machine, Point::At(line.first)))?;
-    out.extend_from_slice(lengths_text(alloc, line)?.as_bytes())
+    let LineReport {
+        first,
+        before,
+        after,
+        chain,
+    } = *line;
+    write_report_line(
+        alloc,
+        point_text(machine, Point::At(first)),
+        before,
+        after,
+        chain,
+        out,
+    )
 }
 
 // What is told of lines.
