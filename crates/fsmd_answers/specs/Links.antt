@@ -1,12 +1,12 @@
 -- Which answer a chain gets.
-use Rattle.std.specs.Prelude.{◌≡◌, ℕ, zero, suc, ◌+◌, List, [], ◌∷◌, ◌++◌, Option, codes, decimal}
+use Rattle.std.specs.Prelude.{◌≡◌, ℕ, zero, suc, ◌+◌, List, [], ◌∷◌, Option}
 use Rattle.fsmd_words.specs.AskedWords.{Asked}
 use Rattle.fs_model.specs.Machines.{Fsmd}
 use Rattle.fs_model.specs.Runs.{SameBehaviour}
 use Rattle.fsmd_replies.specs.declared.answer.Answer.{Answer}
 use Rattle.fsmd_replies.specs.declared.answer.Answer.TheVariants.{Text, Link}
 use Rattle.fsmd_replies.specs.Statuses.{status_of}
-use Rattle.fsmd_replies.specs.Replies.{lines_of}
+use Rattle.fsmd_replies.specs.ChainTexts.{chain_line, link_lines}
 
 -- how many links the words behind the first machine of a chain are: a certificate and a machine each
 abbrev pub links_in : List (List ℕ) → ℕ
@@ -16,10 +16,6 @@ links_in words = zero
 abbrev pub links_of : List (List ℕ) → ℕ
 links_of [] = zero
 links_of (machine ∷ words) = links_in words
-
--- the lines of an answer, told as those of a link of this number, from 1
-abbrev pub link_lines : Option Asked → (link : ℕ) → Answer → List ℕ
-link_lines asked link stop = codes "link " ++ (decimal link ++ (codes ": " ++ lines_of stop asked))
 
 -- the answer is one that meets P, told as that of the link of this number, with its status
 pub record AtLink (asked : Option Asked) (link : ℕ) (P : Answer → Type 0) (answer : Answer) : Type 0 where
@@ -31,4 +27,4 @@ pub record AtLink (asked : Option Asked) (link : ℕ) (P : Answer → Type 0) (a
 -- behaviour
 pub record IsOfChain (first last : Fsmd) (links : ℕ) (answer : Answer) : Type 0 where
   pub same : SameBehaviour first last
-  pub is : answer ≡ Text (codes "yes: " ++ (decimal (links + 1) ++ codes " machines\n"))
+  pub is : answer ≡ Text (chain_line (links + 1))

@@ -14,8 +14,9 @@ ghost use Rattle.hls_shrink.specs.ChainStops.{IsStopOf};
 ghost use Rattle.fsmd_replies.specs.declared.answer.Answer.TheVariants.{Link};
 ghost use Rattle.fsmd_answers.specs.declared.refused.Refused.TheVariants.{Answered};
 ghost use Rattle.fsmd_replies.specs.Statuses.{status_of};
+ghost use Rattle.fsmd_replies.specs.ChainTexts.{link_lines};
 ghost use Rattle.fsmd_pair_answers.specs.Verdicts.{IsJudged};
-ghost use Rattle.fsmd_answers.specs.Links.{link_lines, AtLink, IsOfChain};
+ghost use Rattle.fsmd_answers.specs.Links.{AtLink, IsOfChain};
 ghost use Rattle.fsmd_answers.specs.Refusing.{WhereAnswered};
 
 use crate::refused::Refused;
@@ -24,21 +25,11 @@ use fs_ast::machine::Machine;
 use fs_model::name::NoMemory;
 use fs_pair::positions::Pairing;
 use fsmd_pair_answers::judge::answer_to;
-use fsmd_replies::answer::{Answer, Lines};
-use fsmd_replies::reply::lines;
+use fsmd_replies::answer::Answer;
+use fsmd_replies::chains::{chain_line, link_lines};
 use fsmd_words::asking::Ask;
 use hls_shrink::{Chain, ChainStop};
 use std::alloc::{AllocError, Global};
-
-// The lines of an answer, told as those of the link of this number, from 1.
-fn link_lines(alloc: Global, ask: &Ask, link: u32, stop: &Answer) -> Result<Vec<u8>, AllocError>
-    ensures { IfOk result (λ bytes. bytes.items ≡ link_lines (Some (asked_of_ask ask.now)) link stop.now) }
-{
-    let mut bytes = format!(in alloc; "link {link}: ")?.into_bytes();
-    let mut stop_lines = lines(alloc, stop, ask)?;
-    bytes.append(&mut stop_lines)?;
-    Ok(bytes)
-}
 
 // The refusal by an answer, told as that of the link of this number, from 1.
 fn told_at(alloc: Global, ask: &Ask, link: u32, stop: &Answer) -> Refused
@@ -46,9 +37,9 @@ fn told_at(alloc: Global, ask: &Ask, link: u32, stop: &Answer) -> Refused
         (λ answer. answer ≡ Link (status_of stop.now) (link_lines (Some (asked_of_ask ask.now)) link stop.now)) result }
 {
     match link_lines(alloc, ask, link, stop) {
-        Ok(bytes) => Refused::Answered(Answer::Link {
+        Ok(lines) => Refused::Answered(Answer::Link {
             status: stop.status(),
-            lines: Lines::of(bytes),
+            lines,
         }),
         Err(_) => Refused::NoMemory,
     }
@@ -133,9 +124,7 @@ pub fn chain_answer(alloc: Global, chain: &Chain, links: u32) -> Result<Answer, 
     ensures { IfOk result (IsOfChain chain.now.first chain.now.last links) }
 {
     let _last = chain.last(); // The call tells the proof that the last machine has the behaviour of the first one.
-    let machines = u64::from(links) + 1;
-    let text = format!(in alloc; "yes: {machines} machines\n")?;
     Ok(Answer::Text {
-        lines: Lines::of(text.into_bytes()),
+        lines: chain_line(alloc, u64::from(links) + 1)?,
     })
 }

@@ -15,13 +15,14 @@ use Rattle.fsmd_replies.specs.declared.answer.Answer.{Answer}
 use Rattle.fsmd_replies.specs.declared.answer.Answer.TheVariants.{Link}
 use Rattle.fsmd_machine_commands.specs.MadeAnswers.{Refusal, IsAnsweredWith}
 use Rattle.fsmd_replies.specs.Statuses.{status_of}
+use Rattle.fsmd_replies.specs.ChainTexts.{link_lines}
 use Rattle.fsmd_replies.specs.AskedFiles.{operand}
 use Rattle.fsmd_machine_commands.specs.MachineFiles.{SpellsMachine}
 use Rattle.fsmd_machine_commands.specs.Readings.{Readable, Reading}
 use Rattle.fsmd_machine_commands.specs.Refusals.{RefusesMachine, RefusesPair, RefusesCertificate, SpellsCertificate}
 use Rattle.fsmd_machine_commands.specs.Refusing.{WhereAnswered}
 use Rattle.fsmd_machine_commands.specs.Verdicts.{IsJudged}
-use Rattle.fsmd_machine_commands.specs.Links.{AtLink, link_lines, links_in, links_of, IsOfChain}
+use Rattle.fsmd_machine_commands.specs.Links.{AtLink, links_in, links_of, IsOfChain}
 use Rattle.fsmd_machine_commands.specs.Follows.{Opens, Refused, Spelled, ComparesPairs, SameInterface, Judges, Fails, Holds}
 use Rattle.fsmd_machine_commands.specs.Follows.{OpensCertificate, OpensLink, OpensLinks}
 use Rattle.fsmd_machine_commands.proofs.Maps.{answer_map, err_map}

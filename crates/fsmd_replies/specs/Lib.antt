@@ -4,6 +4,7 @@ pub mod Reasons
 pub mod Replies
 pub mod Statuses
 pub mod VerdictTexts
+pub mod ChainTexts
 pub mod BindingTexts
 pub mod ScheduleTexts
 pub use Rattle.search_tables.specs.SearchTables

@@ -16,6 +16,7 @@ use Rattle.fsmd_replies.specs.declared.answer.Status.TheVariants as statuses
 use Rattle.fsmd_replies.specs.declared.answer.Answer.{Answer}
 use Rattle.fsmd_replies.specs.declared.answer.Answer.TheVariants.{Equivalent, Link, Over}
 use Rattle.fsmd_replies.specs.Statuses.{status_of, certificate_in}
+use Rattle.fsmd_replies.specs.ChainTexts.{link_lines}
 use Rattle.fsmd_replies.specs.AskedFiles.{operand, cert_of, is_verify}
 use Rattle.fsmd_replies.specs.Replies.{reply, unstored_reply}
 use Rattle.fsmd_tool.specs.MachineFiles.{SpellsParts, SpellsMachine}
@@ -29,7 +30,7 @@ use Rattle.fsmd_tool.specs.ComparisonAnswers.{IsOfPair}
 use Rattle.fsmd_tool.specs.Verdicts.{IsJudged}
 use Rattle.fsmd_tool.specs.Replays.{IsOfReplay}
 use Rattle.fsmd_tool.specs.Shrinks.{IsOfShrink}
-use Rattle.fsmd_tool.specs.Links.{AtLink, link_lines}
+use Rattle.fsmd_tool.specs.Links.{AtLink}
 use Rattle.fsmd_tool.specs.Follows.{Ends, Refused, Spelled, OpensInputs, OpensCertificate, Other, SameInterface, OpensPair, FollowsFrom, Follows}
 use Rattle.fsmd_tool.specs.Calls.{Call, known_at_start, FailedToRead, MayRead}
 use Rattle.fsmd_tool.specs.SinkReplies.{Put, IsPut, Whole, Cut}

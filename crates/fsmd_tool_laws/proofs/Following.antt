@@ -21,6 +21,7 @@ use Rattle.fsmd_replies.specs.declared.answer.Answer.{Answer}
 use Rattle.fsmd_replies.specs.declared.answer.Answer.TheVariants.{Usage, Text, Link, Interfaces}
 use Rattle.fsmd_replies.specs.AskedFiles.{operand, is_check, compares, generated_steps}
 use Rattle.fsmd_replies.specs.Statuses.{status_of}
+use Rattle.fsmd_replies.specs.ChainTexts.{link_lines}
 use Rattle.fsmd_tool.specs.MachineFiles.{SpellsParts, SpellsMachine}
 use Rattle.fsmd_tool.specs.Readings.{FileContent, OfBytes, Reading}
 use Rattle.fsmd_tool.specs.Refusals.{RefusesMachine, RefusesPair, RefusesCertificate, SpellsCertificate}
@@ -33,7 +34,7 @@ use Rattle.fsmd_tool.specs.Verdicts.{IsJudged}
 use Rattle.fsmd_tool.specs.RunAnswers.{IsOfRun}
 use Rattle.fsmd_tool.specs.Replays.{IsOfReplay}
 use Rattle.fsmd_tool.specs.Shrinks.{IsOfShrink}
-use Rattle.fsmd_tool.specs.Links.{AtLink, link_lines, links_of, IsOfChain}
+use Rattle.fsmd_tool.specs.Links.{AtLink, links_of, IsOfChain}
 use Rattle.fsmd_tool.specs.Follows.{Ends, OpensWith, Refused, Spelled, Opens, OpensMachine, OpensInputs, OpensCertificate, OpensUnits, OpensBinding}
 use Rattle.fsmd_tool.specs.Follows.{ComparesPairs, Other, SameInterface, OpensPair, Judges, Fails, Holds, OpensLinks, FollowsFrom}
 use Rattle.fsmd_tool_laws.specs.Agreement.{Agree}

@@ -11,7 +11,8 @@ use Rattle.fsmd_tool.specs.MachineFiles.{SpellsMachine}
 use Rattle.fsmd_tool.specs.Readings.{FileContent, Readable}
 use Rattle.fsmd_replies.specs.Replies.{reply}
 use Rattle.fsmd_replies.specs.Statuses.{status_of}
-use Rattle.fsmd_tool.specs.Links.{link_lines, links_of}
+use Rattle.fsmd_replies.specs.ChainTexts.{link_lines}
+use Rattle.fsmd_tool.specs.Links.{links_of}
 use Rattle.fsmd_tool.specs.Follows.{Follows}
 use Rattle.fsmd_tool.specs.Calls.{Call}
 use Rattle.fsmd_tool.specs.SinkReplies.{Put, IsPut}
