@@ -27,8 +27,8 @@ fn interfaces(alloc: Global, name: &Name) -> Result<Vec<u8>, AllocError>
     Ok(bytes)
 }
 
-// The line of machines of the same behaviour.
-fn equivalent_line(alloc: Global, nodes: u32) -> Result<String, AllocError>
+/// The line of machines of the same behaviour, which so many nodes show. The one refusal is out of memory.
+pub fn equivalent_text(alloc: Global, nodes: u64) -> Result<String, AllocError>
     ensures { IfOk result (λ text. string_bytes text ≡ equivalent_text nodes) }
 {
     format!(in alloc; "equivalent: {nodes} nodes\n")
@@ -51,7 +51,7 @@ pub fn lines(alloc: Global, answer: &Answer, ask: &Ask) -> Result<Vec<u8>, Alloc
             return over(alloc, word_of(ask, *file), state.bytes(), *unit);
         }
         Answer::Usage => String::from_str(alloc, USAGE),
-        Answer::Equivalent { nodes, .. } => equivalent_line(alloc, *nodes),
+        Answer::Equivalent { nodes, .. } => equivalent_text(alloc, u64::from(*nodes)),
         Answer::TextRefused { file, fault } => text_refused(alloc, word_of(ask, *file), fault),
         Answer::CheckRefused { file, fault } => check_refused(alloc, word_of(ask, *file), fault),
         Answer::NotJson { file } => not_json(alloc, word_of(ask, *file)),

@@ -1,13 +1,12 @@
 //! What each view answers of machines and of certificates.
 
-ghost use Rattle.std.specs.Prelude.{◌≡◌, ◌++◌, IfOk, None, false, map, string_bytes};
+ghost use Rattle.std.specs.Prelude.{◌≡◌, ◌++◌, IfOk, None, false, map};
 ghost use Rattle.fs_pair.specs.Interfaces.{interface_fault};
 ghost use Rattle.fs_pair.specs.Positions.{positions};
 ghost use Rattle.cert_model.specs.Lawful.{IsLawful};
 ghost use Rattle.cert_model.specs.View.{node_of};
 ghost use Rattle.fsmd_tool.specs.ComparisonAnswers.{IsOfPair};
 ghost use Rattle.fsmd_replies.specs.declared.answer.Answer.TheVariants.{Differs};
-ghost use Rattle.fsmd_replies.specs.Replies.{equivalent_text};
 ghost use Rattle.show_search_views.specs.Why.{answer_behind};
 ghost use Rattle.show_tool.specs.Views.{verdict_behind, IsOfPicture, IsOfWhy, IsOfInputs, IsOfCertificate};
 
@@ -15,6 +14,7 @@ use cert_model::cert::Cert;
 use fs_ast::machine::Machine;
 use fs_pair::positions::Pairing;
 use fsmd_replies::answer::{Answer, Lines};
+use fsmd_replies::reply::equivalent_text;
 use fsmd_tool::compare::compare;
 use fsmd_tool::judge::judge;
 use show_inputs_text::differing::differing_inputs;
@@ -25,13 +25,6 @@ use std::alloc::{AllocError, Global};
 
 // The most steps of a run from a candidate, where `check` is told none.
 const STEPS: u64 = 10_000;
-
-// The line that machines of the same behaviour get.
-fn equivalent_line(alloc: Global, nodes: usize) -> Result<String, AllocError>
-    ensures { IfOk result (λ text. string_bytes text ≡ equivalent_text nodes) }
-{
-    format!(in alloc; "equivalent: {nodes} nodes\n")
-}
 
 // The lines with others behind them.
 fn join_lines(mut lines: Vec<u8>, more: &[u8]) -> Result<Lines, AllocError>
@@ -47,7 +40,7 @@ fn why_answer(alloc: Global, lines: Vec<u8>, answer: &PairAnswer) -> Result<Answ
 {
     match answer {
         PairAnswer::Equivalent { cert } => {
-            let line = equivalent_line(alloc, cert.nodes.len())?;
+            let line = equivalent_text(alloc, cert.nodes.len() as u64)?;
             Ok(Answer::Text {
                 lines: join_lines(lines, line.as_bytes())?,
             })
