@@ -13,7 +13,7 @@ use cert_writer::writer::write_cert;
 use fs_ast::machine::Machine;
 use fs_pair::positions::Pairing;
 use fsmd_pair_answers::answer::PairAnswer;
-use fsmd_pair_answers::compare::compare as compare_pair;
+use fsmd_pair_answers::compare::compare_machines;
 use fsmd_replies::answer::{Answer, Lines};
 use std::alloc::{AllocError, Global};
 
@@ -73,7 +73,7 @@ pub fn compare(
     requires steps { 1 ≤ steps }
     ensures { IfOk result (IsOfPair steps keeps a.now b.now) }
 {
-    match compare_pair(alloc, a, b, p, steps) {
+    match compare_machines(alloc, a, b, p, steps) {
         Ok(PairAnswer::Equivalent { cert }) => equivalent_answer(alloc, a, b, p, &cert, keeps),
         Ok(PairAnswer::Counterexample { lines }) => Ok(Answer::Differs {
             lines: Lines::of(lines),

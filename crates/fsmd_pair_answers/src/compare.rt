@@ -76,7 +76,7 @@ fn go_beyond(
 /// Where a limit stops the first search, there is no second one. Machines that differ only in the names of their states and in
 /// how straight lines are cut into states are alike: these get `Equivalent` by the first search, or `Undecided` by a limit. The
 /// one refusal is out of memory.
-pub fn compare(
+pub fn compare_machines(
     alloc: Global,
     a: &Machine,
     b: &Machine,

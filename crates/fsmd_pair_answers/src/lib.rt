@@ -1,7 +1,8 @@
 //! What two machines with the same inputs and outputs get: a certificate that they have the same behaviour, a counterexample, or
 //! what keeps them undecided; and what a certificate of them gets.
 //!
-//! Promises: `compare`: what two machines get, with the lines that are put; `judge`: what is answered of their certificate.
+//! Promises: `compare_machines`: what two machines get, with the lines that are put; `judge`: what is answered of their
+//! certificate.
 //!
 //! Rules: `specs/PairAnswers`, `specs/Verdicts`, `src/laws`.
 //!

@@ -10,7 +10,7 @@ ghost use Rattle.show_search_views.specs.Why.{moves_of, history_of, heading_of, 
 use fs_ast::machine::Machine;
 use fs_pair::positions::Pairing;
 pub use fsmd_pair_answers::answer::PairAnswer;
-use fsmd_pair_answers::compare::compare;
+use fsmd_pair_answers::compare::compare_machines;
 use fsmd_pair_answers::searching::search;
 use nf_terms::stop::NoMemory;
 use search_tables::moves::Move;
@@ -139,14 +139,14 @@ fn explain_search(
     requires searched { IsSearchOutcome (machines a.now b.now) outcome.now }
     ensures { IfOk result (IsExplanation steps a.now b.now) }
 {
-    let answer = compare(alloc, a, b, p, steps)?;
+    let answer = compare_machines(alloc, a, b, p, steps)?;
     let lines = why_lines(alloc, a, b, p, outcome, &answer)?;
     Ok(Explanation { lines, answer })
 }
 
-/// The answer that two machines with the same inputs and outputs get, of runs of at most so many steps, as `compare` gives it,
-/// and the lines of what led to it: where the search stops at an obstacle its history, and where a certificate is found the
-/// nodes of that. The one refusal is out of memory.
+/// The answer that two machines with the same inputs and outputs get, of runs of at most so many steps, as `compare_machines`
+/// gives it, and the lines of what led to it: where the search stops at an obstacle its history, and where a certificate is found
+/// the nodes of that. The one refusal is out of memory.
 pub fn explain(
     alloc: Global,
     a: &Machine,

@@ -5,7 +5,7 @@ use Rattle.search_tables.specs.SearchTables.{machines}
 use Rattle.fsmd_pair_answers.specs.PairAnswers.{IsFound}
 use Rattle.fsmd_pair_answers.proofs.Alike.{answered_where_alike}
 use Rattle.fsmd_pair_answers.proofs.Shown.{closed_shows}
-use Rattle.fsmd_pair_answers.proofs.compare.compare.Goals as goal
+use Rattle.fsmd_pair_answers.proofs.compare.compare_machines.Goals as goal
 
 pub returns-in-Certificate-clause-answers : goal.returns-in-Certificate-clause-answers
 returns-in-Certificate-clause-answers c =
