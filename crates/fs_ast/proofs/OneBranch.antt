@@ -54,6 +54,6 @@ only_transition (l ∷ k ∷ rest) b h e =
       ap length e,
       length_leaves (tree_of_transitions (l ∷ k ∷ rest)) [],
       count-guarded l.guard (Leaf l.assignments l.target) (tree_of_transitions (k ∷ rest))
-      (not-true (is_none l.guard) (and_first (not (is_none l.guard)) (ends_open (k ∷ rest)) h)),
+          (not-true (is_none l.guard) (and_first (not (is_none l.guard)) (ends_open (k ∷ rest)) h)),
       count-lines (k ∷ rest) (and_second (not (is_none l.guard)) (ends_open (k ∷ rest)) h),
     ))

@@ -11,7 +11,8 @@ pub loop-line-preserved : goal.loop-line-preserved
 loop-line-preserved c =
     let r = transition_renamed (name_for c.args.registers.now) in
     more_of r source_transition_of [] c.args.lines.now c.loop-line.line-index c.line-item.result _ _ c.loop-line-test.true c.line-item.is
-    (map_push_made source_transition_of c.renamed_line.result _ _ (r (source_transition_of c.line-item.result)) c.in_ok-push_made.ensures c.renamed_line.ensures)
+    (map_push_made source_transition_of c.renamed_line.result _ _ (r (source_transition_of c.line-item.result)) c.in_ok-push_made.ensures
+    c.renamed_line.ensures)
     c.loop-line.invariant
 
 pub returns : goal.returns
