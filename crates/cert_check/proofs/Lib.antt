@@ -1,3 +1,4 @@
 pub mod Steps
 pub mod Results
 pub mod Keyed
+pub mod Ways

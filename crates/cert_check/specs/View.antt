@@ -1,11 +1,17 @@
 -- The types of src/ as plain data.
-use Rattle.std.specs.Prelude.{ℕ, ◌+◌, ◌*◌, ◌≤◌, List, [], map, Option}
+use Rattle.std.specs.Prelude.{ℕ, ◌+◌, ◌*◌, ◌≤◌, cond, List, [], map, Option, Some, None}
+use Rattle.fs_model.specs.Machines.{Fsmd}
+use Rattle.fs_model.specs.declared.sides.Side.{Side}
+use Rattle.fs_model.specs.declared.sides.Pos.{Pos}
+use Rattle.nf_terms.specs.declared.form.Nf.{Nf}
+use Rattle.nf_terms.specs.Computed.{Computed, Done, after}
 use Rattle.fs_cut.specs.Paths.{Point, Path}
 use Rattle.fs_model.specs.Limits.{most_branches}
 use Rattle.cert_bisimulation.specs.declared.mode.Mode.{Mode}
 use Rattle.cert_bisimulation.specs.Tables.{Node}
-use Rattle.sym_paths.specs.Execution.{Post}
+use Rattle.sym_paths.specs.Execution.{Post, execute}
 use Rattle.sym_facts.specs.Facts.{Fact, vector_of}
+use Rattle.sym_entailment.specs.Outcomes.{refuted_together}
 use Rattle.cert_model.specs.Obligations as obligations
 use Rattle.cert_model.specs.View.{node_of}
 use Rattle.cert_check.specs.Progress as progress
@@ -42,6 +48,15 @@ reached_in t n post P Q = obligations.reaches (obligations.node_at (index_nodes 
 -- a move over a table
 abbrev pub move_in : Table → Node Fact → (left right : Option Path) → obligations.Judged
 move_in t n left right = obligations.judge_move t.a.now t.b.now (index_nodes t.nodes) n left right
+
+-- a path with what it gives over a vector
+abbrev pub way_of : Fsmd → Side → List (Pos × Nf) → Path → Path × Computed Post
+way_of m side v p = (p, execute m p side v)
+
+-- a move over a table by two ways over the fact of its node: where they are refuted together, it holds
+abbrev pub ways_in : Table → Node Fact → (left right : Path × Computed Post) → obligations.Judged
+ways_in t n left right = after (refuted_together n.fact.literals left.1 right.1)
+    (λ refuted. cond refuted (Done None) (move_in t n (Some left.0) (Some right.0)))
 
 -- what a node owes over a table
 abbrev pub owed_in : Table → Node Fact → List obligations.Judged

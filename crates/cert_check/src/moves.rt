@@ -9,10 +9,12 @@ ghost use Rattle.sym_paths.specs.Execution.{end_of};
 ghost use Rattle.sym_paths.specs.View.{post_in};
 ghost use Rattle.sym_facts.specs.Entailment.{entails as entailed};
 ghost use Rattle.sym_facts.specs.Literals.{is_refuted as refuted};
+ghost use Rattle.fs_model.specs.declared.sides.Side.TheVariants.{Left};
+ghost use Rattle.sym_entailment.specs.Outcomes.{way_in};
 ghost use Rattle.cert_model.specs.Obligations.{first_missing};
 ghost use Rattle.cert_model.specs.View.{node_of};
 ghost use Rattle.cert_check.specs.Progress.{progress_from};
-ghost use Rattle.cert_check.specs.View.{progress_in, reached_in, move_in, NumberUpTo};
+ghost use Rattle.cert_check.specs.View.{progress_in, reached_in, move_in, ways_in, way_of, NumberUpTo};
 
 use crate::lookup::node_at;
 use crate::progress::{Progress, advance};
@@ -23,9 +25,13 @@ use cert_model::reason::Reason;
 use fs_cut::cover::{Path, Point};
 use nf_refutation::refutation::is_refuted;
 use nf_terms::stop::{NfStop, NoMemory};
+use nf_terms::tree::Side;
+use nf_vectors::vector::Vector;
 use std::alloc::Global;
 use sym_entailment::arrival::arrive;
 use sym_entailment::entailment::entails;
+use sym_entailment::laws::outcomes_tell_refuted_arrivals;
+use sym_entailment::outcomes::{Way, are_refuted, outcome_of, ways};
 use sym_paths::execution::Post;
 
 // The first that is missing, and then whether the rank falls.
@@ -167,10 +173,8 @@ pub fn right_moves(
     Ok(Progress::Held(number))
 }
 
-/// The moves of each left path with each right one.
-///
-/// Answers where they lead, from the number of the first. The one refusal is out of memory.
-pub fn both_moves(
+// The moves of each left path with each right one, each executed for each move.
+fn move_pairs(
     alloc: Global,
     table: &Table<'_>,
     node: &Node,
@@ -195,4 +199,152 @@ pub fn both_moves(
         }
     }
     Ok(Progress::Held(number))
+}
+
+// Why a move by two ways over the fact of a node fails. A refuted one does not, and is found by the ways alone.
+fn judge_ways(
+    alloc: Global,
+    table: &Table<'_>,
+    node: &Node,
+    left: &Way<'_>,
+    right: &Way<'_>,
+) -> Result<Option<Reason>, NfStop>
+    ensures { Answers result (ways_in table.now (node_of node.now) (way_in left.now) (way_in right.now)) }
+{
+    if are_refuted(alloc, &node.fact, &left.outcome, &right.outcome)? {
+        return Ok(None);
+    }
+    judge_move(alloc, table, node, Some(left.path), Some(right.path))
+}
+
+// The moves of a left way with each right one. The one refusal is out of memory.
+fn right_ways(
+    alloc: Global,
+    table: &Table<'_>,
+    node: &Node,
+    left: &Way<'_>,
+    rights: &[Way<'_>],
+    first: u32,
+) -> Result<Progress, NoMemory>
+    requires few { length rights.now ≤ most_branches }
+    requires low { first < 2 ^ 31 }
+    ensures moves { IfOk result
+        (λ p. progress_in p ≡ progress_from first
+        (map (λ r. ways_in table.now (node_of node.now) (way_in left.now) r) (map way_in rights.now))) }
+    ensures bound { IfOk result (NumberUpTo (first + most_branches)) }
+{
+    let mut number = first;
+    for right in rights {
+        match advance(number, judge_ways(alloc, table, node, left, right))? {
+            Progress::Held(next) => number = next,
+            Progress::Stopped(verdict) => return Ok(Progress::Stopped(verdict)),
+        }
+    }
+    Ok(Progress::Held(number))
+}
+
+// The moves of a left path, which is executed over a vector, with each right way. The one refusal is out of memory.
+fn left_way(
+    alloc: Global,
+    table: &Table<'_>,
+    node: &Node,
+    v: &Vector,
+    left: &Path,
+    rights: &[Way<'_>],
+    first: u32,
+) -> Result<Progress, NoMemory>
+    requires few { length rights.now ≤ most_branches }
+    requires low { first < 2 ^ 31 }
+    ensures moves { IfOk result
+        (λ p. progress_in p ≡ progress_from first
+        (map (λ r. ways_in table.now (node_of node.now) (way_of table.now.a.now Left v.now (path_of left.now)) r)
+        (map way_in rights.now))) }
+    ensures bound { IfOk result (NumberUpTo (first + most_branches)) }
+{
+    let outcome = outcome_of(alloc, table.a, left, Side::Left, v)?;
+    let way = Way {
+        path: left,
+        outcome,
+    };
+    right_ways(alloc, table, node, &way, rights, first)
+}
+
+// The moves of each left path, executed over a vector, with each right way. The one refusal is out of memory.
+fn left_ways(
+    alloc: Global,
+    table: &Table<'_>,
+    node: &Node,
+    v: &Vector,
+    lefts: &[Path],
+    rights: &[Way<'_>],
+    first: u32,
+) -> Result<Progress, NoMemory>
+    requires few_left { length lefts.now ≤ most_branches }
+    requires few_right { length rights.now ≤ most_branches }
+    requires low { first < 2 ^ 30 }
+    ensures moves { IfOk result
+        (λ p. progress_in p ≡ progress_from first
+        (flat_map (λ l. map (λ r. ways_in table.now (node_of node.now) (way_of table.now.a.now Left v.now l) r)
+        (map way_in rights.now)) (map path_of lefts.now))) }
+    ensures bound { IfOk result (NumberUpTo (first + most_branches * most_branches)) }
+{
+    let mut number = first;
+    for left in lefts {
+        match left_way(alloc, table, node, v, left, rights, number)? {
+            Progress::Held(next) => number = next,
+            Progress::Stopped(verdict) => return Ok(Progress::Stopped(verdict)),
+        }
+    }
+    Ok(Progress::Held(number))
+}
+
+// The moves of each left path with each right one, each executed once. The one refusal is out of memory.
+fn way_pairs(
+    alloc: Global,
+    table: &Table<'_>,
+    node: &Node,
+    lefts: &[Path],
+    rights: &[Path],
+    first: u32,
+) -> Result<Progress, NoMemory>
+    requires few_left { length lefts.now ≤ most_branches }
+    requires few_right { length rights.now ≤ most_branches }
+    requires low { first < 2 ^ 30 }
+    ensures moves { IfOk result
+        (λ p. progress_in p ≡ progress_from first
+        (flat_map (λ l. map (λ r. move_in table.now (node_of node.now) (Some l) (Some r)) (map path_of rights.now))
+        (map path_of lefts.now))) }
+    ensures bound { IfOk result (NumberUpTo (first + most_branches * most_branches)) }
+{
+    outcomes_tell_refuted_arrivals();
+    let v = node.fact.vector(alloc)?;
+    let rights = ways(alloc, table.b, rights, Side::Right, &v)?;
+    left_ways(alloc, table, node, &v, lefts, rights.as_slice(), first)
+}
+
+/// The moves of each left path with each right one.
+///
+/// Answers where they lead, from the number of the first. The one refusal is out of memory.
+pub fn both_moves(
+    alloc: Global,
+    table: &Table<'_>,
+    node: &Node,
+    lefts: &[Path],
+    rights: &[Path],
+    first: u32,
+) -> Result<Progress, NoMemory>
+    requires few_left { length lefts.now ≤ most_branches }
+    requires few_right { length rights.now ≤ most_branches }
+    requires low { first < 2 ^ 30 }
+    ensures moves { IfOk result
+        (λ p. progress_in p ≡ progress_from first
+        (flat_map (λ l. map (λ r. move_in table.now (node_of node.now) (Some l) (Some r)) (map path_of rights.now))
+        (map path_of lefts.now))) }
+    ensures bound { IfOk result (NumberUpTo (first + most_branches * most_branches)) }
+{
+    if lefts.len() < 2 || rights.len() < 2 {
+        move_pairs(alloc, table, node, lefts, rights, first)
+    } else {
+        way_pairs(alloc, table, node, lefts, rights, first)
+    }
 }

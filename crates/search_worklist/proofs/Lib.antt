@@ -7,3 +7,4 @@ pub mod Changed
 pub mod Judged
 pub mod Differing
 pub mod Legal
+pub mod NodeWays

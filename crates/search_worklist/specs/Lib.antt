@@ -1,6 +1,7 @@
 pub mod SearchEnds
 pub mod View
 pub mod NodeUpdates
+pub mod NodeWays
 pub mod Waiting
 pub mod States
 pub mod Trials

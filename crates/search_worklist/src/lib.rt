@@ -7,6 +7,7 @@
 #![tactic(auto)]
 
 pub mod ends;
+mod node_ways;
 pub mod outputs;
 pub mod sides;
 pub mod state;

@@ -13,10 +13,12 @@ ghost use Rattle.search_tables.specs.SearchTables.{Table, units, most_units, wit
 ghost use Rattle.search_tables.specs.SearchTables.{positions_of, effect_of_arrival};
 ghost use Rattle.search_places.specs.NodeChanges.{StandsAt};
 ghost use Rattle.search_worklist.specs.NodeUpdates.{put_fact};
+ghost use Rattle.search_worklist.specs.NodeWays.{AreWays, AreKept};
 ghost use Rattle.search_worklist.specs.Trials.{GivesChange, TellsChange, TellsTrial, TriesAt};
 ghost use Rattle.search_worklist.specs.States.{records, table, IsMade};
 ghost use Rattle.search_worklist.specs.View.{machines_in};
 
+use crate::node_ways::{NodeWays, refutes};
 use crate::sides::{Sides, left_paths, right_paths};
 use crate::state::State;
 use crate::trial::{TableChange, Trial};
@@ -32,6 +34,7 @@ use search_tables::outcome::Budget;
 use std::alloc::Global;
 use sym_entailment::arrival::arrive;
 use sym_entailment::entailment::entails;
+use sym_entailment::laws::outcomes_tell_refuted_arrivals;
 use sym_facts::entailment::Entail;
 use sym_facts::fact::Fact;
 use sym_paths::execution::Post;
@@ -174,4 +177,48 @@ pub fn try_move(alloc: Global, m: &Sides<'_>, state: &State, at: Move) -> Result
     let left = end_of(from.points.left, left);
     let right = end_of(from.points.right, right);
     try_arrival(alloc, m, state, left, right, &post)
+}
+
+// What a move does to the table, where the ways of its node tell, or else by its paths.
+fn try_by_ways(
+    alloc: Global,
+    m: &Sides<'_>,
+    state: &State,
+    ways: &NodeWays<'_>,
+    at: Move,
+) -> Result<Trial, NfStop>
+    requires node { at.node < length (records state.now) }
+    requires same { at.node ≡ ways.now.node }
+    requires sized { state.now.units ≡ units (table state.now) }
+    requires made { IsMade (machines_in m.now) (table state.now) }
+    requires kept { AreWays (machines_in m.now) (table state.now) ways.now }
+    ensures { TriesAt (machines_in m.now) (records state.now) at result }
+{
+    outcomes_tell_refuted_arrivals();
+    let from = node_at(&state.entries, at.node as usize);
+    if refutes(alloc, &from.entry.fact, ways, at)? {
+        return Ok(Trial::Refuted);
+    }
+    try_move(alloc, m, state, at)
+}
+
+/// As `try_move`, with the same refusals, by what is kept of the node: of paths that are known to be refuted together neither is
+/// executed again.
+pub fn try_kept(
+    alloc: Global,
+    m: &Sides<'_>,
+    state: &State,
+    kept: &Option<NodeWays<'_>>,
+    at: Move,
+) -> Result<Trial, NfStop>
+    requires node { at.node < length (records state.now) }
+    requires sized { state.now.units ≡ units (table state.now) }
+    requires made { IsMade (machines_in m.now) (table state.now) }
+    requires kept { AreKept (machines_in m.now) (table state.now) kept.now }
+    ensures { TriesAt (machines_in m.now) (records state.now) at result }
+{
+    match kept {
+        Some(ways) if ways.node == at.node => try_by_ways(alloc, m, state, ways, at),
+        _ => try_move(alloc, m, state, at),
+    }
 }

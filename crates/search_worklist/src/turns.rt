@@ -4,15 +4,17 @@ ghost use Rattle.std.specs.Prelude.{◌≡◌, ◌<◌, ◌≢◌, true, None, l
 ghost use Rattle.search_tables.specs.Next.{path_at as one_path};
 ghost use Rattle.search_waiting.specs.ItemOrder.{item as plain_item};
 ghost use Rattle.search_waiting.specs.ItemOrder.{waits, IsLeastWaiting};
+ghost use Rattle.search_worklist.specs.NodeWays.{AreKept};
 ghost use Rattle.search_worklist.specs.States.{records, table, IsReady, IsMade};
 ghost use Rattle.search_worklist.specs.Turns.{IsNext, IsTurned, IsEndAt, ModeFound, IsMoveAt, NoMoveAt};
 ghost use Rattle.search_worklist.specs.View.{machines_in};
 
 use crate::ends::End;
+use crate::node_ways::{Tried, count_move};
 use crate::sides::{Sides, left_paths, right_paths};
 use crate::state::State;
 use crate::trial::{TableChange, Trial};
-use crate::trials::try_move;
+use crate::trials::try_kept;
 use cert_bisimulation::mode::Mode;
 use nf_terms::stop::{NfStop, NoMemory};
 use nf_terms::tree::Side;
@@ -129,11 +131,31 @@ fn move_of(state: &State, item: Item) -> Option<Move>
     }
 }
 
-// A turn at a move.
-fn try_item(
+// Counts a move that is tried next, where both machines move.
+fn see_move<'a>(
     alloc: Global,
-    m: &Sides<'_>,
+    m: &Sides<'a>,
+    state: &State,
+    tried: &mut Tried<'a>,
+    at: Move,
+) -> Result<(), NoMemory>
+    requires node { at.node < length (records state.now) }
+    requires made { IsMade (machines_in m.now) (table state.now) }
+    requires kept { AreKept (machines_in m.now) (table state.now) tried.old.ways }
+    ensures { OnOk result (AreKept (machines_in m.now) (table state.now) tried.new.ways) }
+{
+    if at.left.is_some() && at.right.is_some() {
+        count_move(alloc, m, state, tried, at)?;
+    }
+    Ok(())
+}
+
+// A turn at a move.
+fn try_item<'a>(
+    alloc: Global,
+    m: &Sides<'a>,
     state: &mut State,
+    tried: &mut Tried<'a>,
     item: Item,
 ) -> Result<Option<Step>, NoMemory>
     requires ready { IsReady (machines_in m.now) state.old }
@@ -141,7 +163,9 @@ fn try_item(
     requires least { IsLeastWaiting (waits state.old.waiting) item.node item.place }
     requires waits { waits state.old.waiting item ≡ true }
     requires place { item.place ≢ 0 }
-    ensures { IfOk result (IsTurned (machines_in m.now) state.old state.new) }
+    requires kept { AreKept (machines_in m.now) (table state.old) tried.old.ways }
+    ensures turned { IfOk result (IsTurned (machines_in m.now) state.old state.new) }
+    ensures kept { OnOk result (AreKept (machines_in m.now) (table state.old) tried.new.ways) }
 {
     let at = match move_of(state, item) {
         Some(at) => at,
@@ -150,7 +174,8 @@ fn try_item(
             return Ok(None);
         }
     };
-    match try_move(alloc, m, state, at) {
+    see_move(alloc, m, state, tried, at)?;
+    match try_kept(alloc, m, state, &tried.ways, at) {
         Ok(Trial::Refuted) => {
             remove(&mut state.waiting, item);
             Ok(None)
@@ -167,22 +192,25 @@ fn try_item(
 }
 
 // A turn at the least item.
-fn turn(
+fn turn<'a>(
     alloc: Global,
-    m: &Sides<'_>,
+    m: &Sides<'a>,
     state: &mut State,
+    tried: &mut Tried<'a>,
     item: Item,
 ) -> Result<Option<Step>, NoMemory>
     requires ready { IsReady (machines_in m.now) state.old }
     requires made { IsMade (machines_in m.now) (table state.old) }
     requires least { IsLeastWaiting (waits state.old.waiting) item.node item.place }
     requires waits { waits state.old.waiting item ≡ true }
-    ensures { IfOk result (IsTurned (machines_in m.now) state.old state.new) }
+    requires kept { AreKept (machines_in m.now) (table state.old) tried.old.ways }
+    ensures turned { IfOk result (IsTurned (machines_in m.now) state.old state.new) }
+    ensures kept { OnOk result (AreKept (machines_in m.now) (table state.old) tried.new.ways) }
 {
     if item.place == 0 {
         find_mode(alloc, m, state, item.node)
     } else {
-        try_item(alloc, m, state, item)
+        try_item(alloc, m, state, tried, item)
     }
 }
 
@@ -194,10 +222,15 @@ pub fn next(alloc: Global, m: &Sides<'_>, state: &mut State) -> Result<Step, NoM
     ensures same { OnOk result (table state.new ≡ table state.old) }
     ensures next { IfOk result (IsNext (machines_in m.now) (table state.old)) }
 {
+    let mut tried = Tried {
+        node: 0,
+        moves: 0,
+        ways: None,
+    };
     'turns: loop {
         match least(&state.waiting) {
             Some(item) => {
-                if let Some(step) = turn(alloc, m, state, item)? {
+                if let Some(step) = turn(alloc, m, state, &mut tried, item)? {
                     return Ok(step);
                 }
             }

@@ -6,7 +6,7 @@ use Rattle.fs_cut.specs.View.{path_of}
 use Rattle.cert_model.specs.View.{node_of}
 use Rattle.cert_check.specs.Progress.{progress_from}
 use Rattle.cert_check.specs.View.{move_in}
-use Rattle.cert_check.proofs.moves.both_moves.Given as goal
+use Rattle.cert_check.proofs.moves.move_pairs.Given as goal
 
 abbrev pub invariant-loop-left : goal.invariant-loop-left
 invariant-loop-left l = record {
