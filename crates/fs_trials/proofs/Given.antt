@@ -148,8 +148,10 @@ past_all fs k e = slice_get-none fs k (none_from_map (λ (f : Signature). f.1) (
 -- ---- arrays
 
 pub filled_more : (numbers : ℕ → ℤ) (k : ℕ) (v : ℤ) (old new : ℤ → ℤ) → v ≡ numbers k → ((x : ℤ) → new x ≡ cond (int_eq (pos k) x) v (old x))
-    → ((x : ℤ) → old x ≡ array_of numbers k x) → (x : ℤ) → new x ≡ array_of numbers (k + 1) x
-filled_more numbers k v old new e put before (negsuc i) = put (negsuc i) ∙ before (negsuc i)
+    → ((x : ℤ) → old x ≡ array_of numbers k 0 x) → (x : ℤ) → new x ≡ array_of numbers (k + 1) 0 x
+filled_more numbers k v old new e put before (negsuc i) =
+    let none : nat_lt i 0 ≡ false = grind (arith, nat_tests) in
+    put (negsuc i) ∙ before (negsuc i) ∙ ap (λ b. cond b (numbers (k + i)) (pos 0)) none ∙ sym (ap (λ b. cond b (numbers ((k + 1) + i)) (pos 0)) none)
 filled_more numbers k v old new e put before (pos i) =
     put (pos i)
     ∙ elim (int_eq (pos k) (pos i)) as (λ b. int_eq (pos k) (pos i) ≡ b → cond b v (old (pos i)) ≡ cond (nat_lt i (k + 1)) (numbers i) (pos 0)) [
@@ -162,6 +164,26 @@ filled_more numbers k v old new e put before (pos i) =
           let differ : k ≢ i = λ q. false≢true (sym apart ∙ (Decides-int_eq (pos k) (pos i)).1 (ap pos q)) in
           let test : nat_lt i k ≡ nat_lt i (k + 1) = grind (arith, nat_tests) in
           before (pos i) ∙ ap (λ b. cond b (numbers i) (pos 0)) test
+    ] refl
+
+-- one more index below 0 has a number
+pub below_more : (numbers : ℕ → ℤ) (filled m : ℕ) (v : ℤ) (old new : ℤ → ℤ) → v ≡ numbers (filled + m)
+    → ((x : ℤ) → new x ≡ cond (int_eq (negsuc m) x) v (old x)) → ((x : ℤ) → old x ≡ array_of numbers filled m x)
+    → (x : ℤ) → new x ≡ array_of numbers filled (m + 1) x
+below_more numbers filled m v old new e put before (pos i) = put (pos i) ∙ before (pos i)
+below_more numbers filled m v old new e put before (negsuc i) =
+    put (negsuc i)
+    ∙ elim (int_eq (negsuc m) (negsuc i)) as (λ b. int_eq (negsuc m) (negsuc i) ≡ b
+    → cond b v (old (negsuc i)) ≡ cond (nat_lt i (m + 1)) (numbers (filled + i)) (pos 0)) [
+      | true ↦ λ same.
+          let whole : negsuc m ≡ negsuc i = (Decides-int_eq (negsuc m) (negsuc i)).0 same in
+          let number : m ≡ i = cc in
+          let inside : nat_lt i (m + 1) ≡ true = grind (arith, nat_tests) in
+          e ∙ ap (λ n. numbers (filled + n)) number ∙ ap (λ b. cond b (numbers (filled + i)) (pos 0)) (sym inside)
+      | false ↦ λ apart.
+          let differ : m ≢ i = λ q. false≢true (sym apart ∙ (Decides-int_eq (negsuc m) (negsuc i)).1 (ap negsuc q)) in
+          let test : nat_lt i m ≡ nat_lt i (m + 1) = grind (arith, nat_tests) in
+          before (negsuc i) ∙ ap (λ b. cond b (numbers (filled + i)) (pos 0)) test
     ] refl
 
 pub entries_are : (f g : ℤ → ℤ) → ((i : ℤ) → f i ≡ g i) → Entries f ≡ Entries g

@@ -1,7 +1,7 @@
 -- A list that grows by a number at a time is the list of all of them.
 use Rattle.std.proofs.Common.{◌≡◌, ℕ, zero, suc, ◌<◌, ◌≤◌, Bool, true, false, cond, leb, List, [], ◌∷◌, ◌++◌, length, take, refl, sym, ◌∙◌, ap, arith}
 use Rattle.std.proofs.Common.{append_assoc, append-nil, length-append, drop, get_or, ◌+◌}
-use Rattle.std.specs.Prelude.{ℤ, pos, negsuc, ◌+ℤ◌, ◌-ℤ◌, not, ◌&&◌, ◌||◌, Option, Some, None, FitsSigned, nat_le}
+use Rattle.std.specs.Prelude.{ℤ, pos, negsuc, ◌+ℤ◌, ◌-ℤ◌, neg_ℤ, not, ◌&&◌, ◌||◌, Option, Some, None, FitsSigned, nat_le}
 use Rattle.std.specs.Int.{w128}
 use Rattle.std.specs.List.{filter, fold, flat_map, AllByRecursion, IsDistinct}
 use Rattle.std.specs.Option.{SomeIff, option_to_list}
@@ -15,7 +15,7 @@ use Rattle.std.proofs.lemmas.List.Folds.{list_any-append}
 use Rattle.std.proofs.lemmas.List.Sums.{fold-append}
 use Rattle.fs_model.proofs.Lists.{drop_next}
 use Rattle.fs_trials.specs.Pool.{is_pool_number, first_values, fixed_values, neighbours, distinct, first_distinct, pool_from, further_values, is_in_pool}
-use Rattle.fs_trials.specs.Pool.{with_pool_number}
+use Rattle.fs_trials.specs.Pool.{with_both_signs, signed_values, with_pool_number}
 
 -- ---- loops that add numbers
 
@@ -25,14 +25,14 @@ pub one_more : (room : ℕ) (old new xs : List ℤ) (i : ℕ) (x : ℤ) → i < 
 one_more room old new xs i x h at n =
     ap (λ p. fold (with_pool_number room) p (drop (i + 1) xs)) n ∙ ap (fold (with_pool_number room) old) (sym (drop_next xs i x h at))
 
--- the neighbours of one more number, in front of those of the numbers that are left
-pub more_neighbours : (room : ℕ) (old new xs : List ℤ) (i : ℕ) (x : ℤ) → i < length xs → x ≡ get_or xs i x
-    → new ≡ fold (with_pool_number room) old (neighbours x)
-    → fold (with_pool_number room) new (flat_map neighbours (drop (i + 1) xs)) ≡ fold (with_pool_number room) old (flat_map neighbours (drop i xs))
-more_neighbours room old new xs i x h at n =
-    ap (λ p. fold (with_pool_number room) p (flat_map neighbours (drop (i + 1) xs))) n
-    ∙ sym (fold-append (with_pool_number room) old (neighbours x) (flat_map neighbours (drop (i + 1) xs)))
-    ∙ ap (λ l. fold (with_pool_number room) old (flat_map neighbours l)) (sym (drop_next xs i x h at))
+-- what one more number makes, in front of what the numbers that are left make
+pub more_made : (make : ℤ → List ℤ) (room : ℕ) (old new xs : List ℤ) (i : ℕ) (x : ℤ) → i < length xs → x ≡ get_or xs i x
+    → new ≡ fold (with_pool_number room) old (make x)
+    → fold (with_pool_number room) new (flat_map make (drop (i + 1) xs)) ≡ fold (with_pool_number room) old (flat_map make (drop i xs))
+more_made make room old new xs i x h at n =
+    ap (λ p. fold (with_pool_number room) p (flat_map make (drop (i + 1) xs))) n
+    ∙ sym (fold-append (with_pool_number room) old (make x) (flat_map make (drop (i + 1) xs)))
+    ∙ ap (λ l. fold (with_pool_number room) old (flat_map make l)) (sym (drop_next xs i x h at))
 
 -- behind the last number a list is what all of them make
 pub none_left : (f : List ℤ → List ℤ) (old all xs : List ℤ) (i : ℕ) → f [] ≡ old → length xs ≤ i → f (drop i xs) ≡ all → old ≡ all
@@ -159,7 +159,15 @@ pub further_grown : (pool p q : List ℤ) → p ≡ fixed_values → q ≡ fold 
 further_grown pool p q e f = f ∙ ap (λ x. fold (with_pool_number 40) x pool) (e ∙ fixed_grown) ∙ sym (fold-append (with_pool_number 40) [] fixed_values pool)
     ∙ from_none 40 (fixed_values ++ pool)
 
--- ---- a number with its neighbours
+pub signed_grown : (pool p q : List ℤ) → p ≡ fixed_values → q ≡ fold (with_pool_number 40) p (flat_map with_both_signs pool) → q ≡ signed_values pool
+signed_grown pool p q e f = f ∙ ap (λ x. fold (with_pool_number 40) x (flat_map with_both_signs pool)) (e ∙ fixed_grown)
+    ∙ sym (fold-append (with_pool_number 40) [] fixed_values (flat_map with_both_signs pool)) ∙ from_none 40 (fixed_values ++ flat_map with_both_signs pool)
+
+-- ---- a number with its neighbours, and with both signs
+
+pub both_signs : (room : ℕ) (c : ℤ) (p q r other : List ℤ) → other ≡ filter is_pool_number (neg_ℤ c ∷ []) → q ≡ with_pool_number room p c
+    → r ≡ fold (with_pool_number room) q other → r ≡ fold (with_pool_number room) p (with_both_signs c)
+both_signs room c p q r other o e f = f ∙ ap (λ x. fold (with_pool_number room) x other) e ∙ ap (λ x. fold (with_pool_number room) p (c ∷ x)) o
 
 three_kept : (x y z : ℤ) → is_pool_number y ≡ true → filter is_pool_number (x ∷ y ∷ z ∷ []) ≡ filter is_pool_number (x ∷ [])
     ++ (y ∷ filter is_pool_number (z ∷ []))
@@ -234,3 +242,6 @@ pool_begins cs = refl
 
 pub further_begins : (pool : List ℤ) → take 17 (further_values pool) ≡ fixed_values
 further_begins pool = refl
+
+pub signed_begins : (pool : List ℤ) → take 17 (signed_values pool) ≡ fixed_values
+signed_begins pool = refl

@@ -8,12 +8,13 @@ use Rattle.fs_model.specs.Machines.{Fsmd}
 use Rattle.fs_model.specs.Runs.{Inputs, Content, Number, Entries, Emitted}
 use Rattle.fs_stores.specs.InputValues.{Signature, input_signatures}
 use Rattle.fs_runs.specs.Outcomes.{outputs_by_name}
-use Rattle.fs_trials.specs.Pool.{pool_of, further_values}
+use Rattle.fs_trials.specs.Pool.{pool_of, further_values, signed_values}
 
--- a candidate: the number that index i of input k has, and how many indices of an array have one, from 0 on
+-- a candidate: the numbers of input k, how many indices of an array have one, from 0 on, and how many below 0 have one
 pub record Candidate : Type 0 where
   pub number : (k i : ℕ) → ℤ
   pub filled : ℕ
+  pub below : ℕ
 
 -- the place of a pool of n numbers, before it is counted round, that candidate j of the pool gives index i of input k
 abbrev pub pool_place : (n j k i : ℕ) → ℕ
@@ -24,18 +25,24 @@ abbrev pub pool_candidate : List ℤ → (j : ℕ) → Candidate
 pool_candidate pool j = record {
   number = λ k i. slice_index_or pool (pool_place (length pool) j k i % length pool) (pos 0);
   filled = 16;
+  below = 0;
 }
 
--- the place among n numbers that further candidate j gives index i of input k
+-- the place among n numbers of number i that further candidate j gives input k
 abbrev pub further_place : (n j k i : ℕ) → ℕ
 further_place n j k i = ((j + 1) * (j + 31) * (k + 7) + (2 * j + 1) * (k + 3) * i + i * i * (j % 5)) % 10007 % n
 
--- further candidate j over numbers
-abbrev pub further_candidate : List ℤ → (j : ℕ) → Candidate
-further_candidate values j = record {
+-- further candidate j over numbers, which gives so many indices below 0 a number
+abbrev pub further_over : List ℤ → (below j : ℕ) → Candidate
+further_over values below j = record {
   number = λ k i. slice_index_or values (further_place (length values) j k i) (pos 0);
   filled = 32;
+  below = below;
 }
+
+-- further candidate j of a pool; those from 192 on are the signed ones
+abbrev pub further_candidate : List ℤ → (j : ℕ) → Candidate
+further_candidate pool j = cond (nat_lt j 192) (further_over (further_values pool) 0 j) (further_over (signed_values pool) 4 j)
 
 -- how many candidates a pool gives
 abbrev pub pool_count : List ℤ → ℕ
@@ -48,16 +55,16 @@ candidate_count pool = pool_count pool + 256
 -- candidate j: those of the pool come first, and then the further ones
 abbrev pub candidate : List ℤ → (j : ℕ) → Candidate
 candidate pool j =
-    cond (nat_lt j (pool_count pool)) (pool_candidate pool j) (further_candidate (further_values pool) (j - pool_count pool))
+    cond (nat_lt j (pool_count pool)) (pool_candidate pool j) (further_candidate pool (j - pool_count pool))
 
--- an array that has numbers at the first so many indices from 0 on, and 0 elsewhere
-abbrev pub array_of : (numbers : ℕ → ℤ) → (count : ℕ) → ℤ → ℤ
-array_of numbers count (pos i) = cond (nat_lt i count) (numbers i) (pos 0)
-array_of numbers count (negsuc i) = pos 0
+-- an array that has the first numbers at so many indices from 0 on, the next ones at so many from -1 down, and 0 elsewhere
+abbrev pub array_of : (numbers : ℕ → ℤ) → (filled below : ℕ) → ℤ → ℤ
+array_of numbers filled below (pos i) = cond (nat_lt i filled) (numbers i) (pos 0)
+array_of numbers filled below (negsuc i) = cond (nat_lt i below) (numbers (filled + i)) (pos 0)
 
 -- the array that a candidate gives input k
 abbrev pub candidate_array : Candidate → (k : ℕ) → ℤ → ℤ
-candidate_array c k = array_of (c.number k) c.filled
+candidate_array c k = array_of (c.number k) c.filled c.below
 
 -- what a candidate gives input k of a sort
 abbrev pub content_at : Candidate → (k : ℕ) → Sort → Content

@@ -1,5 +1,5 @@
 -- The numbers of which candidate inputs are made.
-use Rattle.std.specs.Prelude.{ℕ, ◌^◌, nat_lt, nat_le, Bool, not, ◌||◌, cond, ℤ, pos, negsuc, ◌+ℤ◌, ◌-ℤ◌}
+use Rattle.std.specs.Prelude.{ℕ, ◌^◌, nat_lt, nat_le, Bool, not, ◌||◌, cond, ℤ, pos, negsuc, ◌+ℤ◌, ◌-ℤ◌, neg_ℤ}
 use Rattle.std.specs.Prelude.{List, [], ◌∷◌, ◌++◌, length, take}
 use Rattle.std.specs.List.{filter, flat_map, list_any}
 use Rattle.std.specs.Ordering.{int_eq}
@@ -53,6 +53,14 @@ fixed_values =
 -- the numbers of further candidates: the fixed ones, and then those of a pool
 abbrev pub further_values : List ℤ → List ℤ
 further_values pool = first_distinct most_further_values (fixed_values ++ pool)
+
+-- a number, and then it with the other sign, if that has 128 bits
+abbrev pub with_both_signs : ℤ → List ℤ
+with_both_signs c = c ∷ filter is_pool_number (neg_ℤ c ∷ [])
+
+-- the numbers of signed candidates: the fixed ones, and then those of a pool with both signs
+abbrev pub signed_values : List ℤ → List ℤ
+signed_values pool = first_distinct most_further_values (fixed_values ++ flat_map with_both_signs pool)
 
 -- a number stands in a list
 abbrev pub is_in_pool : ℤ → List ℤ → Bool

@@ -3,11 +3,12 @@
 ghost use Rattle.std.specs.Prelude.{◌≡◌, ◌<◌, ◌≤◌, ℤ, length, map, IfOk};
 ghost use Rattle.fs_stores.specs.Values.{entry_number, content_of, sort_of};
 ghost use Rattle.fs_stores.specs.InputValues.{input_values, inputs_of, signatures_of, input_signatures, Serves};
-ghost use Rattle.fs_trials.specs.Pool.{most_values, pool_of, further_values};
-ghost use Rattle.fs_trials.specs.Candidates.{pool_count, candidate_count, pool_candidate, further_place, further_candidate};
-ghost use Rattle.fs_trials.specs.Candidates.{candidate, candidate_array, content_at, candidate_contents, candidate_inputs};
+ghost use Rattle.fs_trials.specs.Pool.{most_values, pool_of, further_values, signed_values};
+ghost use Rattle.fs_trials.specs.Candidates.{pool_count, candidate_count, pool_candidate, further_place, further_over};
+ghost use Rattle.fs_trials.specs.Candidates.{further_candidate, candidate, array_of, candidate_array, content_at};
+ghost use Rattle.fs_trials.specs.Candidates.{candidate_contents, candidate_inputs};
 
-use crate::pool::{further_values, pool};
+use crate::pool::{further_values, pool, signed_values};
 use fs_ast::machine::Machine;
 use fs_model::parts::Sort;
 use fs_stores::inputs::Inputs;
@@ -22,17 +23,26 @@ pub const POOL_FILLED: u64 = 16;
 /// How many indices of an array, from 0 on, a further candidate gives a number.
 pub const FURTHER_FILLED: u64 = 32;
 
+/// How many indices of an array, from -1 down, a signed candidate gives a number.
+pub const SIGNED_BELOW: u64 = 4;
+
 /// How many further candidates there are.
 pub const FURTHER_COUNT: u64 = 256;
 
-/// The numbers of which the candidates of two machines are made: their pool, and the numbers of the further candidates.
+/// The number of the first further candidate that is a signed one.
+pub const FIRST_SIGNED: u64 = 192;
+
+/// The numbers of which the candidates of two machines are made: their pool, and the numbers of the further candidates, where
+/// the signed ones have numbers of their own.
 #[derive(Drop)]
 pub struct Candidates {
     pub pool: Vec<i128>,
     pub further: Vec<i128>,
+    pub signed: Vec<i128>,
     pub ghost some: { 1 ≤ length pool.items },
     pub ghost few: { length pool.items ≤ most_values },
     pub ghost values: { further.items ≡ further_values pool.items },
+    pub ghost signed_values: { signed.items ≡ signed_values pool.items },
 }
 
 impl Candidates {
@@ -42,7 +52,12 @@ impl Candidates {
     {
         let pool = pool(alloc, a, b)?;
         let further = further_values(alloc, pool.as_slice())?;
-        Ok(Candidates { pool, further })
+        let signed = signed_values(alloc, pool.as_slice())?;
+        Ok(Candidates {
+            pool,
+            further,
+            signed,
+        })
     }
 
     // How many candidates the pool gives: as many as its length times its length.
@@ -66,9 +81,10 @@ impl Candidates {
     ///
     /// Candidate j of the pool gives index i of input k the number of the pool at the place `j + k * (j / n) + i`, where
     /// the quotient is rounded down and places are counted round. Further candidate j gives it the further number at the
-    /// place `((j + 1)(j + 31)(k + 7) + (2j + 1)(k + 3)i + i * i * (j mod 5)) mod 10007 mod n`. A scalar has the number of
-    /// index 0. An array has those of its first indices, 16 by a candidate of the pool and 32 by a further one, and 0
-    /// elsewhere. The only refusal is out of memory.
+    /// place `((j + 1)(j + 31)(k + 7) + (2j + 1)(k + 3)i + i * i * (j mod 5)) mod 10007 mod n`, and from j = 192 on, where it
+    /// is a signed one, the signed number there. A scalar has the number of index 0. An array has those of its first indices,
+    /// 16 by a candidate of the pool and 32 by a further one. By a signed one its indices -1 to -4 have the numbers that
+    /// indices 32 to 35 would have. It has 0 elsewhere. The only refusal is out of memory.
     pub fn inputs(&self, alloc: Global, j: u64, m: &Machine) -> Result<Inputs, NoMemory>
         requires { j < candidate_count self.now.pool.items }
         ensures signatures { IfOk result (λ ins. signatures_of ins ≡ input_signatures m.now.variables) }
@@ -108,6 +124,22 @@ impl Candidates {
         requires input { k < 128 }
         ensures { IfOk result (λ e. (i : ℤ) → entry_number e i ≡ candidate_array (candidate self.now.pool.items j) k i) }
     {
+        let mut entries = self.first_entries(alloc, j, k)?;
+        let filled = self.filled_count(j);
+        for i in 0..self.below_count(j) {
+            let index = -1 - i128::from(i);
+            entries.set(index, self.number(j, k, filled + i))?;
+        }
+        Ok(entries)
+    }
+
+    // That array with 0 below index 0.
+    fn first_entries(&self, alloc: Global, j: u64, k: u64) -> Result<Entries, NoMemory>
+        requires candidate { j < candidate_count self.now.pool.items }
+        requires input { k < 128 }
+        ensures { IfOk result (λ e. (i : ℤ) → entry_number e i
+            ≡ array_of ((candidate self.now.pool.items j).number k) (candidate self.now.pool.items j).filled 0 i) }
+    {
         let mut entries = Entries::new(alloc);
         for i in 0..self.filled_count(j) {
             entries.set(i128::from(i), self.number(j, k, i))?;
@@ -127,28 +159,54 @@ impl Candidates {
         }
     }
 
-    // The number that candidate j gives index i of input k.
+    // How many indices of an array below 0 candidate j gives a number.
+    fn below_count(&self, j: u64) -> u64
+        ensures count { result ≡ (candidate self.now.pool.items j).below }
+        ensures bound { result ≤ 4 }
+    {
+        if j < self.pool_count() + FIRST_SIGNED {
+            0
+        } else {
+            SIGNED_BELOW
+        }
+    }
+
+    // Number i that candidate j gives input k.
     fn number(&self, j: u64, k: u64, i: u64) -> i128
         requires candidate { j < candidate_count self.now.pool.items }
         requires input { k < 128 }
-        requires index { i < 32 }
+        requires index { i < 36 }
         ensures { result ≡ (candidate self.now.pool.items j).number k i }
     {
         let count = self.pool_count();
         if j < count {
             pool_number(self.pool.as_slice(), j, k, i)
         } else {
-            further_number(self.further.as_slice(), j - count, k, i)
+            self.further_number(j - count, k, i)
+        }
+    }
+
+    // Number i that further candidate j gives input k.
+    fn further_number(&self, j: u64, k: u64, i: u64) -> i128
+        requires candidate { j < 256 }
+        requires input { k < 128 }
+        requires index { i < 36 }
+        ensures { result ≡ (further_candidate self.now.pool.items j).number k i }
+    {
+        if j < FIRST_SIGNED {
+            number_over(self.further.as_slice(), j, k, i)
+        } else {
+            number_over(self.signed.as_slice(), j, k, i)
         }
     }
 }
 
-// The number of a pool that its candidate j gives index i of input k.
+// Number i of a pool that its candidate j gives input k.
 fn pool_number(pool: &[i128], j: u64, k: u64, i: u64) -> i128
     requires some { 1 ≤ length pool.now }
     requires candidate { j < 576 }
     requires input { k < 128 }
-    requires index { i < 32 }
+    requires index { i < 36 }
     ensures { result ≡ (pool_candidate pool.now j).number k i }
 {
     let len = pool.len() as u64;
@@ -156,23 +214,23 @@ fn pool_number(pool: &[i128], j: u64, k: u64, i: u64) -> i128
     pool[(place % len) as usize]
 }
 
-// The number that further candidate j gives index i of input k.
-fn further_number(values: &[i128], j: u64, k: u64, i: u64) -> i128
+// Number i that further candidate j over numbers gives input k.
+fn number_over(values: &[i128], j: u64, k: u64, i: u64) -> i128
     requires some { 1 ≤ length values.now }
     requires candidate { j < 256 }
     requires input { k < 128 }
-    requires index { i < 32 }
-    ensures { result ≡ (further_candidate values.now j).number k i }
+    requires index { i < 36 }
+    ensures { result ≡ (further_over values.now 0 j).number k i }
 {
     values[further_place(values.len() as u64, j, k, i) as usize]
 }
 
-// The place among n numbers that further candidate j gives index i of input k.
+// The place among n numbers of number i that further candidate j gives input k.
 fn further_place(n: u64, j: u64, k: u64, i: u64) -> u64
     requires some { 1 ≤ n }
     requires candidate { j < 256 }
     requires input { k < 128 }
-    requires index { i < 32 }
+    requires index { i < 36 }
     ensures place { result ≡ further_place n j k i }
     ensures bound { result < n }
 {

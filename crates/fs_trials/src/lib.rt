@@ -7,6 +7,7 @@
 //! Words:
 //! - candidate: inputs that are tried for a difference
 //! - candidate, further: one of 256 that come after those of the pool
+//! - candidate, signed: one of the last 64 further ones; with pool numbers of both signs, and entries below index 0
 //! - candidate, stated: one of a pool, or a further one; counted from 0
 //! - pool: the values that candidates are made of
 #![tactic(auto)]

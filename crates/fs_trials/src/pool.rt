@@ -1,12 +1,13 @@
 //! The numbers of which candidate inputs are made.
 
-ghost use Rattle.std.specs.Prelude.{◌≡◌, ◌≤◌, ◌-ℤ◌, ◌+ℤ◌, ◌∷◌, [], true, nat_le, pos, length, take, IfOk};
+ghost use Rattle.std.specs.Prelude.{◌≡◌, ◌≤◌, ◌-ℤ◌, ◌+ℤ◌, neg_ℤ, ◌∷◌, [], true, nat_le, pos, length, take, IfOk};
 ghost use Rattle.std.specs.List.{fold, flat_map, filter, IsDistinct};
 ghost use Rattle.std.specs.Option.{option_to_list};
 ghost use Rattle.std.specs.Ordering.{int_eq};
 ghost use Rattle.std.specs.Result.{OnOk};
 ghost use Rattle.fs_trials.specs.Pool.{most_values, is_pool_number, first_values, neighbours, pool_of};
-ghost use Rattle.fs_trials.specs.Pool.{most_further_values, fixed_values, further_values, is_in_pool, with_pool_number};
+ghost use Rattle.fs_trials.specs.Pool.{most_further_values, fixed_values, further_values, with_both_signs, signed_values};
+ghost use Rattle.fs_trials.specs.Pool.{is_in_pool, with_pool_number};
 
 use fs_ast::machine::Machine;
 use fs_stores::memory::NoMemory;
@@ -48,6 +49,20 @@ pub fn further_values(alloc: Global, pool: &[i128]) -> Result<Vec<i128>, NoMemor
 {
     let mut values = FIXED_VALUES.as_slice().to_vec(alloc)?;
     add_all(&mut values, pool, FURTHER_LIMIT)?;
+    Ok(values)
+}
+
+/// The numbers of signed candidates: 0 to 10, 12, 16, -1, -2, -3 and -5, and then those of a pool, each followed by itself
+/// with the other sign. A number that is there already or needs more than 128 bits is left out, and they end at 40 numbers.
+/// The only refusal is out of memory.
+pub fn signed_values(alloc: Global, pool: &[i128]) -> Result<Vec<i128>, NoMemory>
+    ensures exact { IfOk result (λ v. v.items ≡ signed_values pool.now) }
+    ensures begins { IfOk result (λ v. take 17 v.items ≡ fixed_values) }
+    ensures distinct { IfOk result (λ v. IsDistinct int_eq v.items) }
+    ensures few { IfOk result (λ v. length v.items ≤ most_further_values) }
+{
+    let mut values = FIXED_VALUES.as_slice().to_vec(alloc)?;
+    add_signed(&mut values, pool, FURTHER_LIMIT)?;
     Ok(values)
 }
 
@@ -126,6 +141,31 @@ fn add_neighbours(list: &mut Vec<i128>, constants: &[i128], room: usize) -> Resu
             return Ok(());
         }
         add_around(list, c, room)?;
+    }
+    Ok(())
+}
+
+// A number with the other sign, if it has 128 bits.
+fn negated(c: &i128) -> Option<i128>
+    ensures { option_to_list result ≡ filter is_pool_number (neg_ℤ c.now ∷ []) }
+{
+    c.checked_neg()
+}
+
+// Adds a number, and then it with the other sign.
+fn add_both_signs(list: &mut Vec<i128>, c: &i128, room: usize) -> Result<(), NoMemory>
+    ensures { OnOk result (list.new.items ≡ fold (with_pool_number room) list.old.items (with_both_signs c.now)) }
+{
+    add(list, c, room)?;
+    add_any(list, negated(c), room)
+}
+
+// Adds numbers with both signs.
+fn add_signed(list: &mut Vec<i128>, values: &[i128], room: usize) -> Result<(), NoMemory>
+    ensures { OnOk result (list.new.items ≡ fold (with_pool_number room) list.old.items (flat_map with_both_signs values.now)) }
+{
+    for value in values {
+        add_both_signs(list, value, room)?;
     }
     Ok(())
 }

@@ -8,7 +8,7 @@ use fs_trials::candidates::Candidates;
 use std::alloc::Global;
 
 // The pool of two of these has 10 numbers, so that further candidates come from number 100 on. Further numbers are 0 to 10,
-// 12, 16, -1, -2, -3, -5, 99, 100 and 101.
+// 12, 16, -1, -2, -3, -5, 99, 100 and 101. Signed ones are the same 17, and then 99, -99, 100, -100, 101, -101, -6, -7 and -8.
 const CONSTANTS: &str = "fsmd 1; input a, b; input array m; output y; reset s0;
 state s0: when a > 100 goto s0: y = b + 7; goto s0: y = m[a];";
 
@@ -34,9 +34,9 @@ fn further_value(alloc: Global, m: &Machine, j: u64, k: u32, i: i128) -> Option<
     value_at(&inputs, k, i)
 }
 
-// The first, one in the middle and the last, each at two scalars and at places of an array: the number of the candidate, the
-// input, the index and what is given.
-static NUMBERS: [(u64, u32, i128, i128); 17] = [
+// The first, some in the middle and the last, of which those from 192 on are signed ones, each at two scalars and at places of an
+// array: the number of the candidate, the input, the index and what is given.
+static NUMBERS: [(u64, u32, i128, i128); 22] = [
     (0, 0, 0, 99),
     (0, 1, 0, 8),
     (0, 2, 0, 101),
@@ -49,11 +49,16 @@ static NUMBERS: [(u64, u32, i128, i128); 17] = [
     (7, 2, 3, 101),
     (7, 2, 15, 12),
     (7, 2, 16, 8),
-    (255, 0, 0, -3),
-    (255, 1, 0, 2),
-    (255, 2, 0, 9),
-    (255, 2, 31, 100),
+    (191, 2, 0, 10),
+    (191, 2, -1, 0),
+    (192, 0, 0, -6),
+    (192, 2, -1, 8),
+    (255, 0, 0, -6),
+    (255, 1, 0, -99),
+    (255, 2, 0, -1),
+    (255, 2, 31, -100),
     (255, 2, 32, 0),
+    (255, 2, -4, -8),
 ];
 
 #[test]

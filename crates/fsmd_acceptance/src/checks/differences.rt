@@ -37,7 +37,7 @@ check a.fsmd b.fsmd¦{1}¦{2}¦¦{3}
 
 # values of candidates
 # Candidates have the values 0, 1, -1, 2, and each number of the texts with its neighbours, up to 24 values. Further ones have
-# 0 to 10, 12, 16, -1, -2, -3, -5, and then these.
+# 0 to 10, 12, 16, -1, -2, -3, -5, and then these, the last ones with both signs.
 check a.fsmd b.fsmd¦fsmd 1; input x; output y; reset s; state s: when {1} goto s: y = 1; goto s;¦fsmd 1; input x; output y; reset s; state s: goto s;¦¦counterexample\nx = {2}\nleft: y = 1\nright: y = 0\n
 :
 x == 0¦0
@@ -55,6 +55,7 @@ x + 1 == 170141183460469231731687303715884105727¦170141183460469231731687303715
 10 < 20 && 30 < 40 && 50 < 60 && x + 1 == 70¦69
 x == 7 - 2¦5
 -x == 5¦-5
+-x == 11¦-11
 x * x == 9¦3
 
 # values that no candidate has
@@ -63,7 +64,6 @@ check a.fsmd b.fsmd¦fsmd 1; input x; output y; reset s; state s: goto s;¦fsmd 
 :
 x * x == 10404
 x == 70 - 2
--x == 11
 x * x == 121
 10 < 20 && 30 < 40 && 50 < 60 && x - 1 == 70
 

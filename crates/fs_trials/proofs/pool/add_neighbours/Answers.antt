@@ -3,7 +3,7 @@ use Rattle.std.specs.Prelude.{nat_le}
 use Rattle.std.specs.List.{fold, flat_map}
 use Rattle.fs_model.proofs.Lists.{same_there}
 use Rattle.fs_trials.specs.Pool.{neighbours, with_pool_number}
-use Rattle.fs_trials.proofs.Pools.{grown_full, more_neighbours, none_left}
+use Rattle.fs_trials.proofs.Pools.{grown_full, more_made, none_left}
 use Rattle.fs_trials.proofs.pool.add_neighbours.Goals as goal
 
 pub returns-then-is_full : goal.returns-then-is_full
@@ -17,7 +17,7 @@ pub loop-c-preserved : goal.loop-c-preserved
 loop-c-preserved c =
     let xs = c.args.constants.now in
     let i = c.loop-c.c-index in
-    more_neighbours c.args.room c.loop-c.list.items c.add_around.new.list.items xs i _ c.loop-c-test.true (same_there xs i _ _ c.loop-c-test.true)
+    more_made neighbours c.args.room c.loop-c.list.items c.add_around.new.list.items xs i _ c.loop-c-test.true (same_there xs i _ _ c.loop-c-test.true)
     c.in_ok-add_around.ensures ∙ c.loop-c.invariant
 
 pub returns : goal.returns

@@ -1,0 +1,7 @@
+use Rattle.std.proofs.Common.{◌≡◌, ℤ}
+use Rattle.fs_stores.specs.Values.{entry_number}
+use Rattle.fs_trials.specs.Candidates.{candidate, array_of}
+use Rattle.fs_trials.proofs.candidates.Candidates.first_entries.Given as goal
+
+abbrev pub invariant-loop-i : goal.invariant-loop-i
+invariant-loop-i l = (x : ℤ) → entry_number l.entries x ≡ array_of ((candidate l.self.pool.items l.j).number l.k) l.i 0 x
