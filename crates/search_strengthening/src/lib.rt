@@ -9,3 +9,4 @@ mod modes;
 mod moves;
 mod steps;
 pub mod strengthening;
+mod ways;

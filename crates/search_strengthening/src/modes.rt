@@ -5,43 +5,102 @@ use fs_cut::cover::Point;
 use nf_terms::stop::NoMemory;
 use nf_terms::tree::Side;
 use nf_vectors::vector::Vector;
-use search_strengthening_facts::open_paths::has_many;
-use search_strengthening_tables::flags::{Flags, flags_at, keep};
+use search_strengthening_facts::open_paths::{OpenPath, open_paths, some_meets_several};
+use search_strengthening_tables::flags::{AsksLess, Flags, flags_at, keep};
 use search_strengthening_tables::nodes::{ClaimedNode, NodeMove, Settled};
-use search_strengthening_tables::sides::Sides;
-use search_strengthening_tables::state::{State, clear};
+use search_strengthening_tables::rules::Rule;
+use search_strengthening_tables::sides::{Covered, Sides};
+use search_strengthening_tables::state::{State, clear, rule_at};
 use search_strengthening_terms::stop::Stop;
 use search_strengthening_terms::work::Work;
 use std::alloc::Global;
 
+// Where both sides have several ways on, the one that asks less moves alone, unless the rule lets both move.
+fn mode_by_asking(rule: Rule, asks_less: AsksLess) -> Mode {
+    if rule == Rule::SeveralTogether {
+        return Mode::Both;
+    }
+    match asks_less {
+        AsksLess::Left => Mode::Left,
+        AsksLess::Right => Mode::Right,
+        AsksLess::Unknown | AsksLess::Mixed => Mode::Both,
+    }
+}
+
 // A side alone moves where the other one has more ways on; where neither has, and one is at the head of a loop, the other one
 // moves alone.
-fn mode_by(flags: Flags, left_head: bool, right_head: bool) -> Mode {
-    if flags.many_left != flags.many_right {
-        return if flags.many_left {
-            Mode::Right
-        } else {
-            Mode::Left
-        };
+fn mode_by_ways(rule: Rule, flags: Flags, left_head: bool, right_head: bool) -> Mode {
+    match (flags.many_left, flags.many_right) {
+        (true, true) => mode_by_asking(rule, flags.asks_less),
+        (true, false) => Mode::Right,
+        (false, true) => Mode::Left,
+        (false, false) => match (left_head, right_head) {
+            (true, false) => Mode::Right,
+            (false, true) => Mode::Left,
+            _ => Mode::Both,
+        },
     }
-    if !flags.many_left && left_head != right_head {
-        return if left_head { Mode::Right } else { Mode::Left };
+}
+
+// Whether a point is the head of a loop of one path.
+fn leads_to_itself(side: &Covered<'_>, point: Point) -> bool {
+    for path in side.cover.from(point) {
+        if path.to.is_same(point) {
+            return true;
+        }
     }
-    Mode::Both
+    false
+}
+
+// Whether in this mode a machine moves alone from the head of a loop to itself.
+fn loops_alone(sides: &Sides<'_>, node: &ClaimedNode, mode: Mode) -> bool {
+    match mode {
+        Mode::Left => leads_to_itself(&sides.left, node.left),
+        Mode::Right => leads_to_itself(&sides.right, node.right),
+        Mode::Both | Mode::End => false,
+    }
+}
+
+// The mode of a node at which neither machine is done, by the rule.
+fn mode_by_rule(sides: &Sides<'_>, rule: Rule, node: &ClaimedNode, flags: Flags) -> Mode {
+    if rule == Rule::AlwaysTogether {
+        return Mode::Both;
+    }
+    let left_head = sides.left.order.is_head(node.left);
+    let right_head = sides.right.order.is_head(node.right);
+    let mode = mode_by_ways(rule, flags, left_head, right_head);
+    if rule == Rule::LoopsTogether && loops_alone(sides, node, mode) {
+        Mode::Both
+    } else {
+        mode
+    }
 }
 
 // The mode of a node with these flags: a side that is done does not move.
-fn mode_of(sides: &Sides<'_>, node: &ClaimedNode, flags: Flags) -> Mode {
+fn mode_of(sides: &Sides<'_>, rule: Rule, node: &ClaimedNode, flags: Flags) -> Mode {
     match (node.left.is_done(), node.right.is_done()) {
         (true, true) => Mode::End,
         (true, false) => Mode::Right,
         (false, true) => Mode::Left,
-        (false, false) => mode_by(
-            flags,
-            sides.left.order.is_head(node.left),
-            sides.right.order.is_head(node.right),
-        ),
+        (false, false) => mode_by_rule(sides, rule, node, flags),
     }
+}
+
+// Which machine asks less, by their open paths.
+fn find_asks_less(
+    alloc: Global,
+    work: &mut Work,
+    lefts: &[OpenPath],
+    rights: &[OpenPath],
+) -> Result<AsksLess, Stop> {
+    let left = some_meets_several(alloc, work, lefts, rights)?;
+    let right = some_meets_several(alloc, work, rights, lefts)?;
+    Ok(match (left, right) {
+        (true, true) => AsksLess::Mixed,
+        (true, false) => AsksLess::Left,
+        (false, true) => AsksLess::Right,
+        (false, false) => AsksLess::Unknown,
+    })
 }
 
 // What is known of the points of a node, with what its fact, with this vector, shows of them.
@@ -54,13 +113,15 @@ fn see_ways(
     mut flags: Flags,
 ) -> Result<Flags, Stop> {
     let fact = &node.fact;
-    if !flags.many_left {
-        let (a, c) = (sides.left.machine, &sides.left.cover);
-        flags.many_left = has_many(alloc, work, a, c, Side::Left, fact, v, node.left)?;
-    }
-    if !flags.many_right {
-        let (b, c) = (sides.right.machine, &sides.right.cover);
-        flags.many_right = has_many(alloc, work, b, c, Side::Right, fact, v, node.right)?;
+    let (a, c) = (sides.left.machine, &sides.left.cover);
+    let lefts = open_paths(alloc, work, a, c, Side::Left, fact, v, node.left)?;
+    let (b, d) = (sides.right.machine, &sides.right.cover);
+    let rights = open_paths(alloc, work, b, d, Side::Right, fact, v, node.right)?;
+    flags.many_left = flags.many_left || lefts.len() > 1;
+    flags.many_right = flags.many_right || rights.len() > 1;
+    if flags.many_left && flags.many_right {
+        let shown = find_asks_less(alloc, work, lefts.as_slice(), rights.as_slice())?;
+        flags.asks_less = flags.asks_less.and(shown);
     }
     Ok(flags)
 }
@@ -73,7 +134,7 @@ fn flags_of(
     all: &[Flags],
     node: &ClaimedNode,
 ) -> Result<Flags, Stop> {
-    let flags = flags_at(all, node.left, node.right);
+    let flags = flags_at(all, node.left, node.right, node.standing);
     if node.left.is_done() || node.right.is_done() {
         return Ok(flags);
     }
@@ -155,8 +216,8 @@ fn is_other(old: Option<Mode>, mode: Mode) -> bool {
     }
 }
 
-/// Sees that the node at a place has its mode and its moves. Where the mode is another one than its points had since the table
-/// was last cleared, clears the table. Answers whether it did.
+/// Sees that the node at a place has its mode and its moves. Where the mode is another one than its points had since their
+/// components were last cleared, clears these. Answers whether it did.
 pub fn see_mode(
     alloc: Global,
     sides: &Sides<'_>,
@@ -167,12 +228,12 @@ pub fn see_mode(
         return Ok(false);
     };
     let mut flags = flags_of(alloc, sides, &mut state.work, state.flags.as_slice(), node)?;
-    let mode = mode_of(sides, node, flags);
+    let mode = mode_of(sides, rule_at(state, node.standing), node, flags);
     let clears = is_other(flags.mode, mode);
     flags.mode = Some(mode);
     keep(&mut state.flags, flags)?;
     if clears {
-        clear(state)?;
+        clear(state, flags.standing)?;
     } else {
         give_moves(sides, state, place, mode)?;
     }

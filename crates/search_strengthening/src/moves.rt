@@ -1,13 +1,15 @@
 //! Moves, tried.
 
+use crate::ways::{NodeWays, post_by_ways};
 use fs_cut::cover::{Path, Point};
 use nf_refutation::refutation::is_refuted;
+use search_strengthening_claims::visited::claims_at;
 use search_strengthening_facts::facts::fact_of;
 use search_strengthening_facts::first_facts::{FirstFact, first_fact};
 use search_strengthening_facts::weeding::weed;
-use search_strengthening_tables::nodes::{ClaimedNode, NodeMove, Settled, find, find_version};
+use search_strengthening_tables::nodes::{ClaimedNode, NodeMove, Settled, Standing, find};
 use search_strengthening_tables::sides::{Covered, Sides};
-use search_strengthening_tables::state::{State, add, change_fact};
+use search_strengthening_tables::state::{State, add, change_fact, stands};
 use search_strengthening_terms::stop::{Stop, within_limits};
 use search_strengthening_terms::work::Work;
 use std::alloc::Global;
@@ -18,14 +20,29 @@ use sym_paths::execution::Post;
 // The units of work of a state on a path.
 const STATE_UNITS: u64 = 32;
 
+// So many moves of a node are tried each by its own paths.
+const FEW_MOVES: usize = 4;
+
+// A move that is tried: the place and the standing of its node, its number there, and the points at which it arrives.
+#[derive(Clone, Copy)]
+struct Tried {
+    place: usize,
+    number: usize,
+    source: Standing,
+    left: Point,
+    right: Point,
+}
+
 /// What a step does.
 #[derive(Clone, Copy)]
 pub enum Step {
     /// It keeps the table.
     Keeps,
-    /// It adds the node at this place, or weakens it.
-    Changes { place: usize },
-    /// It clears the table.
+    /// It adds the node at this place.
+    Adds { place: usize },
+    /// It weakens the node at this place.
+    Weakens { place: usize },
+    /// It clears a part of the table.
     Clears,
 }
 
@@ -43,19 +60,19 @@ fn end_of(from: Point, path: Option<&Path>) -> Point {
 }
 
 // Whether a move is settled: its arrival is refuted, or entailed a fact that is still in the table.
-fn is_settled(nodes: &[ClaimedNode], tried: NodeMove) -> bool {
+fn is_settled(state: &State, tried: NodeMove) -> bool {
     match tried.settled {
         Settled::Open => false,
         Settled::Refuted => true,
-        Settled::Held { version } => find_version(nodes, version).is_some(),
+        Settled::Held { version } => stands(state, version),
     }
 }
 
 // Notes what is known of a move.
-fn settle(nodes: &mut [ClaimedNode], place: usize, number: usize, settled: Settled) {
-    if let Some(node) = nodes.get_mut(place) {
-        if let Some(tried) = node.moves.get_mut(number) {
-            tried.settled = settled;
+fn settle(nodes: &mut [ClaimedNode], tried: Tried, settled: Settled) {
+    if let Some(node) = nodes.get_mut(tried.place) {
+        if let Some(open) = node.moves.get_mut(tried.number) {
+            open.settled = settled;
         }
     }
 }
@@ -75,18 +92,41 @@ fn units_of_move(node: &ClaimedNode, left: Option<&Path>, right: Option<&Path>) 
         .saturating_add(units_of_path(right))
 }
 
-// What arrives from a node by these paths. `Bound` comes where an operation meets a limit.
+// What arrives from a node by these paths, each executed for this move alone, unless it is refuted. `Bound` comes where an
+// operation meets a limit.
+fn post_by_paths(
+    alloc: Global,
+    sides: &Sides<'_>,
+    node: &ClaimedNode,
+    left: Option<&Path>,
+    right: Option<&Path>,
+) -> Result<Option<Post>, Stop> {
+    let (a, b) = (sides.left.machine, sides.right.machine);
+    let post = within_limits(arrive(alloc, a, b, &node.fact, left, right))?;
+    if is_refuted(alloc, post.conds.as_slice())? {
+        Ok(None)
+    } else {
+        Ok(Some(post))
+    }
+}
+
+// What arrives from a node by these paths, unless it is refuted. `Bound` comes where an operation meets a limit.
 fn post_by(
     alloc: Global,
     sides: &Sides<'_>,
     work: &mut Work,
+    ways: &mut NodeWays,
     node: &ClaimedNode,
     left: Option<&Path>,
     right: Option<&Path>,
-) -> Result<Post, Stop> {
+) -> Result<Option<Post>, Stop> {
     work.spend(units_of_move(node, left, right))?;
-    let (a, b) = (sides.left.machine, sides.right.machine);
-    within_limits(arrive(alloc, a, b, &node.fact, left, right))
+    match (left, right) {
+        (Some(left), Some(right)) if node.moves.len() > FEW_MOVES => {
+            post_by_ways(alloc, sides, ways, node, left, right)
+        }
+        _ => post_by_paths(alloc, sides, node, left, right),
+    }
 }
 
 // Adds the node at which a post arrives first.
@@ -95,18 +135,26 @@ fn add_target(
     sides: &Sides<'_>,
     state: &mut State,
     post: &Post,
-    left: Point,
-    right: Point,
+    tried: Tried,
 ) -> Result<Step, Stop> {
+    let Tried {
+        left,
+        right,
+        source,
+        ..
+    } = tried;
+    let live = sides.live_positions(alloc, left, right)?;
     let FirstFact { claims, fact } = first_fact(
         alloc,
         &mut state.work,
         &sides.universe,
+        live.as_slice(),
         sides.pairing,
         post,
+        claims_at(state.visited.as_slice(), left, right),
     )?;
-    let place = add(alloc, sides, state, left, right, claims, fact)?;
-    Ok(Step::Changes { place })
+    let place = add(alloc, sides, state, (left, right), source, claims, fact)?;
+    Ok(Step::Adds { place })
 }
 
 // Weakens the node at a place so that a post entails its fact. `Bound` comes where the post leaves the claims as they are,
@@ -116,6 +164,7 @@ fn weaken(
     sides: &Sides<'_>,
     state: &mut State,
     post: &Post,
+    source: Standing,
     place: usize,
 ) -> Result<Step, Stop> {
     let Some(node) = state.nodes.get_mut(place) else {
@@ -128,8 +177,8 @@ fn weaken(
         return Err(Stop::Bound);
     }
     let fact = fact_of(alloc, work, universe, p, &node.claims)?;
-    change_fact(state, place, fact)?;
-    Ok(Step::Changes { place })
+    change_fact(state, place, source, fact)?;
+    Ok(Step::Weakens { place })
 }
 
 // Whether a post entails the fact of a node. `Bound` comes where an operation meets a limit.
@@ -150,39 +199,37 @@ fn meet(
     sides: &Sides<'_>,
     state: &mut State,
     post: &Post,
-    from: (usize, usize),
-    left: Point,
-    right: Point,
+    tried: Tried,
 ) -> Result<Step, Stop> {
-    let Some(target) = find(state.nodes.as_slice(), left, right) else {
-        return add_target(alloc, sides, state, post, left, right);
+    let Some(target) = find(state.nodes.as_slice(), tried.left, tried.right) else {
+        return add_target(alloc, sides, state, post, tried);
     };
     let Some(node) = state.nodes.get(target) else {
         return Ok(Step::Keeps);
     };
     let version = node.version;
     if !is_entailed(alloc, &mut state.work, post, node)? {
-        return weaken(alloc, sides, state, post, target);
+        return weaken(alloc, sides, state, post, tried.source, target);
     }
-    settle(&mut state.nodes, from.0, from.1, Settled::Held { version });
+    settle(&mut state.nodes, tried, Settled::Held { version });
     Ok(Step::Keeps)
 }
 
-// What a move does by which a post arrives at two points.
+// What a move does by which a post arrives at two points, or none does, since it is refuted.
 fn try_post(
     alloc: Global,
     sides: &Sides<'_>,
     state: &mut State,
-    post: &Post,
-    from: (usize, usize),
-    left: Point,
-    right: Point,
+    post: Option<&Post>,
+    tried: Tried,
 ) -> Result<Step, Stop> {
-    if is_refuted(alloc, post.conds.as_slice())? {
-        settle(&mut state.nodes, from.0, from.1, Settled::Refuted);
-        return Ok(Step::Keeps);
+    match post {
+        Some(post) => meet(alloc, sides, state, post, tried),
+        None => {
+            settle(&mut state.nodes, tried, Settled::Refuted);
+            Ok(Step::Keeps)
+        }
     }
-    meet(alloc, sides, state, post, from, left, right)
 }
 
 /// Tries a move of the node at a place, unless it is settled.
@@ -190,6 +237,7 @@ pub fn try_move(
     alloc: Global,
     sides: &Sides<'_>,
     state: &mut State,
+    ways: &mut NodeWays,
     place: usize,
     number: usize,
 ) -> Result<Step, Stop> {
@@ -197,18 +245,23 @@ pub fn try_move(
     let Some(node) = state.nodes.get(place) else {
         return Ok(Step::Keeps);
     };
-    let Some(tried) = node.moves.get(number) else {
+    let Some(open) = node.moves.get(number) else {
         return Ok(Step::Keeps);
     };
-    if is_settled(state.nodes.as_slice(), *tried) {
+    if is_settled(state, *open) {
         return Ok(Step::Keeps);
     }
-    let left_path = path_by(&sides.left, node.left, tried.left);
-    let right_path = path_by(&sides.right, node.right, tried.right);
-    let left = end_of(node.left, left_path);
-    let right = end_of(node.right, right_path);
-    match post_by(alloc, sides, &mut state.work, node, left_path, right_path) {
-        Ok(post) => try_post(alloc, sides, state, &post, (place, number), left, right),
+    let left = path_by(&sides.left, node.left, open.left);
+    let right = path_by(&sides.right, node.right, open.right);
+    let tried = Tried {
+        place,
+        number,
+        source: node.standing,
+        left: end_of(node.left, left),
+        right: end_of(node.right, right),
+    };
+    match post_by(alloc, sides, &mut state.work, ways, node, left, right) {
+        Ok(post) => try_post(alloc, sides, state, post.as_ref(), tried),
         Err(stop) => Err(stop),
     }
 }

@@ -1,14 +1,19 @@
 //! What has held at every arrival at a pair of points.
 
-use fs_pair::positions::Pairing;
+use fs_pair::positions::{Pairing, Position};
 use nf_rel::literals::NLit;
 use nf_terms::form::Nf;
 use nf_terms::stop::NoMemory;
+use nf_terms::symbols::Sort;
+use nf_terms::tree::Pos;
 use propagate::rebases::rebase;
+use search_strengthening_terms::collection::place_of;
+use search_strengthening_terms::live::all_live;
 use search_strengthening_terms::stop::unless_stopped;
 use search_strengthening_terms::universe::Universe;
 use std::alloc::Global;
 use sym_facts::fact::{FactPosition, copied_literals};
+use sym_facts::gathering::{symbols_of_nf, symbols_of_poly};
 use sym_paths::execution::Post;
 
 /// What has held at every arrival at a pair of points: terms have been equal, and literals have been true. The terms are those
@@ -37,35 +42,111 @@ pub fn class_at(claims: &Claims, place: usize) -> Option<usize> {
     }
 }
 
-// Copies of the equations of positions.
-fn copied_equations(alloc: Global, positions: &[FactPosition]) -> Result<Vec<Nf>, NoMemory> {
+// Whether symbols are all of positions that matter.
+fn are_live(positions: &[Position], live: &[bool], symbols: &[(Pos, Sort)]) -> bool {
+    for (pos, _sort) in symbols {
+        match place_of(positions, *pos) {
+            Some(place) if live.get(place) == Some(&true) => {}
+            _ => return false,
+        }
+    }
+    true
+}
+
+// Copies of the equations of a fact that mention nothing but what matters.
+fn live_equations(
+    alloc: Global,
+    positions: &[Position],
+    live: &[bool],
+    equations: &[FactPosition],
+) -> Result<Vec<Nf>, NoMemory> {
     let mut out = Vec::new(alloc);
-    for position in positions {
-        if let Some(form) = position.form() {
-            out.push(form.try_clone(alloc)?)?;
+    for equation in equations {
+        if let Some(form) = equation.form() {
+            let symbols = symbols_of_nf(alloc, form)?;
+            if are_live(positions, live, symbols.as_slice()) {
+                out.push(form.try_clone(alloc)?)?;
+            }
         }
     }
     Ok(out)
 }
 
-// Copies of literals, and then of others.
-fn copied_both(alloc: Global, literals: &[NLit], others: &[NLit]) -> Result<Vec<NLit>, NoMemory> {
-    let mut out = copied_literals(alloc, literals)?;
-    out.append(&mut copied_literals(alloc, others)?)?;
+// Whether a literal mentions nothing but what matters.
+fn is_live_literal(
+    alloc: Global,
+    positions: &[Position],
+    live: &[bool],
+    literal: &NLit,
+) -> Result<bool, NoMemory> {
+    match literal {
+        NLit::Is(bound) => {
+            let symbols = symbols_of_poly(alloc, &bound.dir)?;
+            Ok(are_live(positions, live, symbols.as_slice()))
+        }
+        NLit::True | NLit::False => Ok(false),
+    }
+}
+
+// Adds copies of the literals that mention nothing but what matters.
+fn add_live(
+    alloc: Global,
+    positions: &[Position],
+    live: &[bool],
+    literals: &[NLit],
+    out: &mut Vec<NLit>,
+) -> Result<(), NoMemory> {
+    for literal in literals {
+        if is_live_literal(alloc, positions, live, literal)? {
+            out.push(literal.try_clone(alloc)?)?;
+        }
+    }
+    Ok(())
+}
+
+// The literals of a universe that mention nothing but what matters.
+fn live_literals(alloc: Global, universe: &Universe, live: &[bool]) -> Result<Vec<NLit>, NoMemory> {
+    let mut out = Vec::new(alloc);
+    for condition in &universe.literals {
+        if all_live(live, condition.places.as_slice()) {
+            out.push(condition.literal.try_clone(alloc)?)?;
+        }
+    }
     Ok(out)
 }
 
-// The claims that all terms of the universe and the equations of positions are equal, and that all its literals and others are
-// true.
+// One class of the positions, of the terms of a universe that mention nothing but what matters, and of so many extras.
+fn one_class(
+    alloc: Global,
+    universe: &Universe,
+    live: &[bool],
+    extras: usize,
+) -> Result<Vec<Option<usize>>, NoMemory> {
+    let mut classes = Vec::new(alloc);
+    for (place, term) in universe.terms.iter().enumerate() {
+        let is_claimed = place < live.len() || all_live(live, term.places.as_slice());
+        classes.push(if is_claimed { Some(0) } else { None })?;
+    }
+    for _ in 0..extras {
+        classes.push(Some(0))?;
+    }
+    Ok(classes)
+}
+
+// The claims that equations and all terms of the universe that matter are equal, and that all its literals that matter and others
+// are true.
 fn claims_with(
     alloc: Global,
     universe: &Universe,
-    positions: &[FactPosition],
+    live: &[bool],
+    positions: &[Position],
+    equations: &[FactPosition],
     others: &[NLit],
 ) -> Result<Claims, NoMemory> {
-    let extras = copied_equations(alloc, positions)?;
-    let classes = vec![in alloc; Some(0); universe.terms.len() + extras.len()]?;
-    let literals = copied_both(alloc, universe.literals.as_slice(), others)?;
+    let extras = live_equations(alloc, positions, live, equations)?;
+    let classes = one_class(alloc, universe, live, extras.len())?;
+    let mut literals = live_literals(alloc, universe, live)?;
+    add_live(alloc, positions, live, others, &mut literals)?;
     Ok(Claims {
         extras,
         classes,
@@ -73,16 +154,45 @@ fn claims_with(
     })
 }
 
-/// What is claimed before the first arrival: that all terms are equal and all literals true. The extras are the equations of
-/// the fact that the post carries on, whose literals are claimed too. The one refusal is out of memory.
+// Copies of forms.
+fn copied_forms(alloc: Global, forms: &[Nf]) -> Result<Vec<Nf>, NoMemory> {
+    let mut out = Vec::new(alloc);
+    for form in forms {
+        out.push(form.try_clone(alloc)?)?;
+    }
+    Ok(out)
+}
+
+/// A copy of claims. The one refusal is out of memory.
+pub fn copied_claims(alloc: Global, claims: &Claims) -> Result<Claims, NoMemory> {
+    let extras = copied_forms(alloc, claims.extras.as_slice())?;
+    let literals = copied_literals(alloc, claims.literals.as_slice())?;
+    Ok(Claims {
+        extras,
+        classes: claims.classes.clone()?,
+        literals,
+    })
+}
+
+/// What is claimed before the first arrival, by which positions matter: that all positions and all terms and literals over these
+/// are equal and true. The extras are equations of the fact that the post carries on, and literals of that are claimed too, where
+/// they mention nothing else. The one refusal is out of memory.
 pub fn claims_before(
     alloc: Global,
     universe: &Universe,
+    live: &[bool],
     post: &Post,
     p: &Pairing,
 ) -> Result<Claims, NoMemory> {
     match unless_stopped(rebase(alloc, post, p))? {
-        Some(fact) => claims_with(alloc, universe, fact.positions(), fact.conds()),
-        None => claims_with(alloc, universe, &[], &[]),
+        Some(fact) => claims_with(
+            alloc,
+            universe,
+            live,
+            p.positions(),
+            fact.positions(),
+            fact.conds(),
+        ),
+        None => claims_with(alloc, universe, live, p.positions(), &[], &[]),
     }
 }

@@ -12,6 +12,7 @@
 
 pub mod claims;
 pub mod tested_facts;
+pub mod visited;
 pub mod weeding;
 
-pub use search_strengthening_terms::{order, stop, universe, work};
+pub use search_strengthening_terms::{live, order, stop, universe, work};

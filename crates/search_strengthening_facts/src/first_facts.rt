@@ -2,7 +2,8 @@
 
 use crate::facts::fact_of;
 use fs_pair::positions::Pairing;
-use search_strengthening_solutions::claims::{Claims, claims_before};
+use nf_terms::stop::NoMemory;
+use search_strengthening_solutions::claims::{Claims, claims_before, copied_claims};
 use search_strengthening_solutions::weeding::weed;
 use search_strengthening_terms::stop::Stop;
 use search_strengthening_terms::universe::Universe;
@@ -32,16 +33,34 @@ fn fact_after(
     fact_of(alloc, work, universe, p, claims)
 }
 
-/// What is claimed after the first arrival, and the fact that is made of it. `Bound` comes where too little work is left, or what
-/// is made is no fact.
+// Claims before the first arrival: what has held at visits before the search, where there were any.
+fn claims_for(
+    alloc: Global,
+    universe: &Universe,
+    live: &[bool],
+    p: &Pairing,
+    post: &Post,
+    visited: Option<&Claims>,
+) -> Result<Claims, NoMemory> {
+    match visited {
+        Some(claims) => copied_claims(alloc, claims),
+        None => claims_before(alloc, universe, live, post, p),
+    }
+}
+
+/// What is claimed after the first arrival, by which positions matter, and the fact that is made of it. Where there were visits
+/// before the search, no more is claimed than has held at these. `Bound` comes where what is made is no fact, `Exhausted` where
+/// too little work is left.
 pub fn first_fact(
     alloc: Global,
     work: &mut Work,
     universe: &Universe,
+    live: &[bool],
     p: &Pairing,
     post: &Post,
+    visited: Option<&Claims>,
 ) -> Result<FirstFact, Stop> {
-    let mut claims = claims_before(alloc, universe, post, p)?;
+    let mut claims = claims_for(alloc, universe, live, p, post, visited)?;
     let fact = fact_after(alloc, work, universe, p, &mut claims, post)?;
     Ok(FirstFact { claims, fact })
 }

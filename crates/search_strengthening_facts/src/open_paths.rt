@@ -1,4 +1,4 @@
-//! Whether a fact leaves more than one path of a point open.
+//! The paths of a point that a fact leaves open, and which of them meet.
 
 use fs_ast::machine::Machine;
 use fs_cut::cover::{Cover, Path, Point};
@@ -15,31 +15,38 @@ use sym_paths::execution::conditions;
 // The units of work of the conditions of a path.
 const PATH_UNITS: u64 = 8;
 
-// Whether literals, which are moved, are not refuted beside those of a fact.
-fn is_open_with(alloc: Global, fact: &Fact, more: &mut Vec<NLit>) -> Result<bool, Stop> {
-    let mut literals = copied_literals(alloc, fact.conds())?;
-    literals.append(more)?;
-    Ok(!is_refuted(alloc, literals.as_slice())?)
+/// The conditions of a path that a fact leaves open, behind those of the fact.
+#[derive(Drop)]
+pub struct OpenPath {
+    conds: Vec<NLit>,
+    own: usize,
 }
 
-// Whether a path is not refuted under a fact with this vector. `Bound` comes where its conditions meet a limit.
-fn is_open(
+// Whether literals are not refuted. `Bound` comes where too little work is left.
+fn is_open(alloc: Global, work: &mut Work, conds: &[NLit]) -> Result<bool, Stop> {
+    work.spend((conds.len() as u64).saturating_add(PATH_UNITS))?;
+    Ok(!is_refuted(alloc, conds)?)
+}
+
+// The conditions of a fact, and then those of a path under it. `Bound` comes where these meet a limit.
+fn conditions_behind(
     alloc: Global,
-    work: &mut Work,
     machine: &Machine,
     side: Side,
     fact: &Fact,
     v: &Vector,
     path: &Path,
-) -> Result<bool, Stop> {
-    work.spend((fact.conds().len() as u64).saturating_add(PATH_UNITS))?;
-    let mut more = within_limits(conditions(alloc, machine, path, side, v))?;
-    is_open_with(alloc, fact, &mut more)
+) -> Result<OpenPath, Stop> {
+    let mut own = within_limits(conditions(alloc, machine, path, side, v))?;
+    let count = own.len();
+    let mut conds = copied_literals(alloc, fact.conds())?;
+    conds.append(&mut own)?;
+    Ok(OpenPath { conds, own: count })
 }
 
-/// Whether more than one path of a point is not refuted under a fact with this vector. `Bound` comes where too little work is
-/// left, or conditions of a path meet a limit.
-pub fn has_many(
+/// The paths of a point that are not refuted under a fact with this vector. `Bound` comes where too little work is left, or
+/// conditions of a path meet a limit.
+pub fn open_paths(
     alloc: Global,
     work: &mut Work,
     machine: &Machine,
@@ -48,12 +55,67 @@ pub fn has_many(
     fact: &Fact,
     v: &Vector,
     point: Point,
-) -> Result<bool, Stop> {
-    let mut open = 0u32;
+) -> Result<Vec<OpenPath>, Stop> {
+    let mut out = Vec::new(alloc);
     for path in cover.from(point) {
-        if is_open(alloc, work, machine, side, fact, v, path)? {
-            open = open.saturating_add(1);
+        let found = conditions_behind(alloc, machine, side, fact, v, path)?;
+        if is_open(alloc, work, found.conds.as_slice())? {
+            out.push(found)?;
         }
     }
-    Ok(open > 1)
+    Ok(out)
+}
+
+// The literals that a path has beside those of its fact.
+fn own_conditions(path: &OpenPath) -> &[NLit] {
+    match path.conds.get(path.conds.len().saturating_sub(path.own)..) {
+        Some(own) => own,
+        None => &[],
+    }
+}
+
+// Whether two paths of different machines are not refuted together.
+fn is_meeting(
+    alloc: Global,
+    work: &mut Work,
+    path: &OpenPath,
+    other: &OpenPath,
+) -> Result<bool, Stop> {
+    let mut conds = copied_literals(alloc, path.conds.as_slice())?;
+    conds.append(&mut copied_literals(alloc, own_conditions(other))?)?;
+    is_open(alloc, work, conds.as_slice())
+}
+
+// Whether a path is not refuted together with several of these of the other machine.
+fn meets_several(
+    alloc: Global,
+    work: &mut Work,
+    path: &OpenPath,
+    others: &[OpenPath],
+) -> Result<bool, Stop> {
+    let mut met = false;
+    for other in others {
+        if is_meeting(alloc, work, path, other)? {
+            if met {
+                return Ok(true);
+            }
+            met = true;
+        }
+    }
+    Ok(false)
+}
+
+/// Whether some path is not refuted together with several of the other machine. `Bound` comes where too little work is left.
+pub fn some_meets_several(
+    alloc: Global,
+    work: &mut Work,
+    paths: &[OpenPath],
+    others: &[OpenPath],
+) -> Result<bool, Stop> {
+    for path in paths {
+        if meets_several(alloc, work, path, others)? {
+            return Ok(true);
+        }
+    }
+    Ok(false)
 }

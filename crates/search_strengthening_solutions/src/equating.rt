@@ -7,6 +7,7 @@ use nf_substitution::subst::Subst;
 use nf_substitution::vector::Vector;
 use nf_terms::form::Nf;
 use nf_terms::stop::NoMemory;
+use nf_terms::tree::Pos;
 use search_strengthening_claims::claims::{Claims, class_at, form_at};
 use search_strengthening_claims::weeding::value_of;
 use search_strengthening_terms::stop::Stop;
@@ -84,20 +85,66 @@ fn solve_at(
     }
 }
 
-// What the first free position is equal to for which an equation of two terms is solved.
+// Whether a value is a number.
+fn is_number(value: &Option<Nf>) -> bool {
+    matches!(value, Some(Nf::Num(_)))
+}
+
+// Whether what a position is equal to can be put in its place together with the others: no two of them are for one position,
+// and none mentions the position of another.
+fn is_beside(all: &[Solved], solved: &Solved) -> bool {
+    for other in all {
+        if other.pos == solved.pos
+            || other.form.mentions(solved.pos)
+            || solved.form.mentions(other.pos)
+        {
+            return false;
+        }
+    }
+    true
+}
+
+// Adds what a free position is equal to, unless it cannot be put in its place together with the others.
+fn push_beside(all: &mut Vec<Solved>, found: Option<Solved>) -> Result<(), NoMemory> {
+    match found {
+        Some(solved) if is_beside(all.as_slice(), &solved) => all.push(solved)?,
+        _ => {}
+    }
+    Ok(())
+}
+
+// What free positions are equal to for which equations of two numbers are solved, or of two arrays or lists.
 fn find_solved(
     alloc: Global,
     positions: &[Position],
     claims: &Claims,
     solution: &Solution,
     values: &[Option<Nf>],
-) -> Result<Option<Solved>, Stop> {
-    for place in 0..values.len() {
-        if let Some(solved) = solve_at(alloc, positions, claims, solution, values, place)? {
-            return Ok(Some(solved));
+    numbers: bool,
+) -> Result<Vec<Solved>, NoMemory> {
+    let mut all = Vec::new(alloc);
+    for (place, value) in values.iter().enumerate() {
+        if is_number(value) == numbers {
+            let found = solve_at(alloc, positions, claims, solution, values, place)?;
+            push_beside(&mut all, found)?;
         }
     }
-    Ok(None)
+    Ok(all)
+}
+
+// The same of all terms, of arrays and lists first: a number that is solved for may stand in the value of one of these.
+fn find_solved_in_order(
+    alloc: Global,
+    positions: &[Position],
+    claims: &Claims,
+    solution: &Solution,
+    values: &[Option<Nf>],
+) -> Result<Vec<Solved>, NoMemory> {
+    let all = find_solved(alloc, positions, claims, solution, values, false)?;
+    if !all.is_empty() {
+        return Ok(all);
+    }
+    find_solved(alloc, positions, claims, solution, values, true)
 }
 
 // The value of a form with a substitution. `Bound` comes where it meets a limit.
@@ -136,44 +183,57 @@ fn put_replaced(
     Ok(())
 }
 
-// The value of a position alone.
-fn lone_value(alloc: Global, solved: Solved) -> Result<Vector, NoMemory> {
-    let mut only = Vector::new(alloc);
-    only.put(solved.pos, solved.form)?;
-    Ok(only)
+// The values of positions.
+fn values_of(alloc: Global, all: Vec<Solved>) -> Result<Vector, NoMemory> {
+    let mut values = Vector::new(alloc);
+    for solved in all {
+        values.put(solved.pos, solved.form)?;
+    }
+    Ok(values)
 }
 
-// Puts the values of positions over the positions that stay free, where what one is equal to is put in its place.
+// Puts the values of positions over the positions that stay free, where what some are equal to is put in their places.
 fn put_solved(
     alloc: Global,
     work: &mut Work,
     positions: &[Position],
     solution: &Solution,
-    solved: Solved,
+    all: Vec<Solved>,
     values: &mut Vector,
 ) -> Result<(), Stop> {
-    let only = lone_value(alloc, solved)?;
+    let only = values_of(alloc, all)?;
     let mut s = Subst::new(alloc, &only);
     put_replaced(alloc, work, positions, solution, &mut s, values)
 }
 
-// Puts what a free position is equal to in its place.
+// Takes a position from the free ones.
+fn note_solved(solution: &mut Solution, pos: Pos) {
+    solution.free.retain(|other| *other != pos);
+}
+
+// Takes positions from the free ones.
+fn note_all_solved(solution: &mut Solution, all: &[Solved]) {
+    for solved in all {
+        note_solved(solution, solved.pos);
+    }
+}
+
+// Puts what free positions are equal to in their places.
 fn replace(
     alloc: Global,
     work: &mut Work,
     positions: &[Position],
     solution: &mut Solution,
-    solved: Solved,
+    all: Vec<Solved>,
 ) -> Result<(), Stop> {
-    let pos = solved.pos;
+    note_all_solved(solution, all.as_slice());
     let mut values = Vector::new(alloc);
-    put_solved(alloc, work, positions, solution, solved, &mut values)?;
+    put_solved(alloc, work, positions, solution, all, &mut values)?;
     solution.values = values;
-    solution.free.retain(|other| *other != pos);
     Ok(())
 }
 
-// What a free position is equal to where two terms of a class have different values.
+// What free positions are equal to where terms of one class have different values.
 fn next_solved(
     alloc: Global,
     work: &mut Work,
@@ -181,13 +241,13 @@ fn next_solved(
     positions: &[Position],
     claims: &Claims,
     solution: &Solution,
-) -> Result<Option<Solved>, Stop> {
+) -> Result<Vec<Solved>, Stop> {
     let values = term_values(alloc, work, universe, claims, solution)?;
-    find_solved(alloc, positions, claims, solution, values.as_slice())
+    Ok(find_solved_in_order(alloc, positions, claims, solution, values.as_slice())?)
 }
 
-/// While two terms of a class have different values, solves this for a free position, and puts what it is equal to in its
-/// place. `Bound` comes where too little work is left, or a value meets a limit.
+/// While two terms of a class have different values, solves such equations for free positions, and puts what these are equal
+/// to in their places. `Bound` comes where too little work is left, or a value meets a limit.
 pub fn equate(
     alloc: Global,
     work: &mut Work,
@@ -197,10 +257,11 @@ pub fn equate(
     solution: &mut Solution,
 ) -> Result<(), Stop> {
     for _ in positions {
-        match next_solved(alloc, work, universe, positions, claims, solution)? {
-            Some(solved) => replace(alloc, work, positions, solution, solved)?,
-            None => return Ok(()),
+        let all = next_solved(alloc, work, universe, positions, claims, solution)?;
+        if all.is_empty() {
+            return Ok(());
         }
+        replace(alloc, work, positions, solution, all)?;
     }
     Ok(())
 }

@@ -7,6 +7,7 @@
 //! - equate: to give the terms of each class one value
 #![tactic(auto)]
 
+mod constants;
 pub mod equating;
 pub mod settling;
 pub mod solution;

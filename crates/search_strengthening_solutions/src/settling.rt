@@ -1,17 +1,17 @@
 //! The positions of each class get one value.
 
+use crate::constants::{Constants, constants_of};
 use crate::solution::Solution;
-use fs_model::parts::Role;
+use fs_model::parts::{Role, Sort};
 use fs_pair::positions::Position;
 use nf_substitution::subst::Subst;
-use nf_symbols::gathering::symbols_of_nf;
 use nf_terms::form::Nf;
 use nf_terms::stop::NoMemory;
 use nf_terms::tree::Side;
 use search_strengthening_claims::claims::{Claims, class_at, form_at};
 use search_strengthening_claims::weeding::value_of;
 use search_strengthening_terms::stop::Stop;
-use search_strengthening_terms::universe::Universe;
+use search_strengthening_terms::universe::{Term, Universe};
 use search_strengthening_terms::work::Work;
 use std::alloc::Global;
 use sym_facts::fact::own_symbol;
@@ -44,25 +44,6 @@ fn all_known(solution: &Solution, places: &[usize]) -> bool {
     true
 }
 
-// The form of a term, where it makes the term's class known: all that a term of the universe mentions is known, and an extra
-// mentions nothing.
-fn telling_form<'t>(
-    alloc: Global,
-    universe: &'t Universe,
-    claims: &'t Claims,
-    solution: &Solution,
-    place: usize,
-) -> Result<Option<&'t Nf>, NoMemory> {
-    let Some(form) = form_at(universe, claims, place) else {
-        return Ok(None);
-    };
-    let tells = match universe.terms.get(place) {
-        Some(term) => all_known(solution, term.places.as_slice()),
-        None => symbols_of_nf(alloc, form)?.is_empty(),
-    };
-    Ok(if tells { Some(form) } else { None })
-}
-
 // The class of a term, where it has positions and none of them is known.
 fn unknown_class(
     positions: &[Position],
@@ -78,38 +59,28 @@ fn unknown_class(
     }
 }
 
-// The value that a term tells of its class, if it tells one.
+// The value of a form over known positions.
 fn told_value(
     alloc: Global,
     work: &mut Work,
-    universe: &Universe,
-    claims: &Claims,
     solution: &Solution,
-    place: usize,
+    form: &Nf,
 ) -> Result<Option<Nf>, Stop> {
-    match telling_form(alloc, universe, claims, solution, place)? {
-        Some(form) => {
-            let mut s = Subst::new(alloc, &solution.values);
-            value_of(alloc, work, &mut s, form)
-        }
-        None => Ok(None),
-    }
+    let mut s = Subst::new(alloc, &solution.values);
+    value_of(alloc, work, &mut s, form)
 }
 
-// Makes the class of a term known by the term, if it can. Answers whether it did.
-fn tell(
+// Gives the class of a term the value of its form, if it has one. Answers whether it has.
+fn give_told(
     alloc: Global,
     work: &mut Work,
-    universe: &Universe,
     positions: &[Position],
     claims: &Claims,
     solution: &mut Solution,
-    place: usize,
+    class: usize,
+    form: &Nf,
 ) -> Result<bool, Stop> {
-    let Some(class) = unknown_class(positions, claims, solution, place) else {
-        return Ok(false);
-    };
-    match told_value(alloc, work, universe, claims, solution, place)? {
+    match told_value(alloc, work, solution, form)? {
         Some(value) => {
             give_value(alloc, positions, claims, class, &value, solution)?;
             Ok(true)
@@ -118,7 +89,26 @@ fn tell(
     }
 }
 
-// Goes over all terms that are no positions once. Answers whether a class became known.
+// Makes the class of a term of the universe known by the term, where all that this mentions is known. Answers whether it did.
+fn tell(
+    alloc: Global,
+    work: &mut Work,
+    positions: &[Position],
+    claims: &Claims,
+    solution: &mut Solution,
+    place: usize,
+    term: &Term,
+) -> Result<bool, Stop> {
+    match unknown_class(positions, claims, solution, place) {
+        Some(class) if all_known(solution, term.places.as_slice()) => {
+            work.spend(1)?;
+            give_told(alloc, work, positions, claims, solution, class, &term.form)
+        }
+        _ => Ok(false),
+    }
+}
+
+// Goes over the terms of the universe that are no positions and no constants once. Answers whether a class became known.
 fn tell_once(
     alloc: Global,
     work: &mut Work,
@@ -128,16 +118,68 @@ fn tell_once(
     solution: &mut Solution,
 ) -> Result<bool, Stop> {
     let mut changed = false;
-    for place in positions.len()..claims.classes.len() {
-        work.spend(1)?;
-        if tell(alloc, work, universe, positions, claims, solution, place)? {
+    for (place, term) in universe.terms.iter().enumerate() {
+        if positions.len() <= place
+            && !term.places.is_empty()
+            && class_at(claims, place).is_some()
+            && tell(alloc, work, positions, claims, solution, place, term)?
+        {
             changed = true;
         }
     }
     Ok(changed)
 }
 
-// Makes classes known until no term tells one.
+// Makes the class of a constant known by it. Answers whether it did.
+fn tell_constant(
+    alloc: Global,
+    work: &mut Work,
+    universe: &Universe,
+    positions: &[Position],
+    claims: &Claims,
+    solution: &mut Solution,
+    place: usize,
+) -> Result<bool, Stop> {
+    let Some(form) = form_at(universe, claims, place) else {
+        return Ok(false);
+    };
+    match unknown_class(positions, claims, solution, place) {
+        Some(class) => give_told(alloc, work, positions, claims, solution, class, form),
+        None => Ok(false),
+    }
+}
+
+// Goes over constants once, of all classes or only of those that do not wait. Answers whether a class became known.
+fn tell_constants(
+    alloc: Global,
+    work: &mut Work,
+    universe: &Universe,
+    positions: &[Position],
+    claims: &Claims,
+    solution: &mut Solution,
+    constants: &Constants,
+    all: bool,
+) -> Result<bool, Stop> {
+    let mut changed = false;
+    for constant in &constants.all {
+        if (all || !constant.waits)
+            && tell_constant(
+                alloc,
+                work,
+                universe,
+                positions,
+                claims,
+                solution,
+                constant.place,
+            )?
+        {
+            changed = true;
+        }
+    }
+    Ok(changed)
+}
+
+// Makes classes known until no term tells one, and no constant of a class that does not wait.
 fn tell_all(
     alloc: Global,
     work: &mut Work,
@@ -145,9 +187,14 @@ fn tell_all(
     positions: &[Position],
     claims: &Claims,
     solution: &mut Solution,
+    constants: &Constants,
 ) -> Result<(), Stop> {
     for _ in positions {
-        if !tell_once(alloc, work, universe, positions, claims, solution)? {
+        if !tell_once(alloc, work, universe, positions, claims, solution)?
+            && !tell_constants(
+                alloc, work, universe, positions, claims, solution, constants, false,
+            )?
+        {
             return Ok(());
         }
     }
@@ -170,10 +217,11 @@ fn is_shared(positions: &[Position], claims: &Claims, place: usize, side: Side) 
 enum Choice {
     LeftInputs,
     Shared,
+    Number,
     Any,
 }
 
-// Whether a position is of a choice: a left input, or one with a position of the other side in its class.
+// Whether a position is of a choice: a left input, one with a position of the other side in its class, or a number.
 fn is_of(
     choice: Choice,
     positions: &[Position],
@@ -184,19 +232,24 @@ fn is_of(
     match choice {
         Choice::LeftInputs => p.role == Role::Input && p.pos.side == Side::Left,
         Choice::Shared => is_shared(positions, claims, place, p.pos.side),
+        Choice::Number => p.sort == Sort::Scalar,
         Choice::Any => true,
     }
 }
 
-// The first unknown position of a choice, with its place.
+// The first unknown position of a choice whose class has no constant, with its place.
 fn first_unknown<'p>(
     choice: Choice,
     positions: &'p [Position],
     claims: &Claims,
     solution: &Solution,
+    constants: &Constants,
 ) -> Option<(usize, &'p Position)> {
     for (place, position) in positions.iter().enumerate() {
-        if !solution.is_known(place) && is_of(choice, positions, claims, place, position) {
+        if !solution.is_known(place)
+            && !constants.waits_at(class_at(claims, place))
+            && is_of(choice, positions, claims, place, position)
+        {
             return Some((place, position));
         }
     }
@@ -208,14 +261,18 @@ fn next_free<'p>(
     positions: &'p [Position],
     claims: &Claims,
     solution: &Solution,
+    constants: &Constants,
 ) -> Option<(usize, &'p Position)> {
-    if let Some(found) = first_unknown(Choice::LeftInputs, positions, claims, solution) {
+    if let Some(found) = first_unknown(Choice::LeftInputs, positions, claims, solution, constants) {
         return Some(found);
     }
-    if let Some(found) = first_unknown(Choice::Shared, positions, claims, solution) {
+    if let Some(found) = first_unknown(Choice::Shared, positions, claims, solution, constants) {
         return Some(found);
     }
-    first_unknown(Choice::Any, positions, claims, solution)
+    if let Some(found) = first_unknown(Choice::Number, positions, claims, solution, constants) {
+        return Some(found);
+    }
+    first_unknown(Choice::Any, positions, claims, solution, constants)
 }
 
 // Frees the position at a place: the others of its class have its symbol as their value.
@@ -236,6 +293,27 @@ fn free_position(
     }
 }
 
+// Frees the next position, or else makes classes known by constants. Answers whether something became known.
+fn free_or_tell(
+    alloc: Global,
+    work: &mut Work,
+    universe: &Universe,
+    positions: &[Position],
+    claims: &Claims,
+    solution: &mut Solution,
+    constants: &Constants,
+) -> Result<bool, Stop> {
+    match next_free(positions, claims, solution, constants) {
+        Some((place, position)) => {
+            free_position(alloc, positions, claims, solution, place, position)?;
+            Ok(true)
+        }
+        None => tell_constants(
+            alloc, work, universe, positions, claims, solution, constants, true,
+        ),
+    }
+}
+
 // Makes all positions known.
 fn settle_all(
     alloc: Global,
@@ -244,22 +322,25 @@ fn settle_all(
     positions: &[Position],
     claims: &Claims,
     solution: &mut Solution,
+    constants: &Constants,
 ) -> Result<(), Stop> {
     for _ in positions {
-        tell_all(alloc, work, universe, positions, claims, solution)?;
-        match next_free(positions, claims, solution) {
-            Some((place, position)) => {
-                free_position(alloc, positions, claims, solution, place, position)?;
-            }
-            None => return Ok(()),
+        tell_all(
+            alloc, work, universe, positions, claims, solution, constants,
+        )?;
+        if !free_or_tell(
+            alloc, work, universe, positions, claims, solution, constants,
+        )? {
+            return Ok(());
         }
     }
     Ok(())
 }
 
-/// Values of all positions: those of a class have the value of a term whose positions are all known; where no term tells a
-/// value, the next position is free, left inputs first, then those with a position of the other side in their class, then the
-/// others. `Bound` comes where too little work is left.
+/// Values of all positions: those of a class have the value of a term whose positions are all known, or of a constant where
+/// the class has no other term that may tell one; where no term tells a value, the next position is free, left inputs first,
+/// then those with a position of the other side in their class, then numbers, then the others; at last constants tell all that
+/// is left. `Bound` comes where too little work is left.
 pub fn settle(
     alloc: Global,
     work: &mut Work,
@@ -267,7 +348,16 @@ pub fn settle(
     positions: &[Position],
     claims: &Claims,
 ) -> Result<Solution, Stop> {
+    let constants = constants_of(alloc, universe, positions.len(), claims)?;
     let mut solution = Solution::new(alloc, positions.len())?;
-    settle_all(alloc, work, universe, positions, claims, &mut solution)?;
+    settle_all(
+        alloc,
+        work,
+        universe,
+        positions,
+        claims,
+        &mut solution,
+        &constants,
+    )?;
     Ok(solution)
 }

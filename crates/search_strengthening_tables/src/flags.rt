@@ -1,22 +1,51 @@
 //! What is kept of pairs of points as long as a search goes on.
 
+use crate::nodes::Standing;
 use cert_bisimulation::mode::Mode;
 use fs_cut::cover::Point;
 use nf_terms::stop::NoMemory;
 
-/// What is kept of a pair of points: whether a side has had more than one open path there, and the mode since the table was
-/// last cleared.
+/// Which machine asks less at a pair of points where both have several open paths.
+#[derive(Clone, Copy, PartialEq, Eq)]
+pub enum AsksLess {
+    /// Nothing has shown it.
+    Unknown,
+    /// The left one: a left path meets several right ones, and no right path several left ones.
+    Left,
+    /// The right one.
+    Right,
+    /// Different things have been shown, or a path of each machine has met several of the other.
+    Mixed,
+}
+
+impl AsksLess {
+    /// What is known after more was shown.
+    pub fn and(self, more: AsksLess) -> AsksLess {
+        if self == AsksLess::Unknown || self == more {
+            more
+        } else if more == AsksLess::Unknown {
+            self
+        } else {
+            AsksLess::Mixed
+        }
+    }
+}
+
+/// What is kept of a pair of points: whether a side has had more than one open path there, which machine asks less, and the
+/// mode since the table was last cleared.
 #[derive(Clone, Copy)]
 pub struct Flags {
     pub left: Point,
     pub right: Point,
+    pub standing: Standing,
     pub many_left: bool,
     pub many_right: bool,
+    pub asks_less: AsksLess,
     pub mode: Option<Mode>,
 }
 
 /// What is kept of two points.
-pub fn flags_at(all: &[Flags], left: Point, right: Point) -> Flags {
+pub fn flags_at(all: &[Flags], left: Point, right: Point, standing: Standing) -> Flags {
     for flags in all {
         if flags.left.is_same(left) && flags.right.is_same(right) {
             return *flags;
@@ -25,8 +54,10 @@ pub fn flags_at(all: &[Flags], left: Point, right: Point) -> Flags {
     Flags {
         left,
         right,
+        standing,
         many_left: false,
         many_right: false,
+        asks_less: AsksLess::Unknown,
         mode: None,
     }
 }
@@ -42,9 +73,11 @@ pub fn keep(all: &mut Vec<Flags>, flags: Flags) -> Result<(), NoMemory> {
     Ok(all.push(flags)?)
 }
 
-/// Forgets all modes.
-pub fn forget_modes(all: &mut [Flags]) {
+/// Forgets the modes of points in some components and in later ones.
+pub fn forget_modes(all: &mut [Flags], standing: Standing) {
     for flags in all.iter_mut() {
-        flags.mode = None;
+        if !flags.standing.is_in_earlier_components(standing) {
+            flags.mode = None;
+        }
     }
 }

@@ -6,8 +6,10 @@
 #![tactic(auto)]
 
 pub mod assembling;
+pub mod exchange;
 pub mod flags;
 pub mod nodes;
 pub mod ranks;
+pub mod rules;
 pub mod sides;
 pub mod state;

@@ -15,7 +15,7 @@ pub enum Settled {
     /// What arrives is refuted.
     Refuted,
     /// What arrives entailed the fact that has this version.
-    Held { version: u64 },
+    Held { version: usize },
 }
 
 /// A move of a node: the numbers of the paths that it takes, and what is known of it.
@@ -26,17 +26,50 @@ pub struct NodeMove {
     pub settled: Settled,
 }
 
-/// A node with its claims: two points with their numbers in the order of points, what is claimed there and the fact that is made
-/// of it. No two facts of a search have one version. The mode is not known before the moves are.
+/// Where two points stand in the order of nodes: by their outermost components, left and right, and then by their own numbers.
+/// So a strongly connected component of pairs of points, or several, stands behind all from which it is reached.
+#[derive(Clone, Copy)]
+pub struct Standing {
+    pub components: (usize, usize),
+    pub numbers: (usize, usize),
+}
+
+// Whether a pair comes after another one, by the left number and then by the right one.
+fn is_later(pair: (usize, usize), other: (usize, usize)) -> bool {
+    pair.0 > other.0 || (pair.0 == other.0 && pair.1 > other.1)
+}
+
+impl Standing {
+    /// Whether both points stand in the same outermost components as others.
+    pub fn shares_components(self, other: Standing) -> bool {
+        self.components.0 == other.components.0 && self.components.1 == other.components.1
+    }
+
+    /// Whether the components come before those of others.
+    pub fn is_in_earlier_components(self, other: Standing) -> bool {
+        is_later(other.components, self.components)
+    }
+
+    // Whether the points come after others.
+    fn comes_after(self, other: Standing) -> bool {
+        is_later(self.components, other.components)
+            || (self.shares_components(other) && is_later(self.numbers, other.numbers))
+    }
+}
+
+/// A node with its claims: two points and where they stand in the order, where the node stands from which it was last reached,
+/// what is claimed there and the fact that is made of it. No two facts of a search have one version. The mode is not known
+/// before the moves are.
 #[derive(Drop)]
 pub struct ClaimedNode {
     pub left: Point,
     pub right: Point,
-    pub numbers: (usize, usize),
+    pub standing: Standing,
+    pub source: Standing,
     pub claims: Claims,
     pub fact: Fact,
     pub units: u64,
-    pub version: u64,
+    pub version: usize,
     pub mode: Option<Mode>,
     pub moves: Vec<NodeMove>,
 }
@@ -52,7 +85,7 @@ pub fn find(nodes: &[ClaimedNode], left: Point, right: Point) -> Option<usize> {
 }
 
 /// The place of the node whose fact has a version.
-pub fn find_version(nodes: &[ClaimedNode], version: u64) -> Option<usize> {
+pub fn find_version(nodes: &[ClaimedNode], version: usize) -> Option<usize> {
     for (place, node) in nodes.iter().enumerate() {
         if node.version == version {
             return Some(place);
@@ -61,17 +94,22 @@ pub fn find_version(nodes: &[ClaimedNode], version: u64) -> Option<usize> {
     None
 }
 
-// Whether numbers come after others, by the left one and then by the right one.
-fn comes_after(numbers: (usize, usize), others: (usize, usize)) -> bool {
-    numbers.0 > others.0 || (numbers.0 == others.0 && numbers.1 > others.1)
-}
-
-/// The place at which a node with these numbers keeps the order.
-pub fn place_for(nodes: &[ClaimedNode], numbers: (usize, usize)) -> usize
+/// The place at which a node that stands there keeps the order.
+pub fn place_for(nodes: &[ClaimedNode], standing: Standing) -> usize
     ensures { result ≤ length nodes.now }
 {
     for (place, node) in nodes.iter().enumerate() {
-        if comes_after(node.numbers, numbers) {
+        if node.standing.comes_after(standing) {
+            return place;
+        }
+    }
+    nodes.len()
+}
+
+/// The place of the first node that stands in these components or in later ones; behind all where there is none.
+pub fn first_in_components(nodes: &[ClaimedNode], standing: Standing) -> usize {
+    for (place, node) in nodes.iter().enumerate() {
+        if !node.standing.is_in_earlier_components(standing) {
             return place;
         }
     }

@@ -87,16 +87,15 @@ fn is_in_range(edges: &[Vec<u32>]) -> bool
     edges.len() <= 4096 && are_edges(edges, edges.len())
 }
 
-/// The lengths of the longest chains of moves of one machine alone; none where there is a cycle of them. The one refusal is out
-/// of memory.
-pub fn ranks_of(alloc: Global, nodes: &[ClaimedNode]) -> Result<Option<Vec<u32>>, NoMemory> {
+/// The lengths of the longest chains of moves of one machine alone, or a cycle of them; none where there are more than 4,096
+/// nodes. The one refusal is out of memory.
+pub fn ranks_of(alloc: Global, nodes: &[ClaimedNode]) -> Result<Option<Ranking>, NoMemory> {
     let edges = lone_moves(alloc, nodes)?;
     if !is_in_range(edges.as_slice()) {
         return Ok(None);
     }
     match rank_all(alloc, edges.as_slice()) {
-        Ok(Ranking::Ranks(ranks)) => Ok(Some(ranks)),
-        Ok(Ranking::Cycle(_)) => Ok(None),
+        Ok(ranking) => Ok(Some(ranking)),
         Err(_) => Err(NoMemory),
     }
 }

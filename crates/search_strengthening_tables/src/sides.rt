@@ -1,20 +1,26 @@
 //! Two machines as a search sees them.
 
+use crate::nodes::Standing;
 use cert_model::covers::cover_of;
 use fs_ast::machine::Machine;
-use fs_cut::cover::Cover;
+use fs_cut::cover::{Cover, Point};
 use fs_pair::positions::Pairing;
+use nf_terms::stop::NoMemory;
+use search_strengthening_claims::live::{Liveness, live_positions};
 use search_strengthening_claims::order::PointOrder;
-use search_strengthening_claims::stop::Stop;
 use search_strengthening_claims::universe::{Universe, universe_of};
 use std::alloc::Global;
 
-/// A machine with its cover, and its points in order.
+// The most terms that are all compared at each pair of points.
+const FEW_TERMS: usize = 256;
+
+/// A machine with its cover, its points in order, and what matters at them.
 #[derive(Drop)]
 pub struct Covered<'a> {
     pub machine: &'a Machine,
     pub cover: Cover,
     pub order: PointOrder,
+    pub live: Liveness,
 }
 
 /// Two machines, and the terms and literals that may hold between them.
@@ -26,23 +32,52 @@ pub struct Sides<'a> {
     pub universe: Universe,
 }
 
-fn with_cover<'a>(alloc: Global, machine: &'a Machine) -> Result<Covered<'a>, Stop> {
+impl<'a> Sides<'a> {
+    /// For each position whether terms over it are compared at two points: where there are many terms, those over scalars that do
+    /// not matter there are left out. The one refusal is out of memory.
+    pub fn live_positions(
+        &self,
+        alloc: Global,
+        left: Point,
+        right: Point,
+    ) -> Result<Vec<bool>, NoMemory> {
+        let positions = self.pairing.positions();
+        if self.universe.terms.len() <= FEW_TERMS {
+            return Ok(vec![in alloc; true; positions.len()]?);
+        }
+        let (lefts, rights) = (self.left.live.at(left), self.right.live.at(right));
+        live_positions(alloc, positions, lefts, rights)
+    }
+
+    /// Where two points stand in the order of nodes.
+    pub fn standing(&self, left: Point, right: Point) -> Standing {
+        let (a, b) = (&self.left.order, &self.right.order);
+        Standing {
+            components: (a.component(left), b.component(right)),
+            numbers: (a.number(left), b.number(right)),
+        }
+    }
+}
+
+fn with_cover<'a>(alloc: Global, machine: &'a Machine) -> Result<Covered<'a>, NoMemory> {
     let cover = cover_of(alloc, machine)?;
     let order = PointOrder::of(alloc, &cover)?;
+    let live = Liveness::of(alloc, machine)?;
     Ok(Covered {
         machine,
         cover,
         order,
+        live,
     })
 }
 
-/// Two machines as a search sees them. `Bound` comes where one has more than 128 points.
+/// Two machines as a search sees them. The one refusal is out of memory.
 pub fn sides_of<'a>(
     alloc: Global,
     a: &'a Machine,
     b: &'a Machine,
     pairing: &'a Pairing,
-) -> Result<Sides<'a>, Stop> {
+) -> Result<Sides<'a>, NoMemory> {
     let left = with_cover(alloc, a)?;
     let right = with_cover(alloc, b)?;
     let universe = universe_of(alloc, a, b, pairing)?;

@@ -1,22 +1,25 @@
 //! Terms and literals, collected without repeats.
 
-use crate::universe::{Term, Universe};
+use crate::universe::{Condition, Term, Universe};
+use fs_model::parts::Role;
 use fs_pair::positions::Position;
 use nf_rel::copies::is_same;
 use nf_rel::literals::NLit;
 use nf_terms::form::Nf;
+use nf_terms::poly::Poly;
 use nf_terms::stop::NoMemory;
 use nf_terms::symbols::Sort;
 use nf_terms::tree::Pos;
 use nf_vectors::vector::Vector;
 use std::alloc::Global;
-use sym_facts::gathering::symbols_of_nf;
+use std::mem;
+use sym_facts::gathering::{symbols_of_nf, symbols_of_poly};
 
 /// The most terms of a universe.
-pub const TERM_LIMIT: usize = 512;
+pub const TERM_LIMIT: usize = 4_096;
 
 /// The most literals of a universe.
-pub const LITERAL_LIMIT: usize = 512;
+pub const LITERAL_LIMIT: usize = 4_096;
 
 /// The most terms and literals that are looked at.
 pub const CANDIDATE_LIMIT: u32 = 16_384;
@@ -27,7 +30,8 @@ pub struct Collection<'p> {
     positions: &'p [Position],
     own: Vector,
     terms: Vec<Term>,
-    literals: Vec<NLit>,
+    literals: Vec<Condition>,
+    reads: Vec<(Pos, Poly)>,
     candidates: u32,
 }
 
@@ -69,6 +73,19 @@ pub fn places_in(
     places_of_symbols(alloc, positions, symbols.as_slice())
 }
 
+// The places of the positions that a literal mentions; none where it is true or false, or mentions another.
+fn places_of_literal(
+    alloc: Global,
+    positions: &[Position],
+    literal: &NLit,
+) -> Result<Option<Vec<usize>>, NoMemory> {
+    let NLit::Is(bound) = literal else {
+        return Ok(None);
+    };
+    let symbols = symbols_of_poly(alloc, &bound.dir)?;
+    places_of_symbols(alloc, positions, symbols.as_slice())
+}
+
 // Whether a form is one of the terms.
 fn has_form(terms: &[Term], form: &Nf) -> bool {
     for term in terms {
@@ -80,9 +97,9 @@ fn has_form(terms: &[Term], form: &Nf) -> bool {
 }
 
 // Whether a literal is one of these.
-fn has_literal(literals: &[NLit], literal: &NLit) -> bool {
+fn has_literal(literals: &[Condition], literal: &NLit) -> bool {
     for other in literals {
-        if is_same(other, literal) {
+        if is_same(&other.literal, literal) {
             return true;
         }
     }
@@ -97,6 +114,7 @@ impl<'p> Collection<'p> {
             own: Vector::new(alloc),
             terms: Vec::new(alloc),
             literals: Vec::new(alloc),
+            reads: Vec::new(alloc),
             candidates: 0,
         }
     }
@@ -109,6 +127,17 @@ impl<'p> Collection<'p> {
     /// The vector in which each position has its own symbol.
     pub fn own_symbols(&self) -> &Vector {
         &self.own
+    }
+
+    /// Whether a position is an input.
+    pub fn is_input(&self, pos: Pos) -> bool {
+        match place_of(self.positions, pos) {
+            Some(place) => match self.positions.get(place) {
+                Some(position) => position.role == Role::Input,
+                None => false,
+            },
+            None => false,
+        }
     }
 
     /// The position of the other machine's variable of the name and the sort of a position.
@@ -149,14 +178,29 @@ impl<'p> Collection<'p> {
     }
 
     /// Adds a literal, unless it is there, it is true or false, or it is past a bound. The one refusal is out of memory.
-    pub fn add_literal(&mut self, literal: NLit) -> Result<(), NoMemory> {
-        if self.literals.len() >= LITERAL_LIMIT || self.is_full() {
+    pub fn add_literal(&mut self, alloc: Global, literal: NLit) -> Result<(), NoMemory> {
+        if self.literals.len() >= LITERAL_LIMIT
+            || self.is_full()
+            || has_literal(self.literals.as_slice(), &literal)
+        {
             return Ok(());
         }
-        if matches!(literal, NLit::Is(_)) && !has_literal(self.literals.as_slice(), &literal) {
-            self.literals.push(literal)?;
+        match places_of_literal(alloc, self.positions, &literal)? {
+            Some(places) => self.literals.push(Condition { literal, places })?,
+            None => {}
         }
         Ok(())
+    }
+
+    /// Notes that an array is read at an index. The one refusal is out of memory.
+    pub fn note_read(&mut self, array: Pos, index: Poly) -> Result<(), NoMemory> {
+        self.reads.push((array, index))?;
+        Ok(())
+    }
+
+    /// The reads that were noted, which are noted no longer.
+    pub fn take_reads(&mut self, alloc: Global) -> Vec<(Pos, Poly)> {
+        mem::replace(&mut self.reads, Vec::new(alloc))
     }
 
     /// What was collected.

@@ -8,9 +8,12 @@
 //! - universe: the terms and literals that may hold between two machines
 #![tactic(auto)]
 
+mod cells;
 pub mod collection;
+mod components;
+pub mod live;
+mod moved_reads;
 pub mod order;
-pub mod point_sets;
 pub mod stop;
 mod subterms;
 pub mod universe;

@@ -6,8 +6,10 @@ use std::alloc::{AllocError, AllocFailed};
 /// Why a search is broken off.
 #[derive(Clone, Copy)]
 pub enum Stop {
-    /// A bound of its work is reached.
+    /// It can't go on in this way: a bound is reached that is no bound of its work, or what is needed can't be made.
     Bound,
+    /// Its work is used up.
+    Exhausted,
     /// Memory was refused.
     NoMemory,
 }

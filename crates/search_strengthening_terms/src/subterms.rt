@@ -11,7 +11,7 @@ use nf_sums::sums::number;
 use nf_terms::form::Nf;
 use nf_terms::poly::Poly;
 use nf_terms::stop::{NfStop, NoMemory};
-use nf_terms::tree::Side;
+use nf_terms::tree::{Pos, Side};
 use nf_vectors::vector::Vector;
 use std::alloc::Global;
 use std::rc::Rc;
@@ -30,6 +30,19 @@ fn add_term(
     }
 }
 
+// Notes that an array is read at an index.
+fn note_read(
+    alloc: Global,
+    all: &mut Collection<'_>,
+    array: Pos,
+    i: &Expr<VarId>,
+) -> Result<(), NoMemory> {
+    match evaluate(alloc, array.side, all.own_symbols(), i) {
+        Ok(index) => all.note_read(array, index),
+        Err(stop) => leave_out(stop),
+    }
+}
+
 /// Adds the terms of an expression that have an operator, each behind its own. The one refusal is out of memory.
 pub(crate) fn add_expr(
     alloc: Global,
@@ -39,22 +52,17 @@ pub(crate) fn add_expr(
 ) -> Result<(), NoMemory> {
     match e {
         Expr::Num(_) | Expr::Var(_) => return Ok(()),
-        Expr::Read(_, i) | Expr::Neg(i) => add_expr(alloc, all, side, i)?,
+        Expr::Neg(i) => add_expr(alloc, all, side, i)?,
+        Expr::Read(x, i) => {
+            add_expr(alloc, all, side, i)?;
+            note_read(alloc, all, Pos { side, var: x.0 }, i)?;
+        }
         Expr::Add(l, r) | Expr::Sub(l, r) | Expr::Mul(l, r) | Expr::Div(l, r) | Expr::Rem(l, r) => {
             add_expr(alloc, all, side, l)?;
             add_expr(alloc, all, side, r)?;
         }
     }
     add_term(alloc, all, side, e)
-}
-
-// The relation of a kind of bound that is moved.
-fn moved_relation(kind: Kind) -> Option<Rel> {
-    match kind {
-        Kind::Ge => Some(Rel::Ge),
-        Kind::Le => Some(Rel::Le),
-        Kind::Eq | Kind::Ne => None,
-    }
 }
 
 // Adds the literal of a direction against another bound, unless that meets a limit.
@@ -73,18 +81,37 @@ fn add_bounded(
         Err(stop) => return leave_out(stop),
     };
     match literal(alloc, relation, dir, &bound) {
-        Ok(moved) => all.add_literal(moved),
+        Ok(moved) => all.add_literal(alloc, moved),
         Err(stop) => leave_out(stop),
     }
 }
 
-// Adds the literals whose bounds are 1 more and 1 less.
-fn add_moved(alloc: Global, all: &mut Collection<'_>, b: &Bound) -> Result<(), NoMemory> {
-    let Some(relation) = moved_relation(b.kind) else {
-        return Ok(());
-    };
+// Adds the literals of a relation whose bounds are 1 more and 1 less.
+fn add_beside(
+    alloc: Global,
+    all: &mut Collection<'_>,
+    relation: Rel,
+    b: &Bound,
+) -> Result<(), NoMemory> {
     add_bounded(alloc, all, relation, &b.dir, b.bound.checked_add(1))?;
     add_bounded(alloc, all, relation, &b.dir, b.bound.checked_sub(1))
+}
+
+// Adds the literals of both relations with a bound, and the ones that say that it is not met.
+fn add_both_ways(alloc: Global, all: &mut Collection<'_>, b: &Bound) -> Result<(), NoMemory> {
+    add_bounded(alloc, all, Rel::Ge, &b.dir, Some(b.bound))?;
+    add_bounded(alloc, all, Rel::Ge, &b.dir, b.bound.checked_add(1))?;
+    add_bounded(alloc, all, Rel::Le, &b.dir, Some(b.bound))?;
+    add_bounded(alloc, all, Rel::Le, &b.dir, b.bound.checked_sub(1))
+}
+
+// Adds the bounds near a literal: those 1 more and 1 less; and both ways where it says that numbers are equal, or are not.
+fn add_moved(alloc: Global, all: &mut Collection<'_>, b: &Bound) -> Result<(), NoMemory> {
+    match b.kind {
+        Kind::Ge => add_beside(alloc, all, Rel::Ge, b),
+        Kind::Le => add_beside(alloc, all, Rel::Le, b),
+        Kind::Eq | Kind::Ne => add_both_ways(alloc, all, b),
+    }
 }
 
 // Adds a literal and those with a bound beside its own.
@@ -92,7 +119,7 @@ fn add_near(alloc: Global, all: &mut Collection<'_>, l: NLit) -> Result<(), NoMe
     if let NLit::Is(b) = &l {
         add_moved(alloc, all, b)?;
     }
-    all.add_literal(l)
+    all.add_literal(alloc, l)
 }
 
 // Adds a literal and its negation.

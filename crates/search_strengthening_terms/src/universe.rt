@@ -1,6 +1,8 @@
 //! The terms and the literals of two machines.
 
+use crate::cells::add_cells;
 use crate::collection::Collection;
+use crate::moved_reads::add_moved_reads;
 use crate::stop::leave_out;
 use crate::subterms::{add_expr, add_literals, evaluate_both};
 use fs_ast::machine::Machine;
@@ -25,12 +27,19 @@ pub struct Term {
     pub places: Vec<usize>,
 }
 
+/// A literal over the symbols of positions, and the places of the positions that it mentions.
+#[derive(Drop)]
+pub struct Condition {
+    pub literal: NLit,
+    pub places: Vec<usize>,
+}
+
 /// Terms and literals that may hold between two machines, none of them twice. The first terms are the symbols of the positions,
 /// in order.
 #[derive(Drop)]
 pub struct Universe {
     pub terms: Vec<Term>,
-    pub literals: Vec<NLit>,
+    pub literals: Vec<Condition>,
 }
 
 // Adds the symbols of all positions.
@@ -65,8 +74,8 @@ fn add_write(
     }
 }
 
-// Adds the arrays of a name, of either side, after a write.
-fn add_writes(
+/// Adds the arrays of a name, of either side, after a write. The one refusal is out of memory.
+pub(crate) fn add_writes(
     alloc: Global,
     all: &mut Collection<'_>,
     array: Pos,
@@ -161,14 +170,18 @@ fn add_all(
     add_positions(alloc, all)?;
     add_zeros(alloc, all)?;
     add_machine(alloc, all, Side::Left, a)?;
-    add_machine(alloc, all, Side::Right, b)
+    add_machine(alloc, all, Side::Right, b)?;
+    add_cells(alloc, all, Side::Left, a)?;
+    add_cells(alloc, all, Side::Right, b)?;
+    add_moved_reads(alloc, all)
 }
 
 /// The universe of two machines: the symbols of their positions; 0, the array that is 0 everywhere and the empty list; each
 /// term of a right side, an index or a guard that has an operator, in its machine's symbols; for each write the arrays of its
-/// name, of either machine, after it; each literal of a guard and its negation, and of `>=` and `<=` also the ones whose bound
-/// is 1 more or less. The left machine's come first. Terms past a limit are left out, and so are those behind the first 512
-/// terms and the first 512 literals, and behind the first 16,384 that are looked at. The one refusal is out of memory.
+/// name, of either machine, after it; the arrays into which a scalar is written back that keeps an entry; reads beside those of
+/// the texts; each literal of a guard and its negation, and of `>=` and `<=` also the ones whose bound is 1 more or less, of `==`
+/// and `!=` both bounds. The left machine's come first. Terms past a limit are left out, and so are those behind the first 4,096
+/// terms and the first 4,096 literals, and behind the first 16,384 that are looked at. The one refusal is out of memory.
 pub fn universe_of(
     alloc: Global,
     a: &Machine,
