@@ -216,6 +216,12 @@ fn is_other(old: Option<Mode>, mode: Mode) -> bool {
     }
 }
 
+// The rule by which machines move at the node at a place.
+fn rule_of(state: &State, place: usize) -> Option<Rule> {
+    let node = state.nodes.get(place)?;
+    Some(rule_at(state, node.standing))
+}
+
 /// Sees that the node at a place has its mode and its moves. Where the mode is another one than its points had since their
 /// components were last cleared, clears these. Answers whether it did.
 pub fn see_mode(
@@ -224,11 +230,14 @@ pub fn see_mode(
     state: &mut State,
     place: usize,
 ) -> Result<bool, Stop> {
+    let Some(rule) = rule_of(state, place) else {
+        return Ok(false);
+    };
     let Some(node) = state.nodes.get(place) else {
         return Ok(false);
     };
     let mut flags = flags_of(alloc, sides, &mut state.work, state.flags.as_slice(), node)?;
-    let mode = mode_of(sides, rule_at(state, node.standing), node, flags);
+    let mode = mode_of(sides, rule, node, flags);
     let clears = is_other(flags.mode, mode);
     flags.mode = Some(mode);
     keep(&mut state.flags, flags)?;

@@ -232,6 +232,16 @@ fn try_post(
     }
 }
 
+// A move of the node at a place, unless it is settled.
+fn unsettled_move(state: &State, place: usize, number: usize) -> Option<NodeMove> {
+    let open = *state.nodes.get(place)?.moves.get(number)?;
+    if is_settled(state, open) {
+        None
+    } else {
+        Some(open)
+    }
+}
+
 /// Tries a move of the node at a place, unless it is settled.
 pub fn try_move(
     alloc: Global,
@@ -242,15 +252,12 @@ pub fn try_move(
     number: usize,
 ) -> Result<Step, Stop> {
     state.work.spend(1)?;
+    let Some(open) = unsettled_move(state, place, number) else {
+        return Ok(Step::Keeps);
+    };
     let Some(node) = state.nodes.get(place) else {
         return Ok(Step::Keeps);
     };
-    let Some(open) = node.moves.get(number) else {
-        return Ok(Step::Keeps);
-    };
-    if is_settled(state, *open) {
-        return Ok(Step::Keeps);
-    }
     let left = path_by(&sides.left, node.left, open.left);
     let right = path_by(&sides.right, node.right, open.right);
     let tried = Tried {
