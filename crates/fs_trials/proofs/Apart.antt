@@ -1,6 +1,6 @@
 -- Runs that end and runs that don't.
 use Rattle.std.proofs.Common.{◌≡◌, ℕ, ℤ, ◌+◌, ◌<◌, ◌≤◌, List, sym, ◌∙◌, ap, subst, inl, inr, arith}
-use Rattle.std.specs.Prelude.{Option, None, Some, MatchOption}
+use Rattle.std.specs.Prelude.{Option, None, Some, MatchOption, Result, Ok, Err, IfOk}
 use Rattle.std.proofs.lemmas.Bool.{cases_lt}
 use Rattle.fs_model.specs.Machines.{Fsmd}
 use Rattle.fs_model.specs.Runs.{Inputs}
@@ -74,3 +74,9 @@ one_more P j before here i h =
 
 pub all_below : (P : ℕ → Type 0) (j count total : ℕ) → ((i : ℕ) → i < j → P i) → count ≤ j → count ≡ total → (i : ℕ) → i < total → P i
 all_below P j count total before done same i h = before i (omega arith)
+
+-- what is none of the first so many, where these are all, is none of all
+pub none_of_all : {F E : Type 0} (P : ℕ → Type 0) (most total : ℕ) (r : Result (Option F) E) → most ≡ total
+    → IfOk r (λ o. o ≡ None → (i : ℕ) → i < most → i < total → P i) → IfOk r (λ o. o ≡ None → (i : ℕ) → i < total → P i)
+none_of_all P most total (Ok o) same h = λ is i below. h is i (subst (λ n. i < n) (sym same) below) below
+none_of_all P most total (Err e) same h = tt

@@ -25,6 +25,48 @@ pub struct Found {
     pub right: Ended,
 }
 
+/// The first of so many stated candidates that shows a difference of two machines with the same inputs and outputs: both runs end
+/// within so many steps and touch no number outside 128 bits, and an output differs. `None` exactly where none of these does. The
+/// only refusal is out of memory.
+pub fn first_difference_among(
+    alloc: Global,
+    a: &Machine,
+    b: &Machine,
+    _p: &Pairing,
+    steps: u64,
+    most: u64,
+) -> Result<Option<Found>, NoMemory>
+    requires steps { 1 ≤ steps }
+    requires interfaces { interface_fault a.now b.now ≡ None }
+    ensures number { IfOk result (λ o. IfSome o (λ f. f.j < stated_count a.now b.now)) }
+    ensures inputs { IfOk result (λ o. IfSome o (λ f. inputs_of f.inputs ≡ stated_inputs a.now b.now f.j)) }
+    ensures signatures { IfOk result (λ o. IfSome o (λ f. signatures_of f.inputs ≡ input_signatures a.now.variables)) }
+    ensures contents { IfOk result
+        (λ o. IfSome o (λ f. map content_of (input_values f.inputs) ≡ stated_contents a.now b.now f.j)) }
+    ensures ends { IfOk result (λ o. IfSome o (λ f. AreApart a.now b.now (inputs_of f.inputs) steps f.left f.right)) }
+    ensures shows { IfOk result (λ o. IfSome o (λ f. DiffersAt a.now b.now steps f.j)) }
+    ensures first { IfOk result (λ o. IfSome o (λ f. (i : ℕ) → i < f.j → ¬ DiffersAt a.now b.now steps i)) }
+    ensures none { IfOk result
+        (λ o. o ≡ None → (i : ℕ) → i < most → i < stated_count a.now b.now → ¬ DiffersAt a.now b.now steps i) }
+{
+    let candidates = Candidates::of(alloc, a, b)?;
+    for j in 0..candidates.count() {
+        if most <= j {
+            return Ok(None);
+        }
+        let inputs = candidates.inputs(alloc, j, a)?;
+        if let Some((left, right)) = differing_ends(alloc, a, b, &inputs, steps)? {
+            return Ok(Some(Found {
+                j,
+                inputs,
+                left,
+                right,
+            }));
+        }
+    }
+    Ok(None)
+}
+
 /// The first stated candidate that shows a difference of two machines with the same inputs and outputs: both runs end within
 /// so many steps and touch no number outside 128 bits, and an output differs. `None` exactly where no stated candidate does.
 /// The further candidates are tried only where no candidate of the pool does. The only refusal is out of memory.
@@ -32,7 +74,7 @@ pub fn first_difference(
     alloc: Global,
     a: &Machine,
     b: &Machine,
-    _p: &Pairing,
+    p: &Pairing,
     steps: u64,
 ) -> Result<Option<Found>, NoMemory>
     requires steps { 1 ≤ steps }
@@ -47,19 +89,8 @@ pub fn first_difference(
     ensures first { IfOk result (λ o. IfSome o (λ f. (i : ℕ) → i < f.j → ¬ DiffersAt a.now b.now steps i)) }
     ensures none { IfOk result (λ o. o ≡ None → (i : ℕ) → i < stated_count a.now b.now → ¬ DiffersAt a.now b.now steps i) }
 {
-    let candidates = Candidates::of(alloc, a, b)?;
-    for j in 0..candidates.count() {
-        let inputs = candidates.inputs(alloc, j, a)?;
-        if let Some((left, right)) = differing_ends(alloc, a, b, &inputs, steps)? {
-            return Ok(Some(Found {
-                j,
-                inputs,
-                left,
-                right,
-            }));
-        }
-    }
-    Ok(None)
+    let most = Candidates::of(alloc, a, b)?.count();
+    first_difference_among(alloc, a, b, p, steps, most)
 }
 
 /// How the runs of two machines with the same inputs and outputs end on inputs, where both end within so many steps and touch

@@ -12,7 +12,7 @@ ghost use Rattle.fsmd_pair_answers.specs.PairAnswers.{IsCounterexample, NoneDiff
 use fs_ast::machine::Machine;
 use fs_pair::positions::Pairing;
 use fs_run_text::counterexample::counterexample_text;
-use fs_trials::differences::{Found, first_difference};
+use fs_trials::differences::{Found, first_difference, first_difference_among};
 use nf_terms::stop::NoMemory;
 use std::alloc::Global;
 
@@ -51,6 +51,29 @@ pub fn counterexample(
     match first_difference(alloc, a, b, p, steps) {
         Ok(Some(found)) => Ok(Some(text_of(alloc, a, b, &found)?)),
         Ok(None) => Ok(None),
+        Err(_) => Err(NoMemory),
+    }
+}
+
+// How many of the stated candidates are tried before a second search, and with how many steps at most.
+const FIRST_CANDIDATES: u64 = 256;
+
+const FIRST_STEPS: u64 = 1_000;
+
+/// Whether one of the first 32 stated candidates shows a difference within 1,000 steps, and within so many. The one refusal is
+/// out of memory.
+pub fn differ_soon(
+    alloc: Global,
+    a: &Machine,
+    b: &Machine,
+    p: &Pairing,
+    steps: u64,
+) -> Result<bool, NoMemory>
+    requires steps { 1 ≤ steps }
+    requires interface { interface_fault a.now b.now ≡ None }
+{
+    match first_difference_among(alloc, a, b, p, steps.min(FIRST_STEPS), FIRST_CANDIDATES) {
+        Ok(found) => Ok(found.is_some()),
         Err(_) => Err(NoMemory),
     }
 }

@@ -10,7 +10,7 @@ ghost use Rattle.fsmd_pair_answers.specs.PairAnswers.{IsLeftOpen, HasObstacle, I
 
 use crate::answer::PairAnswer;
 use crate::beyond::find_beyond;
-use crate::candidates::counterexample;
+use crate::candidates::{counterexample, differ_soon};
 use crate::obstacles::{Found, find};
 use cert_model::laws::obligations_give_same_behaviour;
 use fs_ast::machine::Machine;
@@ -41,7 +41,8 @@ fn try_candidates(
     }
 }
 
-// What two machines get of which the search leaves open whether they have the same behaviour. The one refusal is out of memory.
+// What two machines get of which the search leaves open whether they have the same behaviour. Most that differ do so on one of
+// the first candidates: then no certificate is looked for. The one refusal is out of memory.
 fn go_beyond(
     alloc: Global,
     a: &Machine,
@@ -58,6 +59,9 @@ fn go_beyond(
     ensures answers { IfOk result (IsPairAnswer steps a.now b.now) }
     ensures same { IfOk result (IfEquivalent (SameBehaviour a.now b.now)) }
 {
+    if differ_soon(alloc, a, b, p, steps)? {
+        return try_candidates(alloc, a, b, p, steps, line);
+    }
     obligations_give_same_behaviour();
     match find_beyond(alloc, a, b, p)? {
         Some(cert) => Ok(PairAnswer::Equivalent { cert }),
@@ -66,8 +70,8 @@ fn go_beyond(
 }
 
 /// What two machines with the same inputs and outputs get: first by a search for a certificate; where that meets outputs that
-/// differ, or a machine alone in a cycle, by a second search, whose certificate is judged; and else by candidate inputs, with
-/// runs of at most so many steps.
+/// differ, or a machine alone in a cycle, and the first 32 candidate inputs show no difference within 1,000 steps, by a second
+/// search, whose certificate is judged; and else by candidate inputs, with runs of at most so many steps.
 ///
 /// `Equivalent` comes where the first search closes, or where it is left open and all obligations of a certificate of the second
 /// search hold; then both have the same behaviour. `Counterexample` tells of the first stated candidate from which both runs end,
