@@ -4,11 +4,14 @@ use crate::claims::{Claims, form_at};
 use nf_rel::clashes::implied;
 use nf_rel::literals::NLit;
 use nf_terms::form::Nf;
+use nf_terms::stop::NoMemory;
 use propagate::subst::Subst;
+use search_strengthening_terms::sorted::{compare_forms, insert_at};
 use search_strengthening_terms::stop::{Stop, unless_stopped};
 use search_strengthening_terms::universe::Universe;
 use search_strengthening_terms::work::Work;
 use std::alloc::Global;
+use std::cmp::Ordering;
 use sym_facts::entailment::{substitute, substitute_literal};
 use sym_paths::execution::Post;
 
@@ -19,6 +22,13 @@ struct First {
     place: usize,
     value: Nf,
     is_shared: bool,
+}
+
+// The first terms of classes, and their numbers in the order of the classes that they had and their values.
+#[derive(Drop)]
+struct Firsts {
+    all: Vec<First>,
+    sorted: Vec<usize>,
 }
 
 // Takes the work of a value off.
@@ -42,29 +52,53 @@ pub fn value_of(
     Ok(value)
 }
 
-// The first term that had this class and has this value, which then shares its class.
-fn share_first(firsts: &mut [First], old: usize, value: &Nf) -> Option<usize> {
-    for first in firsts.iter_mut() {
-        if first.old == old && first.value.is_same(value) {
-            first.is_shared = true;
-            return Some(first.place);
-        }
-    }
-    None
+// Where the number of the first term that had this class and has this value stands among the sorted ones, or else where it would
+// go.
+fn find_first(firsts: &Firsts, old: usize, value: &Nf) -> Result<usize, usize> {
+    let all = firsts.all.as_slice();
+    firsts.sorted.binary_search_by(|number| match all.get(*number) {
+        Some(first) => first
+            .old
+            .cmp(&old)
+            .then_with(|| compare_forms(&first.value, value)),
+        None => Ordering::Greater,
+    })
+}
+
+// The place of the first term whose number stands there among the sorted ones, which then shares its class.
+fn share_first(firsts: &mut Firsts, at: usize) -> Option<usize> {
+    let number = *firsts.sorted.get(at)?;
+    let first = firsts.all.get_mut(number)?;
+    first.is_shared = true;
+    Some(first.place)
+}
+
+// Adds the first term of a class, whose number goes there among the sorted ones.
+fn add_first(firsts: &mut Firsts, at: usize, first: First) -> Result<(), NoMemory> {
+    insert_at(&mut firsts.sorted, at, firsts.all.len())?;
+    Ok(firsts.all.push(first)?)
 }
 
 // The class of a term that had a class and has a value.
-fn class_with(firsts: &mut Vec<First>, old: usize, place: usize, value: Nf) -> Result<usize, Stop> {
-    if let Some(first) = share_first(firsts, old, &value) {
-        return Ok(first);
+fn class_with(
+    firsts: &mut Firsts,
+    old: usize,
+    place: usize,
+    value: Nf,
+) -> Result<Option<usize>, NoMemory> {
+    match find_first(firsts, old, &value) {
+        Ok(at) => Ok(share_first(firsts, at)),
+        Err(at) => {
+            let first = First {
+                old,
+                place,
+                value,
+                is_shared: false,
+            };
+            add_first(firsts, at, first)?;
+            Ok(Some(place))
+        }
     }
-    firsts.push(First {
-        old,
-        place,
-        value,
-        is_shared: false,
-    })?;
-    Ok(place)
 }
 
 // The class of a term after an arrival; none where its value meets a limit.
@@ -73,7 +107,7 @@ fn class_after(
     work: &mut Work,
     s: &mut Subst<'_>,
     form: Option<&Nf>,
-    firsts: &mut Vec<First>,
+    firsts: &mut Firsts,
     old: Option<usize>,
     place: usize,
 ) -> Result<Option<usize>, Stop> {
@@ -81,7 +115,7 @@ fn class_after(
         return Ok(None);
     };
     match value_of(alloc, work, s, form)? {
-        Some(value) => Ok(Some(class_with(firsts, old, place, value)?)),
+        Some(value) => Ok(class_with(firsts, old, place, value)?),
         None => Ok(None),
     }
 }
@@ -93,7 +127,7 @@ fn push_classes(
     universe: &Universe,
     claims: &Claims,
     s: &mut Subst<'_>,
-    firsts: &mut Vec<First>,
+    firsts: &mut Firsts,
     classes: &mut Vec<Option<usize>>,
 ) -> Result<(), Stop> {
     for (place, old) in claims.classes.iter().enumerate() {
@@ -124,10 +158,13 @@ fn classes_after(
     claims: &Claims,
     s: &mut Subst<'_>,
 ) -> Result<Vec<Option<usize>>, Stop> {
-    let mut firsts = Vec::new(alloc);
+    let mut firsts = Firsts {
+        all: Vec::new(alloc),
+        sorted: Vec::new(alloc),
+    };
     let mut classes = Vec::new(alloc);
     push_classes(alloc, work, universe, claims, s, &mut firsts, &mut classes)?;
-    put_out_lone(firsts.as_slice(), &mut classes, positions);
+    put_out_lone(firsts.all.as_slice(), &mut classes, positions);
     Ok(classes)
 }
 

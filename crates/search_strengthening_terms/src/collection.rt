@@ -1,9 +1,9 @@
 //! Terms and literals, collected without repeats.
 
+use crate::sorted::{compare_forms, compare_literals, insert_at};
 use crate::universe::{Condition, Term, Universe};
 use fs_model::parts::Role;
 use fs_pair::positions::Position;
-use nf_rel::copies::is_same;
 use nf_rel::literals::NLit;
 use nf_terms::form::Nf;
 use nf_terms::poly::Poly;
@@ -12,6 +12,7 @@ use nf_terms::symbols::Sort;
 use nf_terms::tree::Pos;
 use nf_vectors::vector::Vector;
 use std::alloc::Global;
+use std::cmp::Ordering;
 use std::mem;
 use sym_facts::gathering::{symbols_of_nf, symbols_of_poly};
 
@@ -24,13 +25,16 @@ pub const LITERAL_LIMIT: usize = 4_096;
 /// The most terms and literals that are looked at.
 pub const CANDIDATE_LIMIT: u32 = 16_384;
 
-/// What was collected of two machines with these positions.
+/// What was collected of two machines with these positions: terms and literals, and the places of each in the order of their
+/// forms and literals.
 #[derive(Drop)]
 pub struct Collection<'p> {
     positions: &'p [Position],
     own: Vector,
     terms: Vec<Term>,
+    sorted_terms: Vec<usize>,
     literals: Vec<Condition>,
+    sorted_literals: Vec<usize>,
     reads: Vec<(Pos, Poly)>,
     candidates: u32,
 }
@@ -86,24 +90,20 @@ fn places_of_literal(
     places_of_symbols(alloc, positions, symbols.as_slice())
 }
 
-// Whether a form is one of the terms.
-fn has_form(terms: &[Term], form: &Nf) -> bool {
-    for term in terms {
-        if term.form.is_same(form) {
-            return true;
-        }
-    }
-    false
+// The number of the place of a form among places in the order of their forms, or else where it would go.
+fn find_form(terms: &[Term], sorted: &[usize], form: &Nf) -> Result<usize, usize> {
+    sorted.binary_search_by(|place| match terms.get(*place) {
+        Some(term) => compare_forms(&term.form, form),
+        None => Ordering::Greater,
+    })
 }
 
-// Whether a literal is one of these.
-fn has_literal(literals: &[Condition], literal: &NLit) -> bool {
-    for other in literals {
-        if is_same(&other.literal, literal) {
-            return true;
-        }
-    }
-    false
+// The number of the place of a literal among places in the order of their literals, or else where it would go.
+fn find_literal(literals: &[Condition], sorted: &[usize], literal: &NLit) -> Result<usize, usize> {
+    sorted.binary_search_by(|place| match literals.get(*place) {
+        Some(condition) => compare_literals(&condition.literal, literal),
+        None => Ordering::Greater,
+    })
 }
 
 impl<'p> Collection<'p> {
@@ -113,7 +113,9 @@ impl<'p> Collection<'p> {
             positions,
             own: Vector::new(alloc),
             terms: Vec::new(alloc),
+            sorted_terms: Vec::new(alloc),
             literals: Vec::new(alloc),
+            sorted_literals: Vec::new(alloc),
             reads: Vec::new(alloc),
             candidates: 0,
         }
@@ -157,39 +159,49 @@ impl<'p> Collection<'p> {
         false
     }
 
-    // The places of the positions that a form mentions; none where it is there, it is past a bound, or it mentions another.
-    fn places_if_new(&mut self, alloc: Global, form: &Nf) -> Result<Option<Vec<usize>>, NoMemory> {
-        if self.terms.len() >= TERM_LIMIT
-            || self.is_full()
-            || has_form(self.terms.as_slice(), form)
-        {
-            return Ok(None);
+    // Where a form goes among the terms in order; none where it is there, or past a bound.
+    fn gap_for_form(&mut self, form: &Nf) -> Option<usize> {
+        if self.terms.len() >= TERM_LIMIT || self.is_full() {
+            return None;
         }
-        places_in(alloc, self.positions, form)
+        find_form(self.terms.as_slice(), self.sorted_terms.as_slice(), form).err()
+    }
+
+    // Where a literal goes among the literals in order; none where it is there, or past a bound.
+    fn gap_for_literal(&mut self, literal: &NLit) -> Option<usize> {
+        if self.literals.len() >= LITERAL_LIMIT || self.is_full() {
+            return None;
+        }
+        find_literal(
+            self.literals.as_slice(),
+            self.sorted_literals.as_slice(),
+            literal,
+        )
+        .err()
     }
 
     /// Adds a form, unless it is there, it is past a bound, or it mentions what is no position. The one refusal is out of memory.
     pub fn add_form(&mut self, alloc: Global, form: Nf) -> Result<(), NoMemory> {
-        match self.places_if_new(alloc, &form)? {
-            Some(places) => self.terms.push(Term { form, places })?,
-            None => {}
-        }
-        Ok(())
+        let Some(gap) = self.gap_for_form(&form) else {
+            return Ok(());
+        };
+        let Some(places) = places_in(alloc, self.positions, &form)? else {
+            return Ok(());
+        };
+        insert_at(&mut self.sorted_terms, gap, self.terms.len())?;
+        Ok(self.terms.push(Term { form, places })?)
     }
 
     /// Adds a literal, unless it is there, it is true or false, or it is past a bound. The one refusal is out of memory.
     pub fn add_literal(&mut self, alloc: Global, literal: NLit) -> Result<(), NoMemory> {
-        if self.literals.len() >= LITERAL_LIMIT
-            || self.is_full()
-            || has_literal(self.literals.as_slice(), &literal)
-        {
+        let Some(gap) = self.gap_for_literal(&literal) else {
             return Ok(());
-        }
-        match places_of_literal(alloc, self.positions, &literal)? {
-            Some(places) => self.literals.push(Condition { literal, places })?,
-            None => {}
-        }
-        Ok(())
+        };
+        let Some(places) = places_of_literal(alloc, self.positions, &literal)? else {
+            return Ok(());
+        };
+        insert_at(&mut self.sorted_literals, gap, self.literals.len())?;
+        Ok(self.literals.push(Condition { literal, places })?)
     }
 
     /// Notes that an array is read at an index. The one refusal is out of memory.

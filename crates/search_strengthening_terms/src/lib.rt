@@ -14,6 +14,7 @@ mod components;
 pub mod live;
 mod moved_reads;
 pub mod order;
+pub mod sorted;
 pub mod stop;
 mod subterms;
 pub mod universe;
