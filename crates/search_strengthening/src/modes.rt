@@ -14,6 +14,7 @@ use search_strengthening_tables::state::{State, clear, rule_at};
 use search_strengthening_terms::stop::Stop;
 use search_strengthening_terms::work::Work;
 use std::alloc::Global;
+use std::cmp::Ordering;
 
 // Where both sides have several ways on, the one that asks less moves alone, unless the rule lets both move.
 fn mode_by_asking(rule: Rule, asks_less: AsksLess) -> Mode {
@@ -61,10 +62,49 @@ fn loops_alone(sides: &Sides<'_>, node: &ClaimedNode, mode: Mode) -> bool {
     }
 }
 
+// What the one open path of a side does.
+#[derive(Clone, Copy)]
+enum Turn {
+    // It leads to a point that stands in fewer loops.
+    Leaves,
+    // It leads to a point that stands in more loops.
+    Enters,
+    // It does neither, or there are several open paths.
+    Stays,
+}
+
+// What the one open path of a side does that leads from a point to this one.
+fn turn_of(side: &Covered<'_>, point: Point, end: Option<Point>) -> Turn {
+    let Some(end) = end else {
+        return Turn::Stays;
+    };
+    match side.loops.depth(end).cmp(&side.loops.depth(point)) {
+        Ordering::Less => Turn::Leaves,
+        Ordering::Greater => Turn::Enters,
+        Ordering::Equal => Turn::Stays,
+    }
+}
+
+// Where a machine stands in more loops than the other one, and its one way leaves a loop, it moves alone; or else the other one,
+// where its one way enters one.
+fn mode_by_loops(sides: &Sides<'_>, node: &ClaimedNode, flags: Flags) -> Mode {
+    let (left, right) = (&sides.left, &sides.right);
+    let left_turn = turn_of(left, node.left, flags.left_end);
+    let right_turn = turn_of(right, node.right, flags.right_end);
+    let (left_depth, right_depth) = (left.loops.depth(node.left), right.loops.depth(node.right));
+    match (left_depth.cmp(&right_depth), left_turn, right_turn) {
+        (Ordering::Greater, Turn::Leaves, _) => Mode::Left,
+        (Ordering::Less, _, Turn::Leaves) => Mode::Right,
+        (Ordering::Greater, _, Turn::Enters) => Mode::Right,
+        (Ordering::Less, Turn::Enters, _) => Mode::Left,
+        _ => Mode::Both,
+    }
+}
+
 // The mode of a node at which neither machine is done, by the rule.
 fn mode_by_rule(sides: &Sides<'_>, rule: Rule, node: &ClaimedNode, flags: Flags) -> Mode {
     if rule == Rule::AlwaysTogether {
-        return Mode::Both;
+        return mode_by_loops(sides, node, flags);
     }
     let left_head = sides.left.order.is_head(node.left);
     let right_head = sides.right.order.is_head(node.right);
@@ -103,6 +143,14 @@ fn find_asks_less(
     })
 }
 
+// Where the open path of a side leads that has had no more than this one.
+fn only_end(many: bool, paths: &[OpenPath]) -> Option<Point> {
+    match paths.first() {
+        Some(path) if !many => Some(path.end()),
+        _ => None,
+    }
+}
+
 // What is known of the points of a node, with what its fact, with this vector, shows of them.
 fn see_ways(
     alloc: Global,
@@ -119,6 +167,8 @@ fn see_ways(
     let rights = open_paths(alloc, work, b, d, Side::Right, fact, v, node.right)?;
     flags.many_left = flags.many_left || lefts.len() > 1;
     flags.many_right = flags.many_right || rights.len() > 1;
+    flags.left_end = only_end(flags.many_left, lefts.as_slice());
+    flags.right_end = only_end(flags.many_right, rights.as_slice());
     if flags.many_left && flags.many_right {
         let shown = find_asks_less(alloc, work, lefts.as_slice(), rights.as_slice())?;
         flags.asks_less = flags.asks_less.and(shown);

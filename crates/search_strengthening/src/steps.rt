@@ -8,7 +8,7 @@ use search_strengthening_facts::outputs::{Written, outputs_differ};
 use search_strengthening_tables::nodes::{ClaimedNode, Standing};
 use search_strengthening_tables::ranks::ranks_of;
 use search_strengthening_tables::sides::Sides;
-use search_strengthening_tables::state::{State, try_next_rule};
+use search_strengthening_tables::state::{State, take_overfull, try_next_rule};
 use search_strengthening_terms::stop::Stop;
 use search_tables::ranking::Ranking;
 use std::alloc::Global;
@@ -99,8 +99,8 @@ fn place_after(place: usize, step: Step) -> usize {
     }
 }
 
-// Makes the first step at a node that stands there, and answers where the next one is looked for. Where its component can't go
-// on, it is cleared, and the next rule tried there.
+// Makes the first step at a node that stands there, and answers where the next one is looked for. Where its component, or the one
+// in which too much was changed, can't go on, it is cleared, and the next rule tried there.
 fn make_step_at(
     alloc: Global,
     sides: &Sides<'_>,
@@ -112,7 +112,8 @@ fn make_step_at(
     match step_at(alloc, sides, state, ways, place) {
         Ok(step) => Ok(place_after(place, step)),
         Err(Stop::Bound) => {
-            try_next_rule(state, standing)?;
+            let failing = take_overfull(state).unwrap_or(standing);
+            try_next_rule(state, failing)?;
             Ok(0)
         }
         Err(stop) => Err(stop),

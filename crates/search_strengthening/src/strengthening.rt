@@ -37,10 +37,10 @@ const RULES: [Rule; 4] = [
 const WORK: u64 = 3_000_000;
 
 // The units of work that each point of the machines adds.
-const WORK_OF_POINT: u64 = 30_000;
+const WORK_OF_POINT: u64 = 15_000;
 
 // The most units of work of the searches of two machines.
-const WORK_LIMIT: u64 = 15_000_000;
+const WORK_LIMIT: u64 = 10_000_000;
 
 // A closed table, with the ranks of its nodes.
 #[derive(Drop)]

@@ -15,4 +15,4 @@ pub mod tested_facts;
 pub mod visited;
 pub mod weeding;
 
-pub use search_strengthening_terms::{live, order, stop, universe, work};
+pub use search_strengthening_terms::{live, loops, order, stop, universe, work};

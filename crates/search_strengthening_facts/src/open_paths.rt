@@ -15,11 +15,19 @@ use sym_paths::execution::conditions;
 // The units of work of the conditions of a path.
 const PATH_UNITS: u64 = 8;
 
-/// The conditions of a path that a fact leaves open, behind those of the fact.
+/// The conditions of a path that a fact leaves open, behind those of the fact, and where the path leads.
 #[derive(Drop)]
 pub struct OpenPath {
     conds: Vec<NLit>,
     own: usize,
+    end: Point,
+}
+
+impl OpenPath {
+    /// Where the path leads.
+    pub fn end(&self) -> Point {
+        self.end
+    }
 }
 
 // Whether literals are not refuted. `Bound` comes where too little work is left.
@@ -41,7 +49,11 @@ fn conditions_behind(
     let count = own.len();
     let mut conds = copied_literals(alloc, fact.conds())?;
     conds.append(&mut own)?;
-    Ok(OpenPath { conds, own: count })
+    Ok(OpenPath {
+        conds,
+        own: count,
+        end: path.to,
+    })
 }
 
 /// The paths of a point that are not refuted under a fact with this vector. `Bound` comes where too little work is left, or

@@ -31,8 +31,8 @@ impl AsksLess {
     }
 }
 
-/// What is kept of a pair of points: whether a side has had more than one open path there, which machine asks less, and the
-/// mode since the table was last cleared.
+/// What is kept of a pair of points: whether a side has had more than one open path there, which machine asks less, where the one
+/// open path of a side has led last, and the mode since the table was last cleared.
 #[derive(Clone, Copy)]
 pub struct Flags {
     pub left: Point,
@@ -41,7 +41,24 @@ pub struct Flags {
     pub many_left: bool,
     pub many_right: bool,
     pub asks_less: AsksLess,
+    pub left_end: Option<Point>,
+    pub right_end: Option<Point>,
     pub mode: Option<Mode>,
+}
+
+// What is kept of two points of which nothing has been seen.
+fn unseen(left: Point, right: Point, standing: Standing) -> Flags {
+    Flags {
+        left,
+        right,
+        standing,
+        many_left: false,
+        many_right: false,
+        asks_less: AsksLess::Unknown,
+        left_end: None,
+        right_end: None,
+        mode: None,
+    }
 }
 
 /// What is kept of two points.
@@ -51,15 +68,7 @@ pub fn flags_at(all: &[Flags], left: Point, right: Point, standing: Standing) ->
             return *flags;
         }
     }
-    Flags {
-        left,
-        right,
-        standing,
-        many_left: false,
-        many_right: false,
-        asks_less: AsksLess::Unknown,
-        mode: None,
-    }
+    unseen(left, right, standing)
 }
 
 /// Keeps this of two points. The one refusal is out of memory.
@@ -78,6 +87,15 @@ pub fn forget_modes(all: &mut [Flags], standing: Standing) {
     for flags in all.iter_mut() {
         if !flags.standing.is_in_earlier_components(standing) {
             flags.mode = None;
+        }
+    }
+}
+
+/// Forgets all that was kept of points in some components and in later ones.
+pub fn forget_all(all: &mut [Flags], standing: Standing) {
+    for flags in all.iter_mut() {
+        if !flags.standing.is_in_earlier_components(standing) {
+            *flags = unseen(flags.left, flags.right, flags.standing);
         }
     }
 }

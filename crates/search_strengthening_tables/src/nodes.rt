@@ -27,11 +27,13 @@ pub struct NodeMove {
 }
 
 /// Where two points stand in the order of nodes: by their outermost components, left and right, and then by their own numbers.
-/// So a strongly connected component of pairs of points, or several, stands behind all from which it is reached.
+/// So a strongly connected component of pairs of points, or several, stands behind all from which it is reached. How many points
+/// the two components have is kept beside.
 #[derive(Clone, Copy)]
 pub struct Standing {
     pub components: (usize, usize),
     pub numbers: (usize, usize),
+    pub points: usize,
 }
 
 // Whether a pair comes after another one, by the left number and then by the right one.

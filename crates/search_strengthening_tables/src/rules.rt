@@ -7,7 +7,8 @@ pub enum Rule {
     AsksLessFirst,
     /// Where both machines have several ways on, both move.
     SeveralTogether,
-    /// Both machines move.
+    /// Both machines move. But where one stands in more loops than the other, that one moves alone where its one way leaves a
+    /// loop, or else the other one where its one way enters one.
     AlwaysTogether,
     /// As the first rule says, but no machine moves alone from the head of a loop to itself.
     LoopsTogether,

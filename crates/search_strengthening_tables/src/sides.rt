@@ -7,6 +7,7 @@ use fs_cut::cover::{Cover, Point};
 use fs_pair::positions::Pairing;
 use nf_terms::stop::NoMemory;
 use search_strengthening_claims::live::{Liveness, live_positions};
+use search_strengthening_claims::loops::order_states;
 use search_strengthening_claims::order::PointOrder;
 use search_strengthening_claims::universe::{Universe, universe_of};
 use std::alloc::Global;
@@ -14,12 +15,14 @@ use std::alloc::Global;
 // The most terms that are all compared at each pair of points.
 const FEW_TERMS: usize = 256;
 
-/// A machine with its cover, its points in order, and what matters at them.
+/// A machine with its cover, its points in order, all its states in order with the loops around them, and what matters at its
+/// points.
 #[derive(Drop)]
 pub struct Covered<'a> {
     pub machine: &'a Machine,
     pub cover: Cover,
     pub order: PointOrder,
+    pub loops: PointOrder,
     pub live: Liveness,
 }
 
@@ -55,6 +58,9 @@ impl<'a> Sides<'a> {
         Standing {
             components: (a.component(left), b.component(right)),
             numbers: (a.number(left), b.number(right)),
+            points: a
+                .component_size(left)
+                .saturating_add(b.component_size(right)),
         }
     }
 }
@@ -62,11 +68,13 @@ impl<'a> Sides<'a> {
 fn with_cover<'a>(alloc: Global, machine: &'a Machine) -> Result<Covered<'a>, NoMemory> {
     let cover = cover_of(alloc, machine)?;
     let order = PointOrder::of(alloc, &cover)?;
+    let loops = order_states(alloc, machine)?;
     let live = Liveness::of(alloc, machine)?;
     Ok(Covered {
         machine,
         cover,
         order,
+        loops,
         live,
     })
 }

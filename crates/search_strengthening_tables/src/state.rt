@@ -1,6 +1,6 @@
 //! The state of a search.
 
-use crate::flags::{Flags, forget_modes};
+use crate::flags::{Flags, forget_all, forget_modes};
 use crate::nodes::{ClaimedNode, Standing, first_in_components, place_for, units_of};
 use crate::rules::Rule;
 use crate::sides::Sides;
@@ -14,8 +14,17 @@ use std::alloc::Global;
 use sym_facts::fact::Fact;
 use sym_facts::start::start_fact;
 
-// The most nodes that are added and weakened in a component of pairs of points.
-const CHANGE_LIMIT: u32 = 256;
+// The most nodes that are added and weakened in a component of pairs of points by one rule.
+const CHANGE_LIMIT: usize = 256;
+
+// The rounds of the rules in a component. In the first one fewer nodes are added and weakened: most components close after few
+// changes, so one that does not is left to the next rule first.
+const ROUNDS: u32 = 2;
+
+// The most nodes that are added and weakened by one rule in the first round, a point of the component, and in all at least.
+const FIRST_CHANGES_OF_POINT: usize = 16;
+
+const FIRST_CHANGES: usize = 64;
 
 // The most times that a component of pairs of points is cleared.
 const CLEARING_LIMIT: u32 = 64;
@@ -23,13 +32,14 @@ const CLEARING_LIMIT: u32 = 64;
 // The most units of a table.
 const UNIT_LIMIT: u64 = 4_000_000;
 
-// What was done in a component of pairs of points: the rule by which machines move there, how often nodes were added or weakened
-// by it, and how often the component was cleared.
+// What was done in a component of pairs of points: the rule by which machines move there and in which round of the rules, how
+// often nodes were added or weakened by it, and how often the component was cleared.
 #[derive(Clone, Copy)]
 struct Component {
     standing: Standing,
     rule: Rule,
-    changes: u32,
+    round: u32,
+    changes: usize,
     clearings: u32,
 }
 
@@ -44,6 +54,7 @@ pub struct State {
     first_rule: Rule,
     standing_versions: Vec<bool>,
     components: Vec<Component>,
+    overfull: Option<Standing>,
 }
 
 // No claims.
@@ -107,6 +118,7 @@ pub fn begin(
         first_rule,
         standing_versions: vec![in alloc; true; 1]?,
         components: Vec::new(alloc),
+        overfull: None,
     })
 }
 
@@ -141,6 +153,7 @@ fn component_of(components: &[Component], standing: Standing, first_rule: Rule) 
     Component {
         standing,
         rule: first_rule,
+        round: 0,
         changes: 0,
         clearings: 0,
     }
@@ -194,18 +207,22 @@ pub fn clear(state: &mut State, standing: Standing) -> Result<(), Stop> {
     Ok(())
 }
 
-/// Clears the component of two points, and all behind it, and lets machines move there by the next rule. `Bound` comes where
-/// there is none.
+/// Clears the component of two points, and all behind it, and lets machines move there by the next rule, the first one again in
+/// the next round. `Bound` comes behind the last round.
 pub fn try_next_rule(state: &mut State, standing: Standing) -> Result<(), Stop> {
     let mut component = component_of(state.components.as_slice(), standing, state.first_rule);
     component.rule = component.rule.next();
     if component.rule == state.first_rule {
+        component.round = component.round.saturating_add(1);
+    }
+    if component.round >= ROUNDS {
         return Err(Stop::Bound);
     }
     component.changes = 0;
     component.clearings = 0;
     keep_component(&mut state.components, component)?;
     empty_component(state, standing);
+    forget_all(&mut state.flags, standing);
     Ok(())
 }
 
@@ -214,10 +231,32 @@ fn next_version(state: &State) -> usize {
     state.standing_versions.len()
 }
 
-// Counts a change in the component of two points. `Bound` comes at the 257th, or where the table has too many units.
+// How many nodes at most are added and weakened in a component by its rule in its round.
+fn change_limit(component: &Component) -> usize {
+    if component.round > 0 {
+        return CHANGE_LIMIT;
+    }
+    component
+        .standing
+        .points
+        .saturating_mul(FIRST_CHANGES_OF_POINT)
+        .max(FIRST_CHANGES)
+        .min(CHANGE_LIMIT)
+}
+
+/// Where the component stands in which too much was changed by the last step, if there is one.
+pub fn take_overfull(state: &mut State) -> Option<Standing> {
+    state.overfull.take()
+}
+
+// Counts a change in the component of two points. `Bound` comes where there were as many as there may be, or the table has too
+// many units.
 fn count_change(state: &mut State, standing: Standing) -> Result<(), Stop> {
     let mut component = component_of(state.components.as_slice(), standing, state.first_rule);
-    if component.changes >= CHANGE_LIMIT || units_of(state.nodes.as_slice()) > UNIT_LIMIT {
+    if component.changes >= change_limit(&component)
+        || units_of(state.nodes.as_slice()) > UNIT_LIMIT
+    {
+        state.overfull = Some(standing);
         return Err(Stop::Bound);
     }
     component.changes += 1;

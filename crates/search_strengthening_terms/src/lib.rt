@@ -11,7 +11,9 @@
 mod cells;
 pub mod collection;
 mod components;
+mod given_numbers;
 pub mod live;
+pub mod loops;
 mod moved_reads;
 pub mod order;
 pub mod sorted;

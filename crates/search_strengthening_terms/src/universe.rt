@@ -2,6 +2,7 @@
 
 use crate::cells::add_cells;
 use crate::collection::Collection;
+use crate::given_numbers::add_at_given_numbers;
 use crate::moved_reads::add_moved_reads;
 use crate::stop::leave_out;
 use crate::subterms::{add_expr, add_literals, evaluate_both};
@@ -173,15 +174,18 @@ fn add_all(
     add_machine(alloc, all, Side::Right, b)?;
     add_cells(alloc, all, Side::Left, a)?;
     add_cells(alloc, all, Side::Right, b)?;
-    add_moved_reads(alloc, all)
+    add_moved_reads(alloc, all)?;
+    add_at_given_numbers(alloc, all, Side::Left, a)?;
+    add_at_given_numbers(alloc, all, Side::Right, b)
 }
 
 /// The universe of two machines: the symbols of their positions; 0, the array that is 0 everywhere and the empty list; each
 /// term of a right side, an index or a guard that has an operator, in its machine's symbols; for each write the arrays of its
 /// name, of either machine, after it; the arrays into which a scalar is written back that keeps an entry; reads beside those of
 /// the texts; each literal of a guard and its negation, and of `>=` and `<=` also the ones whose bound is 1 more or less, of `==`
-/// and `!=` both bounds. The left machine's come first. Terms past a limit are left out, and so are those behind the first 4,096
-/// terms and the first 4,096 literals, and behind the first 16,384 that are looked at. The one refusal is out of memory.
+/// and `!=` both bounds; and each literal where a variable has a number that its machine gives it. The left machine's come first.
+/// Terms past a limit are left out, and so are those behind the first 4,096 terms and the first 4,096 literals, and behind the
+/// first 16,384 that are looked at. The one refusal is out of memory.
 pub fn universe_of(
     alloc: Global,
     a: &Machine,
