@@ -4,7 +4,7 @@ use crate::statuses::status_of;
 use fs_base::memory::MemFiles;
 use fs_base::outside::Files;
 use fs_base::sinks::MemSink;
-use fsmd_tool::drive::drive;
+use fsmd_tool::program::drive;
 use std::alloc::{AllocError, Global};
 
 const WORDS: usize = 0;

@@ -1,6 +1,6 @@
 //! The statuses that go with replies.
 
-use fsmd_tool::answer::Status;
+use fsmd_replies::answer::Status;
 
 /// The status that goes with a reply: with one that is cut, since the sink takes few bytes, a fault.
 pub fn status_of(reply: &str, takes: &str) -> Status {

@@ -3,8 +3,8 @@ use Rattle.std.proofs.Common.{◌≡◌, inl, inr}
 use Rattle.std.specs.Prelude.{IsTrue}
 use Rattle.fsmd_replies.specs.declared.answer.Status.TheVariants.{Fine, Differ, Undecided, NoMemory}
 use Rattle.fsmd_replies.specs.AskedFiles.{compares, step_limit}
-use Rattle.fsmd_commands.proofs.Alike.{closes_where_same, has_limit, no_counterexample}
-use Rattle.fsmd_commands.specs.Calls.{Call}
+use Rattle.fsmd_answers.proofs.Alike.{closes_where_same, has_limit, no_counterexample}
+use Rattle.fsmd_tool.specs.Calls.{Call}
 use Rattle.fsmd_tool.specs.SinkReplies.{Put}
 use Rattle.fsmd_tool.specs.Correct.{Answered}
 use Rattle.fsmd_tool.specs.AlikeCalls.{AnswersPair, Closes, Stops, TellsOfAlike}

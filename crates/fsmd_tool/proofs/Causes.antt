@@ -14,35 +14,35 @@ use Rattle.cert_bisimulation.specs.Tables.{Node}
 use Rattle.sym_facts.specs.Facts.{Fact}
 use Rattle.hls_program_parts.specs.Programs.{Program}
 use Rattle.hls_unit_counts.specs.Counts.{Units}
-use Rattle.fsmd_commands.specs.BindingAnswers.{Binding}
+use Rattle.fsmd_answers.specs.BindingAnswers.{Binding}
 use Rattle.fsmd_replies.specs.declared.answer.Operand.{Operand}
 use Rattle.fsmd_replies.specs.declared.answer.Status.TheVariants as statuses
 use Rattle.fsmd_replies.specs.declared.answer.Answer.{Answer}
 use Rattle.fsmd_replies.specs.declared.answer.Answer.TheVariants.{Usage, Text}
 use Rattle.fsmd_replies.specs.Statuses.{status_of, certificate_in}
 use Rattle.fsmd_replies.specs.AskedFiles.{operand, files_of, cert_of, generated_steps}
-use Rattle.fsmd_commands.specs.MachineFiles.{SpellsParts, SpellsMachine}
-use Rattle.fsmd_commands.specs.Readings.{FileContent, Unreadable, Reading}
-use Rattle.fsmd_commands.specs.Refusals.{RefusesMachine, RefusesPair, RefusesCertificate, SpellsCertificate}
-use Rattle.fsmd_commands.specs.InputFiles.{HasInputFault, RefusesInputs, SpellsInputs}
-use Rattle.fsmd_commands.specs.ProgramFiles.{RefusesProgram, SpellsProgram, IsOfProgram}
-use Rattle.fsmd_commands.specs.ScheduleFiles.{HaveUnitFault, RefusesUnits, SpellUnits, IsOfSchedule}
-use Rattle.fsmd_commands.specs.BindingFiles.{HasBindingFault, RefusesBinding, SpellsBinding, IsOfBinding}
-use Rattle.fsmd_commands.specs.ComparisonAnswers.{IsOfPair, IsOfLoops, left_of, right_of}
-use Rattle.fsmd_commands.specs.Verdicts.{IsJudged}
-use Rattle.fsmd_commands.specs.RunAnswers.{IsOfRun}
-use Rattle.fsmd_commands.specs.Replays.{IsOfReplay}
-use Rattle.fsmd_commands.specs.Shrinks.{IsOfShrink}
-use Rattle.fsmd_commands.specs.Links.{AtLink, links_of, IsOfChain}
-use Rattle.fsmd_commands.specs.Follows.{Ends, Opens, Refused, Spelled, ComparesPairs, Other, SameInterface, Judges, Fails, Holds, OpensMachine, OpensInputs}
-use Rattle.fsmd_commands.specs.Follows.{OpensCertificate, OpensUnits, OpensBinding, OpensPair, OpensLink, OpensLinks, FollowsFrom}
-use Rattle.fsmd_commands.specs.Calls.{Call, known_at_start, FailedToRead, MayBeRead, MayRead, IsCorrectFrom}
+use Rattle.fsmd_answers.specs.MachineFiles.{SpellsParts, SpellsMachine}
+use Rattle.fsmd_answers.specs.Readings.{FileContent, Unreadable, Reading}
+use Rattle.fsmd_answers.specs.Refusals.{RefusesMachine, RefusesPair, RefusesCertificate, SpellsCertificate}
+use Rattle.fsmd_answers.specs.InputFiles.{HasInputFault, RefusesInputs, SpellsInputs}
+use Rattle.fsmd_answers.specs.ProgramFiles.{RefusesProgram, SpellsProgram, IsOfProgram}
+use Rattle.fsmd_answers.specs.ScheduleFiles.{HaveUnitFault, RefusesUnits, SpellUnits, IsOfSchedule}
+use Rattle.fsmd_answers.specs.BindingFiles.{HasBindingFault, RefusesBinding, SpellsBinding, IsOfBinding}
+use Rattle.fsmd_answers.specs.ComparisonAnswers.{IsOfPair, IsOfLoops, left_of, right_of}
+use Rattle.fsmd_answers.specs.Verdicts.{IsJudged}
+use Rattle.fsmd_answers.specs.RunAnswers.{IsOfRun}
+use Rattle.fsmd_answers.specs.Replays.{IsOfReplay}
+use Rattle.fsmd_answers.specs.Shrinks.{IsOfShrink}
+use Rattle.fsmd_answers.specs.Links.{AtLink, links_of, IsOfChain}
+use Rattle.fsmd_answers.specs.Follows.{Ends, Opens, Refused, Spelled, ComparesPairs, Other, SameInterface, Judges, Fails, Holds, OpensMachine, OpensInputs}
+use Rattle.fsmd_answers.specs.Follows.{OpensCertificate, OpensUnits, OpensBinding, OpensPair, OpensLink, OpensLinks, FollowsFrom}
+use Rattle.fsmd_tool.specs.Calls.{Call, known_at_start, FailedToRead, MayBeRead, MayRead, IsCorrectFrom}
 use Rattle.fsmd_tool.specs.SinkReplies.{Put, IsPut, Whole, Cut}
 use Rattle.fsmd_tool.specs.CertificateStores.{file_change, FileToStore, file_to_store_of, to_store}
 use Rattle.fsmd_tool.specs.Correct.{IsCorrectAnswer, IsDone, Kept, Stored, Unstored, Answered}
 use Rattle.fsmd_tool.specs.Clauses.{HasCause, FileFailed, CertificateUnstored, SinkFailed}
-use Rattle.fsmd_commands.proofs.Answering.{enough}
-use Rattle.fsmd_commands.proofs.Linked.{judges, certificates, nexts}
+use Rattle.fsmd_tool.proofs.Answering.{enough}
+use Rattle.fsmd_tool.proofs.Linked.{judges, certificates, nexts}
 use Rattle.fsmd_tool.proofs.Statuses.{HasStatus, machine_fault, program_fault, keys_fault, certificate_fault, pair_fault, link_status, usage_fault, text_fault}
 use Rattle.fsmd_tool.proofs.Statuses.{of_pair_fault, run_fault, replay_fault, shrink_fault, chain_fault, compile_fault, schedule_fault, binding_fault}
 use Rattle.fsmd_tool.proofs.Statuses.{judged_fault}

@@ -12,22 +12,22 @@ use Rattle.fsmd_replies.specs.declared.answer.Status.TheVariants as statuses
 use Rattle.fsmd_replies.specs.declared.answer.Answer.{Answer}
 use Rattle.fsmd_replies.specs.Statuses.{status_of}
 use Rattle.fsmd_replies.specs.AskedFiles.{operand}
-use Rattle.fsmd_commands.specs.MachineFiles.{SpellsMachine}
-use Rattle.fsmd_commands.specs.Readings.{Reading}
-use Rattle.fsmd_commands.specs.Refusals.{RefusesMachine, RefusesPair, RefusesCertificate, SpellsCertificate}
-use Rattle.fsmd_commands.specs.Verdicts.{IsJudged}
-use Rattle.fsmd_commands.specs.Links.{AtLink, links_of, IsOfChain}
+use Rattle.fsmd_answers.specs.MachineFiles.{SpellsMachine}
+use Rattle.fsmd_answers.specs.Readings.{Reading}
+use Rattle.fsmd_answers.specs.Refusals.{RefusesMachine, RefusesPair, RefusesCertificate, SpellsCertificate}
+use Rattle.fsmd_answers.specs.Verdicts.{IsJudged}
+use Rattle.fsmd_answers.specs.Links.{AtLink, links_of, IsOfChain}
 use Rattle.fsmd_replies.specs.Replies.{lines_of}
-use Rattle.fsmd_commands.specs.Follows.{Judges, Fails, Holds, OpensMachine, OpensLink, OpensLinks, FollowsFrom}
+use Rattle.fsmd_answers.specs.Follows.{Judges, Fails, Holds, OpensMachine, OpensLink, OpensLinks, FollowsFrom}
 use Rattle.fsmd_tool.specs.Asking.{is_chain}
-use Rattle.fsmd_commands.specs.Calls.{Call, known_at_start, MayHold, MayRead, IsCorrectFrom}
+use Rattle.fsmd_tool.specs.Calls.{Call, known_at_start, MayHold, MayRead, IsCorrectFrom}
 use Rattle.fsmd_tool.specs.SinkReplies.{Put}
 use Rattle.fsmd_tool.specs.Correct.{Answered}
-use Rattle.fsmd_commands.specs.HoldingLinks.{LinksHold}
+use Rattle.fsmd_tool.specs.HoldingLinks.{LinksHold}
 use Rattle.fsmd_tool.specs.Clauses.{IsChained}
 use Rattle.fsmd_tool.proofs.Statuses.{HasStatus, is_refusal, not_refused, machine_refuses, pair_refuses, certificate_refuses, link_refuses, link_status}
 use Rattle.fsmd_tool.proofs.Statuses.{judged_yes}
-use Rattle.fsmd_commands.proofs.Linked.{judges, certificates, nexts}
+use Rattle.fsmd_tool.proofs.Linked.{judges, certificates, nexts}
 use Rattle.fsmd_tool.proofs.Found.{open_next, end_of, alike_of}
 use Rattle.fsmd_tool.proofs.Says.{well, put_lines}
 

@@ -12,15 +12,15 @@ use Rattle.fsmd_replies.specs.declared.answer.Operand.{Operand}
 use Rattle.fsmd_replies.specs.declared.answer.Status.{Status}
 use Rattle.fsmd_replies.specs.declared.answer.Answer.{Answer}
 use Rattle.fsmd_replies.specs.AskedFiles.{operand, compares, is_check, is_verify, cert_of, step_limit}
-use Rattle.fsmd_commands.specs.MachineFiles.{SpellsMachine}
-use Rattle.fsmd_commands.specs.Readings.{FileContent, Readable, Unreadable, OfBytes, Reading}
-use Rattle.fsmd_commands.specs.Refusals.{RefusesMachine, RefusesPair, RefusesCertificate, SpellsCertificate}
-use Rattle.fsmd_commands.specs.ComparisonAnswers.{IsOfPair, left_of, right_of}
-use Rattle.fsmd_commands.specs.Verdicts.{IsJudged}
-use Rattle.fsmd_commands.specs.Follows.{Ends, Opens, Refused, Spelled, ComparesPairs, Other, SameInterface, OpensMachine, OpensCertificate, OpensPair}
-use Rattle.fsmd_commands.specs.Follows.{FollowsFrom}
-use Rattle.fsmd_commands.proofs.Loops.{loops_alike}
-use Rattle.fsmd_commands.specs.Calls.{Call, known_at_start, FailedToRead, MayBeRead, MayHold, MayRead, IsCorrectFrom}
+use Rattle.fsmd_answers.specs.MachineFiles.{SpellsMachine}
+use Rattle.fsmd_answers.specs.Readings.{FileContent, Readable, Unreadable, OfBytes, Reading}
+use Rattle.fsmd_answers.specs.Refusals.{RefusesMachine, RefusesPair, RefusesCertificate, SpellsCertificate}
+use Rattle.fsmd_answers.specs.ComparisonAnswers.{IsOfPair, left_of, right_of}
+use Rattle.fsmd_answers.specs.Verdicts.{IsJudged}
+use Rattle.fsmd_answers.specs.Follows.{Ends, Opens, Refused, Spelled, ComparesPairs, Other, SameInterface, OpensMachine, OpensCertificate, OpensPair}
+use Rattle.fsmd_answers.specs.Follows.{FollowsFrom}
+use Rattle.fsmd_answers.proofs.Loops.{loops_alike}
+use Rattle.fsmd_tool.specs.Calls.{Call, known_at_start, FailedToRead, MayBeRead, MayHold, MayRead, IsCorrectFrom}
 use Rattle.fsmd_tool.specs.Correct.{IsCorrectAnswer}
 use Rattle.fsmd_tool.specs.Equivalent.{ArePairedMachines, OfFiles, OfLoops}
 use Rattle.fsmd_tool.proofs.Statuses.{HasStatus, is_refusal, not_refused, machine_refuses, pair_refuses, certificate_refuses}

@@ -2,13 +2,13 @@
 use Rattle.std.proofs.Common.{◌≡◌, ◌∙◌, ℕ, List, Option, subst}
 use Rattle.fs_base.specs.Outside.{FileKnowledge, FilesTold, SameHeld, OthersHeld, held_after}
 use Rattle.fsmd_replies.specs.declared.answer.Status.{Status}
-use Rattle.fsmd_commands.specs.Calls.{OnlyRead}
+use Rattle.fsmd_tool.specs.Calls.{OnlyRead}
 use Rattle.fsmd_tool.specs.SinkReplies.{Put}
 use Rattle.fsmd_tool.specs.CertificateStores.{file_change, IsUnchangedStore, IsStoredUnder, IsUnstored, FileToStore}
 use Rattle.fsmd_tool.specs.CertificateStores.{Leaves, LeftAlone, LeftStored, LeftUnstored}
 use Rattle.fsmd_tool.specs.CertificateStores.{NotStored, Untouched, Failed}
 use Rattle.fsmd_tool.specs.Correct.{IsDone, Kept, Stored, Unstored}
-use Rattle.fsmd_commands.proofs.Later.{rose_since}
+use Rattle.fsmd_tool.proofs.Later.{rose_since}
 
 others_since : (name : List ℕ) (old mid now : List ℕ → FileKnowledge) → SameHeld old mid → OthersHeld name mid now → OthersHeld name old now
 others_since name old mid now same o = λ other away. o other away ∙ same other

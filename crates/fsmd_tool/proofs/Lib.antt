@@ -1,3 +1,9 @@
+pub mod FromFiles
+pub mod Later
+pub mod Loads
+pub mod InOrder
+pub mod Answering
+pub mod Linked
 pub mod Statuses
 pub mod Found
 pub mod Says
@@ -9,11 +15,3 @@ pub mod LaterStores
 pub mod Putting
 pub mod AlikeMachines
 pub mod Running
-pub use Rattle.fsmd_commands.proofs.FromFiles
-pub use Rattle.fsmd_commands.proofs.Later
-pub use Rattle.fsmd_commands.proofs.InOrder
-pub use Rattle.fsmd_commands.proofs.Answering
-pub use Rattle.fsmd_commands.proofs.Interfaces
-pub use Rattle.fsmd_commands.proofs.Alike
-pub use Rattle.fsmd_commands.proofs.Behaviour
-pub use Rattle.fsmd_commands.proofs.Once

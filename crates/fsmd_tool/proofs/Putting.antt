@@ -11,17 +11,17 @@ use Rattle.fsmd_replies.specs.declared.answer.Answer.TheVariants.{Usage}
 use Rattle.fsmd_replies.specs.Statuses.{status_of, certificate_in}
 use Rattle.fsmd_replies.specs.AskedFiles.{cert_of}
 use Rattle.fsmd_replies.specs.Replies.{reply, unstored_reply}
-use Rattle.fsmd_commands.specs.Follows.{FollowsFrom}
-use Rattle.fsmd_commands.specs.Calls.{call, OnlyRead, IsCorrectInOrder}
+use Rattle.fsmd_answers.specs.Follows.{FollowsFrom}
+use Rattle.fsmd_tool.specs.Calls.{call, OnlyRead, IsCorrectInOrder}
 use Rattle.fsmd_tool.specs.SinkReplies.{Put, IsPut}
 use Rattle.fsmd_tool.specs.CertificateStores.{FileChange, file_change, IsUnstored, FileToStore, to_store, Leaves, NotStored, Untouched}
 use Rattle.fsmd_tool.specs.CertificateStores.{Failed}
 use Rattle.fsmd_tool.specs.CertificateStores.{IsUnwritten, NoneWritten, WriteFailed}
 use Rattle.fsmd_tool.specs.Correct.{IsCorrectAnswer, IsDone, IsDoneFor, Kept, Unstored, Answered}
 use Rattle.fsmd_tool.specs.Clauses.{KeepsFiles}
-use Rattle.fsmd_commands.proofs.Loads.{loads_until}
-use Rattle.fsmd_commands.proofs.InOrder.{ended_in_order}
-use Rattle.fsmd_commands.proofs.Later.{read_map, each_until, correct_until}
+use Rattle.fsmd_tool.proofs.Loads.{loads_until}
+use Rattle.fsmd_tool.proofs.InOrder.{ended_in_order}
+use Rattle.fsmd_tool.proofs.Later.{read_map, each_until, correct_until}
 use Rattle.fsmd_tool.proofs.LaterStores.{done_since, leaves_since, not_stored_since}
 use Rattle.fsmd_tool.proofs.Causes.{entry_named}
 use Rattle.fsmd_tool.proofs.Says.{keeps_files}

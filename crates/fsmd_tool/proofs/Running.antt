@@ -6,7 +6,7 @@ use Rattle.fs_base.specs.Outside.{FilesTold}
 use Rattle.fsmd_replies.specs.declared.answer.Status.{Status}
 use Rattle.fsmd_replies.specs.declared.answer.Status.TheVariants.{NoMemory, Fault}
 use Rattle.fsmd_tool.specs.Asking.{asked_by_words}
-use Rattle.fsmd_commands.specs.Calls.{call}
+use Rattle.fsmd_tool.specs.Calls.{call}
 use Rattle.fsmd_tool.specs.SinkReplies.{Put}
 use Rattle.fsmd_tool.specs.Running.{IsDriven, EndsSo, WithWords, WithoutWords}
 

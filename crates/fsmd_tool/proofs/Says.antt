@@ -8,19 +8,19 @@ use Rattle.fs_base.specs.Outside.{got_after}
 use Rattle.fs_model.specs.Machines.{Fsmd}
 use Rattle.cert_bisimulation.specs.Tables.{Node}
 use Rattle.sym_facts.specs.Facts.{Fact}
-use Rattle.fsmd_commands.specs.WrittenCertificates.{certificate_text}
-use Rattle.fsmd_commands.specs.PairAnswers.{IsCounterexample, IsUndecided}
+use Rattle.fsmd_answers.specs.WrittenCertificates.{certificate_text}
+use Rattle.fsmd_answers.specs.PairAnswers.{IsCounterexample, IsUndecided}
 use Rattle.fsmd_replies.specs.declared.answer.Status.{Status}
 use Rattle.fsmd_replies.specs.declared.answer.Status.TheVariants as statuses
 use Rattle.fsmd_replies.specs.declared.answer.Answer.{Answer}
 use Rattle.fsmd_replies.specs.declared.answer.Answer.TheVariants.{Equivalent, Text, Differs, Undecided}
 use Rattle.fsmd_replies.specs.Statuses.{status_of, certificate_in}
 use Rattle.fsmd_replies.specs.AskedFiles.{compares, is_verify, cert_of, step_limit}
-use Rattle.fsmd_commands.specs.LineAnswers.{HasLines}
-use Rattle.fsmd_commands.specs.ComparisonAnswers.{AreSame, IsOfPair, Same, Apart, Open, text_to_store}
-use Rattle.fsmd_commands.specs.Verdicts.{answer_to}
+use Rattle.fsmd_answers.specs.LineAnswers.{HasLines}
+use Rattle.fsmd_answers.specs.ComparisonAnswers.{AreSame, IsOfPair, Same, Apart, Open, text_to_store}
+use Rattle.fsmd_answers.specs.Verdicts.{answer_to}
 use Rattle.fsmd_replies.specs.Replies.{opening_line, lines_of, reply, equivalent_text, unstored_reply}
-use Rattle.fsmd_commands.specs.Calls.{Call}
+use Rattle.fsmd_tool.specs.Calls.{Call}
 use Rattle.fsmd_tool.specs.SinkReplies.{Put, IsPut, Whole, Cut}
 use Rattle.fsmd_tool.specs.CertificateStores.{FileChange, file_change, IsStoredUnder, FileToStore, file_to_store, file_to_store_of, to_store, Leaves, LeftAlone}
 use Rattle.fsmd_tool.specs.CertificateStores.{LeftStored, LeftUnstored}

@@ -6,20 +6,20 @@ use Rattle.fsmd_words.specs.AskedWords.{Asked, Shrink}
 use Rattle.fs_model.specs.Machines.{Fsmd}
 use Rattle.fs_model.specs.Runs.{Inputs, Content}
 use Rattle.fs_trials.specs.Differences.{ShowsDifference}
-use Rattle.fsmd_commands.specs.Shrunk.{ShowDifference, EndsIn}
-use Rattle.fsmd_commands.specs.Given.{given_contents}
+use Rattle.hls_shrink.specs.Shrunk.{ShowDifference, EndsIn}
+use Rattle.hls_shrink.specs.Given.{given_contents}
 use Rattle.fsmd_replies.specs.declared.answer.Status.TheVariants as statuses
 use Rattle.fsmd_replies.specs.declared.answer.Answer.{Answer}
 use Rattle.fsmd_replies.specs.declared.answer.Answer.TheVariants.{Differs}
-use Rattle.fsmd_commands.specs.LineAnswers.{HasLines}
+use Rattle.fsmd_answers.specs.LineAnswers.{HasLines}
 use Rattle.fsmd_replies.specs.AskedFiles.{operand, shrink_limit}
-use Rattle.fsmd_commands.specs.InputFiles.{HasInputFault, RefusesInputs, SpellsInputs}
-use Rattle.fsmd_commands.specs.Replays.{IsOfReplay, LeftStopped, RightStopped, Agreed, Differed}
-use Rattle.fsmd_commands.specs.Shrinks.{IsSmallText, IsOfShrink, Smaller, Replayed}
+use Rattle.fsmd_answers.specs.InputFiles.{HasInputFault, RefusesInputs, SpellsInputs}
+use Rattle.fsmd_answers.specs.Replays.{IsOfReplay, LeftStopped, RightStopped, Agreed, Differed}
+use Rattle.fsmd_answers.specs.Shrinks.{IsSmallText, IsOfShrink, Smaller, Replayed}
 use Rattle.fsmd_replies.specs.Replies.{lines_of}
-use Rattle.fsmd_commands.specs.Follows.{Ends, OpensInputs, OpensPair, FollowsFrom}
+use Rattle.fsmd_answers.specs.Follows.{Ends, OpensInputs, OpensPair, FollowsFrom}
 use Rattle.fsmd_tool.specs.Asking.{is_shrink}
-use Rattle.fsmd_commands.specs.Calls.{Call, IsCorrectFrom}
+use Rattle.fsmd_tool.specs.Calls.{Call, IsCorrectFrom}
 use Rattle.fsmd_tool.specs.SinkReplies.{Put}
 use Rattle.fsmd_tool.specs.Correct.{Answered}
 use Rattle.fsmd_tool.specs.Clauses.{IsShrunk}

@@ -14,21 +14,21 @@ use Rattle.fsmd_replies.specs.declared.answer.KeyFault.{KeyFault}
 use Rattle.fsmd_replies.specs.declared.answer.Answer.{Answer}
 use Rattle.fsmd_replies.specs.declared.answer.Answer.TheVariants.{Usage, Text}
 use Rattle.fsmd_replies.specs.Statuses.{status_of}
-use Rattle.fsmd_commands.specs.Readings.{FileContent, Unreadable}
-use Rattle.fsmd_commands.specs.Unread.{IsUnread, Failed, Long}
-use Rattle.fsmd_commands.specs.JsonKeys.{RefusesKeys, UnreadKeys, ByJson, ByKey}
-use Rattle.fsmd_commands.specs.Refusals.{RefusesMachine, Unread, ByText, ByRule, RefusesPair, RefusesCertificate, UnreadCertificate, ByCertificate}
+use Rattle.fsmd_answers.specs.Readings.{FileContent, Unreadable}
+use Rattle.fsmd_answers.specs.Unread.{IsUnread, Failed, Long}
+use Rattle.fsmd_answers.specs.JsonKeys.{RefusesKeys, UnreadKeys, ByJson, ByKey}
+use Rattle.fsmd_answers.specs.Refusals.{RefusesMachine, Unread, ByText, ByRule, RefusesPair, RefusesCertificate, UnreadCertificate, ByCertificate}
 use Rattle.hls_program_parts.specs.Programs.{Program}
-use Rattle.fsmd_commands.specs.ProgramFiles.{RefusesProgram, UnreadProgram, ProgramByText, ProgramByRule, IsOfProgram}
-use Rattle.fsmd_commands.specs.ScheduleFiles.{IsOfSchedule, IsOver, InRows}
-use Rattle.fsmd_commands.specs.BindingAnswers.{Binding}
-use Rattle.fsmd_commands.specs.BindingFiles.{IsOfBinding, IsBound, Loses}
-use Rattle.fsmd_commands.specs.ComparisonAnswers.{IsOfPair, Same, Apart, Open}
-use Rattle.fsmd_commands.specs.Verdicts.{answer_to}
-use Rattle.fsmd_commands.specs.RunAnswers.{IsOfRun, Ended, Stopped}
-use Rattle.fsmd_commands.specs.Replays.{IsOfReplay, LeftStopped, RightStopped, Agreed, Differed}
-use Rattle.fsmd_commands.specs.Shrinks.{IsOfShrink, Smaller, Replayed}
-use Rattle.fsmd_commands.specs.Links.{AtLink, IsOfChain}
+use Rattle.fsmd_answers.specs.ProgramFiles.{RefusesProgram, UnreadProgram, ProgramByText, ProgramByRule, IsOfProgram}
+use Rattle.fsmd_answers.specs.ScheduleFiles.{IsOfSchedule, IsOver, InRows}
+use Rattle.fsmd_answers.specs.BindingAnswers.{Binding}
+use Rattle.fsmd_answers.specs.BindingFiles.{IsOfBinding, IsBound, Loses}
+use Rattle.fsmd_answers.specs.ComparisonAnswers.{IsOfPair, Same, Apart, Open}
+use Rattle.fsmd_answers.specs.Verdicts.{answer_to}
+use Rattle.fsmd_answers.specs.RunAnswers.{IsOfRun, Ended, Stopped}
+use Rattle.fsmd_answers.specs.Replays.{IsOfReplay, LeftStopped, RightStopped, Agreed, Differed}
+use Rattle.fsmd_answers.specs.Shrinks.{IsOfShrink, Smaller, Replayed}
+use Rattle.fsmd_answers.specs.Links.{AtLink, IsOfChain}
 
 abbrev pub HasStatus : Status → Answer → Type 0
 HasStatus s x = status_of x ≡ s

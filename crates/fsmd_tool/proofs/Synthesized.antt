@@ -10,20 +10,20 @@ use Rattle.hls_program_parts.specs.Programs.{Program}
 use Rattle.fsmd_replies.specs.declared.answer.Status.TheVariants as statuses
 use Rattle.fsmd_replies.specs.declared.answer.Answer.{Answer}
 use Rattle.fsmd_replies.specs.declared.answer.Answer.TheVariants.{Text}
-use Rattle.fsmd_commands.specs.LineAnswers.{HasLines}
+use Rattle.fsmd_answers.specs.LineAnswers.{HasLines}
 use Rattle.fsmd_replies.specs.AskedFiles.{operand}
-use Rattle.fsmd_commands.specs.MachineFiles.{SpellsParts}
-use Rattle.fsmd_commands.specs.Refusals.{RefusesMachine}
-use Rattle.fsmd_commands.specs.ProgramFiles.{RefusesProgram, SpellsProgram, IsOfProgram}
-use Rattle.fsmd_commands.specs.ScheduleFiles.{HaveUnitFault, RefusesUnits, SpellUnits, IsOfSchedule, IsOver, InRows}
-use Rattle.fsmd_commands.specs.ProgramAnswers.{IsCompiledText}
-use Rattle.fsmd_commands.specs.ScheduleAnswers.{IsScheduleText}
-use Rattle.fsmd_commands.specs.BindingAnswers.{Binding, IsBoundText}
-use Rattle.fsmd_commands.specs.BindingFiles.{HasBindingFault, RefusesBinding, SpellsBinding, IsOfBinding, IsBound, Loses}
+use Rattle.fsmd_answers.specs.MachineFiles.{SpellsParts}
+use Rattle.fsmd_answers.specs.Refusals.{RefusesMachine}
+use Rattle.fsmd_answers.specs.ProgramFiles.{RefusesProgram, SpellsProgram, IsOfProgram}
+use Rattle.fsmd_answers.specs.ScheduleFiles.{HaveUnitFault, RefusesUnits, SpellUnits, IsOfSchedule, IsOver, InRows}
+use Rattle.fsmd_answers.specs.ProgramAnswers.{IsCompiledText}
+use Rattle.fsmd_answers.specs.ScheduleAnswers.{IsScheduleText}
+use Rattle.fsmd_answers.specs.BindingAnswers.{Binding, IsBoundText}
+use Rattle.fsmd_answers.specs.BindingFiles.{HasBindingFault, RefusesBinding, SpellsBinding, IsOfBinding, IsBound, Loses}
 use Rattle.fsmd_replies.specs.Replies.{lines_of}
-use Rattle.fsmd_commands.specs.Follows.{Ends, OpensParts, OpensProgram, OpensUnits, OpensBinding, FollowsFrom}
+use Rattle.fsmd_answers.specs.Follows.{Ends, OpensParts, OpensProgram, OpensUnits, OpensBinding, FollowsFrom}
 use Rattle.fsmd_tool.specs.Asking.{is_compile, is_schedule, is_bind}
-use Rattle.fsmd_commands.specs.Calls.{Call, IsCorrectFrom}
+use Rattle.fsmd_tool.specs.Calls.{Call, IsCorrectFrom}
 use Rattle.fsmd_tool.specs.SinkReplies.{Put}
 use Rattle.fsmd_tool.specs.Correct.{Answered}
 use Rattle.fsmd_tool.specs.Clauses.{IsCompiled, IsInRows, IsInRegisters}

@@ -3,14 +3,14 @@ use Rattle.std.specs.Prelude.{◌≡◌, ◌⊎◌, ℕ, List, length}
 use Rattle.fs_model.specs.Machines.{Fsmd}
 use Rattle.cert_bisimulation.specs.Tables.{Node}
 use Rattle.sym_facts.specs.Facts.{Fact}
-use Rattle.fsmd_commands.specs.Alike.{WhereAlike}
-use Rattle.fsmd_commands.specs.SearchTables.{machines}
-use Rattle.fsmd_commands.specs.SearchOutcomes.{IsClosedWith}
-use Rattle.fsmd_commands.specs.PairAnswers.{HasLimit}
+use Rattle.cert_bisimulation.specs.Alike.{WhereAlike}
+use Rattle.fsmd_replies.specs.SearchTables.{machines}
+use Rattle.fsmd_answers.specs.SearchOutcomes.{IsClosedWith}
+use Rattle.fsmd_answers.specs.PairAnswers.{HasLimit}
 use Rattle.fsmd_replies.specs.declared.answer.Status.{Status}
 use Rattle.fsmd_replies.specs.declared.answer.Status.TheVariants.{Fine, Differ, Undecided}
 use Rattle.fsmd_replies.specs.Replies.{equivalent_text}
-use Rattle.fsmd_commands.specs.Calls.{Call}
+use Rattle.fsmd_tool.specs.Calls.{Call}
 use Rattle.fsmd_tool.specs.SinkReplies.{Put}
 use Rattle.fsmd_tool.specs.Equivalent.{ArePairedMachines, HasPut}
 

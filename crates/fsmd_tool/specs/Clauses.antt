@@ -8,32 +8,32 @@ use Rattle.fs_model.specs.Source.{Source}
 use Rattle.fs_ast.specs.MachineOfParts.{machine_of}
 use Rattle.fs_pair.specs.Interfaces.{interface_fault}
 use Rattle.fs_trials.specs.Differences.{ShowsDifference}
-use Rattle.fsmd_commands.specs.Shrunk.{ShowDifference, EndsIn}
-use Rattle.fsmd_commands.specs.Given.{given_contents}
+use Rattle.hls_shrink.specs.Shrunk.{ShowDifference, EndsIn}
+use Rattle.hls_shrink.specs.Given.{given_contents}
 use Rattle.cert_bisimulation.specs.Tables.{Node}
 use Rattle.sym_facts.specs.Facts.{Fact}
 use Rattle.cert_model.specs.Obligations.{Yes, verdict_on}
-use Rattle.fsmd_commands.specs.WrittenCertificates.{certificate_text}
-use Rattle.fsmd_commands.specs.SearchTables.{machines}
-use Rattle.fsmd_commands.specs.Certificates.{IsCertificate}
-use Rattle.fsmd_commands.specs.PairAnswers.{ShowsSame, IsCounterexample, IsUndecided}
+use Rattle.fsmd_answers.specs.WrittenCertificates.{certificate_text}
+use Rattle.fsmd_replies.specs.SearchTables.{machines}
+use Rattle.fsmd_answers.specs.Certificates.{IsCertificate}
+use Rattle.fsmd_answers.specs.PairAnswers.{ShowsSame, IsCounterexample, IsUndecided}
 use Rattle.fsmd_replies.specs.AskedFiles.{operand, files_of, cert_of, step_limit, shrink_limit}
 use Rattle.hls_program_parts.specs.Programs.{Program}
 use Rattle.hls_unit_counts.specs.Counts.{Units}
-use Rattle.fsmd_commands.specs.ProgramAnswers.{IsCompiledText}
-use Rattle.fsmd_commands.specs.ScheduleAnswers.{IsScheduleText}
-use Rattle.fsmd_commands.specs.BindingAnswers.{Binding, IsBoundText}
-use Rattle.fsmd_commands.specs.MachineFiles.{SpellsParts, SpellsMachine}
-use Rattle.fsmd_commands.specs.ProgramFiles.{SpellsProgram}
-use Rattle.fsmd_commands.specs.ScheduleFiles.{SpellUnits}
-use Rattle.fsmd_commands.specs.BindingFiles.{SpellsBinding}
-use Rattle.fsmd_commands.specs.Refusals.{SpellsCertificate}
-use Rattle.fsmd_commands.specs.InputFiles.{SpellsInputs}
-use Rattle.fsmd_commands.specs.Shrinks.{IsSmallText}
-use Rattle.fsmd_commands.specs.Links.{links_of}
+use Rattle.fsmd_answers.specs.ProgramAnswers.{IsCompiledText}
+use Rattle.fsmd_answers.specs.ScheduleAnswers.{IsScheduleText}
+use Rattle.fsmd_answers.specs.BindingAnswers.{Binding, IsBoundText}
+use Rattle.fsmd_answers.specs.MachineFiles.{SpellsParts, SpellsMachine}
+use Rattle.fsmd_answers.specs.ProgramFiles.{SpellsProgram}
+use Rattle.fsmd_answers.specs.ScheduleFiles.{SpellUnits}
+use Rattle.fsmd_answers.specs.BindingFiles.{SpellsBinding}
+use Rattle.fsmd_answers.specs.Refusals.{SpellsCertificate}
+use Rattle.fsmd_answers.specs.InputFiles.{SpellsInputs}
+use Rattle.fsmd_answers.specs.Shrinks.{IsSmallText}
+use Rattle.fsmd_answers.specs.Links.{links_of}
 use Rattle.fsmd_replies.specs.Replies.{equivalent_text}
-use Rattle.fsmd_commands.specs.Calls.{Call, known_at_start, FailedToRead, MayHold}
-use Rattle.fsmd_commands.specs.HoldingLinks.{LinksHold}
+use Rattle.fsmd_tool.specs.Calls.{Call, known_at_start, FailedToRead, MayHold}
+use Rattle.fsmd_tool.specs.HoldingLinks.{LinksHold}
 use Rattle.fsmd_tool.specs.SinkReplies.{Put}
 use Rattle.fsmd_tool.specs.Equivalent.{ArePairedMachines, HasPut}
 use Rattle.fsmd_tool.specs.CertificateStores.{file_change, IsUnchangedStore, IsStoredUnder, IsUnstored}

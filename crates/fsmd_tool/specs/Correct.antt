@@ -6,8 +6,8 @@ use Rattle.fsmd_replies.specs.declared.answer.Status.TheVariants.{NoMemory, Faul
 use Rattle.fsmd_replies.specs.declared.answer.Answer.{Answer}
 use Rattle.fsmd_replies.specs.Statuses.{status_of}
 use Rattle.fsmd_replies.specs.Replies.{reply, unstored_reply}
-use Rattle.fsmd_commands.specs.Follows.{FollowsFrom}
-use Rattle.fsmd_commands.specs.Calls.{Call, LoadsFrom, IsCorrectFrom}
+use Rattle.fsmd_answers.specs.Follows.{FollowsFrom}
+use Rattle.fsmd_tool.specs.Calls.{Call, LoadsFrom, IsCorrectFrom}
 use Rattle.fsmd_tool.specs.SinkReplies.{Put, IsPut}
 use Rattle.fsmd_tool.specs.CertificateStores.{FileChange, file_change, IsUnchangedStore, IsStoredUnder, IsUnstored, FileToStore}
 use Rattle.fsmd_tool.specs.CertificateStores.{to_store, IsUnwritten}

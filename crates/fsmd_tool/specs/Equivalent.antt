@@ -6,10 +6,10 @@ use Rattle.fs_model.specs.Machines.{Fsmd}
 use Rattle.fs_model.specs.Runs.{SameBehaviour}
 use Rattle.fs_pair.specs.Interfaces.{interface_fault}
 use Rattle.fsmd_replies.specs.AskedFiles.{operand, is_check}
-use Rattle.fsmd_commands.specs.MachineFiles.{SpellsMachine}
-use Rattle.fsmd_commands.specs.ComparisonAnswers.{left_of, right_of}
+use Rattle.fsmd_answers.specs.MachineFiles.{SpellsMachine}
+use Rattle.fsmd_answers.specs.ComparisonAnswers.{left_of, right_of}
 use Rattle.fsmd_replies.specs.Replies.{opening_line, equivalent_text}
-use Rattle.fsmd_commands.specs.Calls.{Call, known_at_start, MayHold}
+use Rattle.fsmd_tool.specs.Calls.{Call, known_at_start, MayHold}
 use Rattle.fsmd_tool.specs.SinkReplies.{Put}
 
 -- two machines are compared: those that the first two files of a check spell, each where it is known what it holds, or those of

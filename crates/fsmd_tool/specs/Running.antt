@@ -6,7 +6,7 @@ use Rattle.fsmd_replies.specs.declared.answer.Status.{Status}
 use Rattle.fsmd_replies.specs.declared.answer.Status.TheVariants.{Fine, Differ, Undecided, NoMemory, Fault}
 use Rattle.fsmd_replies.specs.AskedFiles.{compares, is_verify}
 use Rattle.fsmd_tool.specs.Asking.{is_compile, is_schedule, is_bind, is_shrink, is_chain}
-use Rattle.fsmd_commands.specs.Calls.{Call, LoadsNamed}
+use Rattle.fsmd_tool.specs.Calls.{Call, LoadsNamed}
 use Rattle.fsmd_tool.specs.SinkReplies.{Put}
 use Rattle.fsmd_tool.specs.Correct.{Outcome}
 use Rattle.fsmd_tool.specs.Equivalent.{AreEquivalent}

@@ -1,17 +1,19 @@
-//! The top call of `fsmd`: what is put of an answer, and what is stored.
+//! The call of `fsmd`: loads its files, answers from what they spell, stores and puts.
 //!
-//! Promises: `drive`: all that is promised of a call; `run_words` and `run_program`: the program as a whole.
+//! Promises: `load`, `load_pair` and the other loads: what a file spells, or the answer that refuses it; `answer_command`: a
+//! correct answer, and just the files that it follows from were loaded, in order; `drive`: all that is promised of a call;
+//! `run_words` and `run_program`: the program as a whole.
 //!
-//! Rules: `specs/Equivalent`, `specs/Correct`, `specs/Clauses`, `specs/Running`, `specs/Asking`, `specs/CertificateStores`.
+//! Rules: `specs/Equivalent`, `specs/Correct`, `specs/Clauses`, `specs/Running`, `specs/Asking`, `specs/CertificateStores`,
+//! `specs/Calls`, `specs/Loading`, `specs/PairCommands`, `specs/HoldingLinks`.
 //!
 //! Words:
 //! - correct answer: an answer that the words and the files call for
 //! - outcome (of a call): a correct answer was put, or there was no memory
 #![tactic(auto)]
 
-pub mod drive;
+pub mod answer;
+pub mod load;
+pub mod memory;
 pub mod program;
 pub mod put;
-
-pub use fsmd_commands::{compare, judge, load, memory, pair, refused};
-pub use fsmd_replies::answer;

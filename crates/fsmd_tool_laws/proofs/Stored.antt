@@ -7,12 +7,12 @@ use Rattle.sym_facts.specs.Facts.{Fact}
 use Rattle.cert_writer.specs.CertificateLimits.{most_certificate_bytes}
 use Rattle.cert_text.specs.Refusals.{SpellsNodes}
 use Rattle.cert_writer.specs.WrittenCertificates.{certificate_text}
-use Rattle.fsmd_tool.specs.SearchTables.{machines}
+use Rattle.fsmd_replies.specs.SearchTables.{machines}
 use Rattle.search_laws.specs.Certificates.{IsCertificate}
 use Rattle.fsmd_replies.specs.declared.answer.Answer.{Answer}
 use Rattle.fsmd_replies.specs.declared.answer.Answer.TheVariants.{Text}
 use Rattle.fsmd_replies.specs.AskedFiles.{is_verify}
-use Rattle.fsmd_tool.specs.Refusals.{SpellsCertificate}
+use Rattle.fsmd_answers.specs.Refusals.{SpellsCertificate}
 use Rattle.fsmd_tool.specs.Calls.{Call}
 use Rattle.fsmd_tool.specs.Correct.{IsCorrectAnswer}
 use Rattle.fsmd_tool_laws.specs.Settled.{IsKnown, SpellPair}

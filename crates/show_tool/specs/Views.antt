@@ -3,7 +3,7 @@ use Rattle.std.specs.Prelude.{◌≡◌, ℕ, false, List, ◌++◌}
 use Rattle.fs_model.specs.Machines.{Fsmd}
 use Rattle.cert_bisimulation.specs.Tables.{Node}
 use Rattle.sym_facts.specs.Facts.{Fact}
-use Rattle.fsmd_tool.specs.SearchTables.{machines}
+use Rattle.fsmd_replies.specs.SearchTables.{machines}
 use Rattle.show_machine_pictures.specs.Pictures.{picture_of}
 use Rattle.show_search_views.specs.declared.why.Explanation.{Explanation}
 use Rattle.show_search_views.specs.Why.{IsExplanation, answer_behind}
@@ -12,11 +12,11 @@ use Rattle.show_inputs_text.specs.InputTexts.{ShowsDifferenceOf}
 use Rattle.show_search_views.specs.Demands.{obligation_lines}
 use Rattle.fsmd_replies.specs.declared.answer.Answer.{Answer}
 use Rattle.fsmd_replies.specs.declared.answer.Answer.TheVariants.{Text, Differs, Undecided}
-use Rattle.fsmd_tool.specs.LineAnswers.{HasLines}
-use Rattle.fsmd_tool.specs.ComparisonAnswers.{IsOfPair}
-use Rattle.fsmd_tool.specs.Verdicts.{IsJudged}
-use Rattle.fsmd_tool.specs.Readings.{Reading}
-use Rattle.fsmd_tool.specs.Follows.{Ends, OpensMachine, OpensPair, OpensCertificate}
+use Rattle.fsmd_answers.specs.LineAnswers.{HasLines}
+use Rattle.fsmd_answers.specs.ComparisonAnswers.{IsOfPair}
+use Rattle.fsmd_answers.specs.Verdicts.{IsJudged}
+use Rattle.fsmd_answers.specs.Readings.{Reading}
+use Rattle.fsmd_answers.specs.Follows.{Ends, OpensMachine, OpensPair, OpensCertificate}
 use Rattle.show_tool.specs.declared.views.PairView.{PairView}
 use Rattle.show_tool.specs.declared.views.PairView.TheVariants as pair_views
 use Rattle.show_words.specs.declared.asking.View.{View}

@@ -12,9 +12,9 @@ ghost use Rattle.show_tool.specs.ViewCalls.{shown_by_words, ViewOutcome, IsShown
 use crate::put::put_usage;
 use crate::views::answer_view;
 use fs_base::outside::{Files, Sink};
+use fsmd_answers::refused::answer_of;
 use fsmd_replies::answer::Status;
 use fsmd_tool::put::put_answer;
-use fsmd_tool::refused::answer_of;
 use fsmd_words::asking::AskError;
 use show_words::asking::Show;
 use show_words::words::show;

@@ -1,6 +1,6 @@
 use Rattle.std.proofs.Common.{◌∙◌, ap, drop}
 use Rattle.fsmd_tool.specs.Asking.{asked_by_words}
-use Rattle.fsmd_commands.specs.Calls.{call}
+use Rattle.fsmd_tool.specs.Calls.{call}
 use Rattle.fsmd_tool.specs.SinkReplies.{put_between}
 use Rattle.fsmd_tool.specs.Running.{IsDriven}
 use Rattle.fsmd_tool.proofs.Running.{if_ok, by_words}

@@ -1,5 +1,5 @@
 use Rattle.std.proofs.Common.{subst, false}
-use Rattle.fsmd_tool.specs.ComparisonAnswers.{IsOfPair}
+use Rattle.fsmd_answers.specs.ComparisonAnswers.{IsOfPair}
 use Rattle.show_tool.specs.Views.{Other}
 use Rattle.show_tool.proofs.answers.differing_machines.Goals as goal
 

@@ -1,8 +1,8 @@
 use Rattle.std.proofs.Common.{rules, Some}
 use Rattle.fsmd_words.specs.AskedWords.{asked_of_ask}
-use Rattle.fsmd_tool.specs.Refusing.{WhereAnswered}
+use Rattle.fsmd_answers.specs.Refusing.{WhereAnswered}
 use Rattle.fsmd_tool.specs.Calls.{call, IsCorrectFrom}
-use Rattle.fsmd_tool.specs.Follows.{Ends, OpensPair, OpensCertificate}
+use Rattle.fsmd_answers.specs.Follows.{Ends, OpensPair, OpensCertificate}
 use Rattle.fsmd_tool.proofs.FromFiles.{pair_refused, pair_spelled}
 use Rattle.fsmd_tool.proofs.InOrder.{correct_of}
 use Rattle.fsmd_tool.proofs.Later.{answers_since}

@@ -1,13 +1,13 @@
 use Rattle.std.proofs.Common.{rules, Some}
 use Rattle.fsmd_words.specs.AskedWords.{asked_of_ask}
-use Rattle.fsmd_tool.specs.Refusing.{WhereAnswered}
+use Rattle.fsmd_answers.specs.Refusing.{WhereAnswered}
 use Rattle.fsmd_tool.specs.Calls.{call, IsCorrectFrom}
 use Rattle.std.specs.Prelude.{List, map}
 use Rattle.cert_bisimulation.specs.Tables.{Node}
 use Rattle.sym_facts.specs.Facts.{Fact}
 use Rattle.cert_model.specs.View.{node_of}
-use Rattle.fsmd_tool.specs.Refusals.{RefusesCertificate, SpellsCertificate}
-use Rattle.fsmd_tool.specs.Follows.{Ends, OpensCertificate}
+use Rattle.fsmd_answers.specs.Refusals.{RefusesCertificate, SpellsCertificate}
+use Rattle.fsmd_answers.specs.Follows.{Ends, OpensCertificate}
 use Rattle.fsmd_tool.proofs.FromFiles.{refused_as, spelled_last}
 use Rattle.fsmd_tool.proofs.InOrder.{made_answers}
 use Rattle.show_tool.specs.Views.{IsOfCertificate}

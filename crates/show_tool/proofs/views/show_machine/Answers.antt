@@ -1,13 +1,13 @@
 use Rattle.std.proofs.Common.{◌≡◌, ◌∙◌, rules, ap, Some}
 use Rattle.fsmd_words.specs.AskedWords.{asked_of_ask}
-use Rattle.fsmd_tool.specs.Refusing.{WhereAnswered}
+use Rattle.fsmd_answers.specs.Refusing.{WhereAnswered}
 use Rattle.fsmd_tool.specs.Calls.{call, IsCorrectFrom}
 use Rattle.fs_model.specs.Machines.{Fsmd}
 use Rattle.show_machine_pictures.specs.Pictures.{picture_of}
 use Rattle.fsmd_replies.specs.declared.answer.Answer.TheVariants.{Text}
-use Rattle.fsmd_tool.specs.MachineFiles.{SpellsMachine}
-use Rattle.fsmd_tool.specs.Refusals.{RefusesMachine}
-use Rattle.fsmd_tool.specs.Follows.{Ends, OpensMachine}
+use Rattle.fsmd_answers.specs.MachineFiles.{SpellsMachine}
+use Rattle.fsmd_answers.specs.Refusals.{RefusesMachine}
+use Rattle.fsmd_answers.specs.Follows.{Ends, OpensMachine}
 use Rattle.fsmd_tool.proofs.FromFiles.{refused_as, spelled_last}
 use Rattle.show_tool.proofs.views.show_machine.Goals as goal
 

@@ -1,10 +1,10 @@
 use Rattle.std.proofs.Common.{rules, Some}
 use Rattle.fsmd_words.specs.AskedWords.{asked_of_ask}
-use Rattle.fsmd_tool.specs.Refusing.{WhereAnswered}
+use Rattle.fsmd_answers.specs.Refusing.{WhereAnswered}
 use Rattle.fsmd_tool.specs.Calls.{call, IsCorrectFrom}
 use Rattle.std.specs.Prelude.{Ok}
 use Rattle.show_tool.specs.Views.{IsOfPairView}
-use Rattle.fsmd_tool.specs.Follows.{Ends, OpensPair}
+use Rattle.fsmd_answers.specs.Follows.{Ends, OpensPair}
 use Rattle.fsmd_tool.proofs.FromFiles.{ended, pair_refused, pair_spelled}
 use Rattle.fsmd_tool.proofs.InOrder.{correct_of, made_answers}
 use Rattle.show_tool.proofs.views.show_pair.Goals as goal

@@ -1,6 +1,0 @@
-use Rattle.std.proofs.Common.{◌/◌, ap, string_bytes}
-use Rattle.fsmd_commands.proofs.Linked.{link_count_is}
-use Rattle.fsmd_commands.proofs.chain.link_count.Goals as goal
-
-pub returns-clause-links : goal.returns-clause-links
-returns-clause-links c = link_count_is string_bytes c.args.words.now _ (ap (λ i. i / 2) c.saturating_sub.ensures)

@@ -1,6 +1,0 @@
-use Rattle.std.proofs.Common.{◌∙◌, ap}
-use Rattle.fsmd_replies.specs.declared.answer.Answer.TheVariants.{Text}
-use Rattle.fsmd_machine_commands.proofs.machine.canonical_text.Goals as goal
-
-pub returns-in-Ok : goal.returns-in-Ok
-returns-in-Ok c = ap Text (c.of.ensures ∙ c.in-Ok.ensures.text)

@@ -1,0 +1,10 @@
+use Rattle.std.proofs.Common.{sym, subst}
+use Rattle.fs_base.specs.Outside.{AreHeld}
+use Rattle.fsmd_answers.specs.BindingFiles.{RefusesBinding}
+use Rattle.fsmd_tool.proofs.FromFiles.{bytes_given}
+use Rattle.fsmd_tool.proofs.load.load_binding.Goals as goal
+
+pub returns-clause-refused : goal.returns-clause-refused
+returns-clause-refused g c =
+    bytes_given _ _ c.as_slice.result.now (RefusesBinding c.args.machine.now c.args.file) c.read_binding.result
+    (subst (AreHeld _) (sym c.as_slice.ensures.value) c.in_ok-bytes.ensures.held) c.read_binding.ensures.refused

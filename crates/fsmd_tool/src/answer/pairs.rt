@@ -1,0 +1,166 @@
+//! What the commands of two machines answer, from their files.
+
+ghost use Rattle.std.specs.Prelude.{◌≡◌, None, ◌+◌, ◌≤◌, Some, IsTrue};
+ghost use Rattle.fsmd_words.specs.AskedWords.{asked_of_ask};
+ghost use Rattle.fs_pair.specs.Interfaces.{interface_fault};
+ghost use Rattle.fs_pair.specs.Positions.{positions};
+ghost use Rattle.hls_shrink.specs.Given.{has_no_input_port};
+ghost use Rattle.fsmd_answers.specs.Verdicts.{IsJudged};
+ghost use Rattle.fsmd_answers.specs.Replays.{IsOfReplay};
+ghost use Rattle.fsmd_answers.specs.Shrinks.{IsOfShrink};
+ghost use Rattle.fsmd_answers.specs.Follows.{Ends, OpensPair, OpensInputs, OpensCertificate};
+ghost use Rattle.fsmd_tool.specs.Calls.{call, OnlyRead, LoadsAtMost, IsCorrectInOrder, AnswersBy};
+ghost use Rattle.fsmd_tool.specs.PairCommands.{FollowsFor, files_behind, MayStep};
+
+use crate::load::{Pair, load_certificate, load_inputs, load_pair};
+use crate::memory::made_answer;
+use fs_ast::machine::Machine;
+use fs_base::outside::Files;
+use fs_pair::positions::Pairing;
+use fsmd_answers::compare::compare;
+use fsmd_answers::judge::judge;
+use fsmd_answers::refused::Refused;
+use fsmd_answers::runs::replay_machines;
+use fsmd_answers::shrinks::shrink_inputs;
+use fsmd_replies::answer::{Answer, Operand};
+use fsmd_words::asking::Ask;
+use std::alloc::Global;
+
+/// A command on two machines with the same inputs and outputs.
+#[derive(Clone, Copy)]
+pub enum PairCommand {
+    /// What they get, of runs of at most so many steps, with the text of the certificate where `keeps` says so.
+    Check { steps: u64, keeps: bool },
+    /// Whether a certificate shows that they have the same behaviour.
+    Verify,
+    /// The ends of their runs of at most so many steps from the same inputs.
+    Replay { steps: u64 },
+    /// Small inputs that still show a difference of them within so many steps, where those of the file show one, and else what
+    /// `Replay` answers.
+    Shrink { steps: u64 },
+}
+
+// What a certificate of two machines answers to the file that spells it.
+fn verify_from<F: Files>(
+    alloc: Global,
+    ask: &Ask,
+    left: &Machine,
+    right: &Machine,
+    pairing: &Pairing,
+    files: &mut F,
+) -> Result<Answer, Refused>
+    requires paired { pairing.now ≡ positions left.now right.now }
+    requires alike { interface_fault left.now right.now ≡ None }
+    ensures answers { AnswersBy
+        (IsCorrectInOrder (OpensCertificate left.now right.now (λ nodes. Ends (IsJudged left.now right.now nodes)))
+        2 (call (Some (asked_of_ask ask.now)) (F.told files.old) (F.told files.new))) result }
+    ensures only_read { OnlyRead (F.told files.old) (F.told files.new) }
+    ensures at_most { LoadsAtMost (Some (asked_of_ask ask.now)) 2 1 (F.told files.old) (F.told files.new) }
+{
+    match load_certificate(alloc, Operand(2), ask, left, right, pairing, files) {
+        Ok(cert) => made_answer(judge(alloc, left, right, pairing, &cert)),
+        Err(refused) => Err(refused),
+    }
+}
+
+// What runs of two machines with the same interface answer to the file of their inputs.
+fn replay_from<F: Files>(
+    alloc: Global,
+    ask: &Ask,
+    left: &Machine,
+    right: &Machine,
+    steps: u64,
+    files: &mut F,
+) -> Result<Answer, Refused>
+    requires alike { interface_fault left.now right.now ≡ None }
+    requires steps { 1 ≤ steps }
+    ensures answers { AnswersBy (IsCorrectInOrder (OpensInputs left.now (λ ins. Ends (IsOfReplay steps left.now right.now ins))) 2
+        (call (Some (asked_of_ask ask.now)) (F.told files.old) (F.told files.new))) result }
+    ensures only_read { OnlyRead (F.told files.old) (F.told files.new) }
+    ensures at_most { LoadsAtMost (Some (asked_of_ask ask.now)) 2 1 (F.told files.old) (F.told files.new) }
+{
+    match load_inputs(alloc, Operand(2), ask, left, files) {
+        Ok(inputs) => made_answer(replay_machines(alloc, left, right, &inputs, steps)),
+        Err(refused) => Err(refused),
+    }
+}
+
+// What two machines with the same interface answer to the file of inputs that are to be made small.
+fn shrink_from<F: Files>(
+    alloc: Global,
+    ask: &Ask,
+    pair: &Pair,
+    steps: u64,
+    files: &mut F,
+) -> Result<Answer, Refused>
+    requires ports { IsTrue (has_no_input_port pair.now.left) }
+    requires alike { interface_fault pair.now.left pair.now.right ≡ None }
+    requires steps { 1 ≤ steps }
+    ensures answers { AnswersBy (IsCorrectInOrder
+        (OpensInputs pair.now.left (λ ins. Ends (IsOfShrink steps pair.now.left pair.now.right ins))) 2
+        (call (Some (asked_of_ask ask.now)) (F.told files.old) (F.told files.new))) result }
+    ensures only_read { OnlyRead (F.told files.old) (F.told files.new) }
+    ensures at_most { LoadsAtMost (Some (asked_of_ask ask.now)) 2 1 (F.told files.old) (F.told files.new) }
+{
+    let Pair {
+        left,
+        right,
+        pairing,
+    } = pair;
+    match load_inputs(alloc, Operand(2), ask, left, files) {
+        Ok(inputs) => made_answer(shrink_inputs(alloc, left, right, pairing, &inputs, steps)),
+        Err(refused) => Err(refused),
+    }
+}
+
+// What a command answers to two machines with the same inputs and outputs, from the files behind theirs.
+fn answer_pair<F: Files>(
+    alloc: Global,
+    ask: &Ask,
+    command: PairCommand,
+    pair: &Pair,
+    files: &mut F,
+) -> Result<Answer, Refused>
+    requires steps { MayStep command }
+    requires paired { pair.now.pairing ≡ positions pair.now.left pair.now.right }
+    requires alike { interface_fault pair.now.left pair.now.right ≡ None }
+    requires ports { IsTrue (has_no_input_port pair.now.left) }
+    ensures answers { AnswersBy (IsCorrectInOrder (FollowsFor command pair.now.left pair.now.right) 2
+        (call (Some (asked_of_ask ask.now)) (F.told files.old) (F.told files.new))) result }
+    ensures only_read { OnlyRead (F.told files.old) (F.told files.new) }
+    ensures at_most { LoadsAtMost (Some (asked_of_ask ask.now)) 2 (files_behind command) (F.told files.old) (F.told files.new) }
+{
+    let Pair {
+        left,
+        right,
+        pairing,
+    } = pair;
+    match command {
+        PairCommand::Check { steps, keeps } => made_answer(compare(
+            alloc, left, right, pairing, steps, keeps,
+        )),
+        PairCommand::Verify => verify_from(alloc, ask, left, right, pairing, files),
+        PairCommand::Replay { steps } => replay_from(alloc, ask, left, right, steps, files),
+        PairCommand::Shrink { steps } => shrink_from(alloc, ask, pair, steps, files),
+    }
+}
+
+/// What a command on two machines answers: of their files, which are loaded first, and of the one behind them, where it has one.
+pub fn pair_files<F: Files>(
+    alloc: Global,
+    ask: &Ask,
+    command: PairCommand,
+    files: &mut F,
+) -> Result<Answer, Refused>
+    requires { MayStep command }
+    ensures answers { AnswersBy (IsCorrectInOrder (OpensPair (FollowsFor command)) 0
+        (call (Some (asked_of_ask ask.now)) (F.told files.old) (F.told files.new))) result }
+    ensures only_read { OnlyRead (F.told files.old) (F.told files.new) }
+    ensures at_most { LoadsAtMost (Some (asked_of_ask ask.now)) 0 (2 + files_behind command)
+        (F.told files.old) (F.told files.new) }
+{
+    match load_pair(alloc, ask, files) {
+        Ok(pair) => answer_pair(alloc, ask, command, &pair, files),
+        Err(refused) => Err(refused),
+    }
+}
