@@ -1,5 +1,5 @@
 -- What is correct, from what was loaded.
-use Rattle.std.proofs.Common.{◌≡◌, ◌<◌, ◌+◌, ℕ, List, [], ◌∷◌, length, refl, subst, arith}
+use Rattle.std.proofs.Common.{◌∙◌, ◌≡◌, ◌<◌, ◌+◌, ℕ, List, [], ◌∷◌, length, refl, subst, arith}
 use Rattle.std.specs.Prelude.{Result, Ok, Err, IfOk, None, replicate}
 use Rattle.std.proofs.lemmas.List.{length-replicate}
 use Rattle.std.specs.Result.{IfErr}
@@ -60,6 +60,14 @@ compiled_held k bytes r m h = ok_map (IsOfProgramIn bytes) (λ x. MayHold k (λ 
 -- a file of loaded parts spells these parts
 pub parts_held : (k : FileKnowledge) (parts : Source) (m : Fsmd) → MayHold k (IsLoaded parts m) → MayHold k (SpellsParts parts)
 parts_held k parts m h = record { bytes = h.bytes; may = h.may; meet = h.meet.spells }
+
+-- a file of a loaded machine spells this machine
+pub machine_held : (k : FileKnowledge) (parts : Source) (loaded m : Fsmd) → m ≡ loaded → MayHold k (IsLoaded parts loaded) → MayHold k (SpellsMachine m)
+machine_held k parts loaded m e h = record {
+  bytes = h.bytes;
+  may = h.may;
+  meet = record { parts = parts; spells = h.meet.spells; machine = e ∙ h.meet.machine };
+}
 
 -- ---- files one after another
 

@@ -14,4 +14,5 @@ pub mod Causes
 pub mod LaterStores
 pub mod Putting
 pub mod AlikeMachines
+pub mod Driven
 pub mod Running

@@ -79,7 +79,3 @@ at_most_until o n most old mid new e h = record { count = h.count; within = h.wi
 pub loads_named : (o w : Option Asked) (k : ℕ) (old new : FilesTold) → o ≡ w → k ≤ length (files_of w) → LoadsAtMost o 0 k old new
     → LoadsNamed (call o old new)
 loads_named o w k old new e within h = fewer o 0 k (length (files_of o)) old new (subst (λ v. k ≤ length (files_of v)) (sym e) within) h
-
--- and of those that the words ask
-pub named_by_words : (o w : Option Asked) (old new : FilesTold) → w ≡ o → LoadsNamed (call o old new) → LoadsNamed (call w old new)
-named_by_words o w old new e h = subst (λ v. LoadsNamed (call v old new)) (sym e) h

@@ -14,11 +14,10 @@ use Rattle.fsmd_replies.specs.Replies.{reply, unstored_reply}
 use Rattle.fsmd_answers.specs.Follows.{FollowsFrom}
 use Rattle.fsmd_tool.specs.Calls.{call, OnlyRead, IsCorrectInOrder}
 use Rattle.fsmd_tool.specs.SinkReplies.{Put, IsPut}
-use Rattle.fsmd_tool.specs.CertificateStores.{FileChange, file_change, IsUnstored, FileToStore, to_store, Leaves, NotStored, Untouched}
-use Rattle.fsmd_tool.specs.CertificateStores.{Failed}
-use Rattle.fsmd_tool.specs.CertificateStores.{IsUnwritten, NoneWritten, WriteFailed}
-use Rattle.fsmd_tool.specs.Correct.{IsCorrectAnswer, IsDone, IsDoneFor, Kept, Unstored, Answered}
-use Rattle.fsmd_tool.specs.Clauses.{KeepsFiles}
+use Rattle.fsmd_tool.specs.CertificateStores.{FileChange, file_change, IsUnstored, FileToStore, to_store, to_store_given, Leaves, NotStored, Untouched}
+use Rattle.fsmd_tool.specs.CertificateStores.{Failed, LeftAlone, LeftStored, LeftUnstored, IsUnwritten, NoneWritten, WriteFailed}
+use Rattle.fsmd_tool.specs.Correct.{IsDone, IsDoneFor, IsDoneForGiven, Kept, Unstored, Answered}
+use Rattle.fsmd_tool.specs.Clauses.{KeepsFiles, AllKept}
 use Rattle.fsmd_tool.proofs.Loads.{loads_until}
 use Rattle.fsmd_tool.proofs.InOrder.{ended_in_order}
 use Rattle.fsmd_tool.proofs.Later.{read_map, each_until, correct_until}
@@ -26,21 +25,11 @@ use Rattle.fsmd_tool.proofs.LaterStores.{done_since, leaves_since, not_stored_si
 use Rattle.fsmd_tool.proofs.Causes.{entry_named}
 use Rattle.fsmd_tool.proofs.Says.{keeps_files}
 
--- words that ask nothing are answered how the program is used
-usage : (o : Option Asked) (t : FilesTold) → o ≡ None → IsCorrectInOrder (FollowsFrom o) 0 (call o t t) Usage
-usage o t e = subst (λ w. IsCorrectInOrder (FollowsFrom w) 0 (call w t t) Usage) (sym e) (ended_in_order (λ answer. answer ≡ Usage) 0 None t Usage refl)
-
-pub answers_usage : {E : Type 0} (o : Option Asked) (files : FilesTold) (r : Result Status E) (p : Status → Put) → o ≡ None
-    → IfOk r (λ t. IsPut (reply Usage None) (status_of Usage) (p t)) → IfOk r (λ t. Answered (call o files files) (p t))
-answers_usage o files (Ok t) p e put =
-    let c = usage o files e in
-    record {
-      answer = Usage;
-      correct = c.correct;
-      loads = c.loads;
-      done = subst (λ w. IsDoneFor w Usage (file_change files files) (p t)) (sym e) (Kept refl (λ name. refl) put);
-    }
-answers_usage o files (Err x) p e put = tt
+-- how the program is used was put, where the words ask nothing
+pub answers_usage : (files : FilesTold) (p : Put) → IsPut (reply Usage None) (status_of Usage) p → Answered (call None files files) p
+answers_usage files p put =
+    let c = ended_in_order (λ answer. answer ≡ Usage) 0 None files Usage refl in
+    record { answer = Usage; correct = c.correct; loads = c.loads; done = Kept refl (λ name. refl) put }
 
 pub on_err : {T E : Type 0} (r : Result T E) (P : Type 0) → P → OnErr r P
 on_err (Ok t) P h = tt
@@ -52,12 +41,26 @@ pub unstored : {E : Type 0} (x : FileToStore) (reply : List ℕ) (meant : Status
 unstored x reply meant s (Ok t) p u put = Unstored x refl u put
 unstored x reply meant s (Err e) p u put = tt
 
+-- what was done for an answer that is given
+pub done_given : {E : Type 0} (o : Option Asked) (given : Option Answer) (answer : Answer) (s : FileChange) (r : Result Status E) (p : Status → Put)
+    → given ≡ Some answer → IfOk r (λ t. IsDoneFor o answer s (p t)) → IfOk r (λ t. IsDoneForGiven o given s (p t))
+done_given o given answer s (Ok t) p e done = record { answer = answer; is = e; done = done }
+done_given o given answer s (Err x) p e done = tt
+
+-- what became of what is to be stored of it
+pub leaves_given : (o : Option Asked) (given : Option Answer) (answer : Answer) (s : FileChange) → given ≡ Some answer → Leaves (to_store o answer) s
+    → Leaves (to_store_given o given) s
+leaves_given o given answer s e l = subst (λ x. Leaves (to_store_given o x) s) (sym e) l
+
+pub not_stored_given : {T E : Type 0} (o : Option Asked) (given : Option Answer) (answer : Answer) (s : FileChange) (r : Result T E) → given ≡ Some answer
+    → OnErr r (NotStored (to_store o answer) s) → OnErr r (NotStored (to_store_given o given) s)
+not_stored_given o given answer s r e n = subst (λ x. OnErr r (NotStored (to_store_given o x) s)) (sym e) n
+
 -- what was put of an answer, over files that were loaded before
-pub answered : {E : Type 0} (o : Option Asked) (old mid now : FilesTold) (answer : Answer) (r : Result Status E) (p : Status → Put) → OnlyRead old mid
-    → NoneFell mid.faults now.faults → now.loaded ≡ mid.loaded
-    → IsCorrectInOrder (FollowsFrom o) 0 (call o old mid) answer → IfOk r (λ t. IsDoneFor o answer (file_change mid now) (p t))
-    → IfOk r (λ t. Answered (call o old now) (p t))
-answered o old mid now answer (Ok t) p read fell same correct done = record {
+pub answered : (o : Option Asked) (old mid now : FilesTold) (answer : Answer) (p : Put) → OnlyRead old mid → NoneFell mid.faults now.faults
+    → now.loaded ≡ mid.loaded → IsCorrectInOrder (FollowsFrom o) 0 (call o old mid) answer → IsDoneFor o answer (file_change mid now) p
+    → Answered (call o old now) p
+answered o old mid now answer p read fell same correct done = record {
   answer = answer;
   correct = record {
     reading = correct.correct.reading;
@@ -65,33 +68,29 @@ answered o old mid now answer (Ok t) p read fell same correct done = record {
     follows = correct.correct.follows;
   };
   loads = loads_until o 0 (length correct.correct.reading) old mid now same correct.loads;
-  done = done_since (to_store o answer) (reply answer o) (status_of answer) old mid now (p t) read done;
+  done = done_since (to_store o answer) (reply answer o) (status_of answer) old mid now p read done;
 }
-answered o old mid now answer (Err x) p read fell same correct done = tt
 
-pub keeps : (o : Option Asked) (old mid now : FilesTold) (answer : Answer) → OnlyRead old mid → NoneFell mid.faults now.faults
-    → IsCorrectAnswer (call o old mid) answer → Leaves (to_store o answer) (file_change mid now) → KeepsFiles (call o old now)
-keeps o old mid now answer read fell correct leaves =
-    keeps_files (call o old now) answer (correct_until o old mid now read.counts fell (FollowsFrom o) 0 answer correct)
+kept_alone : (o : Option Asked) (old now : FilesTold) → Leaves None (file_change old now) → KeepsFiles (call o old now)
+kept_alone o old now (LeftAlone k) = AllKept k
+kept_alone o old now (LeftStored x e k) = absurd (let h : None ≡ Some x = e in cc)
+kept_alone o old now (LeftUnstored x e k) = absurd (let h : None ≡ Some x = e in cc)
+
+-- no file was changed but for an answer that is given and correct
+pub keeps : (o : Option Asked) (old mid now : FilesTold) (given : Option Answer) → OnlyRead old mid → NoneFell mid.faults now.faults
+    → ((answer : Answer) → given ≡ Some answer → IsCorrectInOrder (FollowsFrom o) 0 (call o old mid) answer)
+    → Leaves (to_store_given o given) (file_change mid now) → KeepsFiles (call o old now)
+keeps o old mid now (Some answer) read fell correct leaves =
+    keeps_files (call o old now) answer (correct_until o old mid now read.counts fell (FollowsFrom o) 0 answer (correct answer refl).correct)
     (leaves_since (to_store o answer) old mid now read leaves)
+keeps o old mid now None read fell correct leaves = kept_alone o old now (leaves_since None old mid now read leaves)
 
 -- nothing that the words ask to be stored was
-unwritten_of : (o : Option Asked) (answer : Answer) (s : FileChange) → NotStored (to_store o answer) s → IsUnwritten o s
-unwritten_of o answer s (Untouched k) = NoneWritten k
-unwritten_of o answer s (Failed x e u) = WriteFailed x.name (entry_named (cert_of o) (certificate_in answer) x e) u
+unwritten_of : (o : Option Asked) (given : Option Answer) (s : FileChange) → NotStored (to_store_given o given) s → IsUnwritten o s
+unwritten_of o given s (Untouched k) = NoneWritten k
+unwritten_of o (Some answer) s (Failed x e u) = WriteFailed x.name (entry_named (cert_of o) (certificate_in answer) x e) u
+unwritten_of o None s (Failed x e u) = absurd (let h : None ≡ Some x = e in cc)
 
-pub unwritten : {T E : Type 0} (o : Option Asked) (old mid now : FilesTold) (answer : Answer) (r : Result T E) → OnlyRead old mid
-    → OnErr r (NotStored (to_store o answer) (file_change mid now)) → OnErr r (IsUnwritten o (file_change old now))
-unwritten o old mid now answer (Ok t) read n = tt
-unwritten o old mid now answer (Err e) read n = unwritten_of o answer (file_change old now) (not_stored_since (to_store o answer) old mid now read n)
-
-pub unwritten_to_words : {T E : Type 0} (o w : Option Asked) (s : FileChange) (r : Result T E) → w ≡ o → OnErr r (IsUnwritten o s) → OnErr r (IsUnwritten w s)
-unwritten_to_words o w s r e h = subst (λ v. OnErr r (IsUnwritten v s)) (sym e) h
-
--- what is answered to what words ask
-pub to_words : {E : Type 0} (o w : Option Asked) (before now : FilesTold) (r : Result Status E) (p : Status → Put) → w ≡ o
-    → IfOk r (λ t. Answered (call o before now) (p t)) → IfOk r (λ t. Answered (call w before now) (p t))
-to_words o w before now r p e a = subst (λ k. IfOk r (λ t. Answered (call k before now) (p t))) (sym e) a
-
-pub keeps_to_words : (o w : Option Asked) (before now : FilesTold) → w ≡ o → KeepsFiles (call o before now) → KeepsFiles (call w before now)
-keeps_to_words o w before now e k = subst (λ v. KeepsFiles (call v before now)) (sym e) k
+pub unwritten : (o : Option Asked) (old mid now : FilesTold) (given : Option Answer) → OnlyRead old mid
+    → NotStored (to_store_given o given) (file_change mid now) → IsUnwritten o (file_change old now)
+unwritten o old mid now given read n = unwritten_of o given (file_change old now) (not_stored_since (to_store_given o given) old mid now read n)

@@ -7,14 +7,6 @@ use Rattle.fsmd_replies.specs.AskedFiles.{compares, is_verify}
 abbrev pub asked_by_words : {A : Type 0} → List (String A) → Option Asked
 asked_by_words words = asked_of (map string_bytes words)
 
--- the words ask to compare two machines, of files or generated
-abbrev pub AskToCompare : {A : Type 0} → List (String A) → Type 0
-AskToCompare words = IsTrue (compares (asked_by_words words))
-
--- the words ask to check a certificate
-abbrev pub AskToVerify : {A : Type 0} → List (String A) → Type 0
-AskToVerify words = IsTrue (is_verify (asked_by_words words))
-
 -- a program is to be compiled
 abbrev pub is_compile : Option Asked → Bool
 is_compile (Some (Compile program)) = true
@@ -40,22 +32,30 @@ abbrev pub is_chain : Option Asked → Bool
 is_chain (Some (Chain files)) = true
 is_chain _ = false
 
--- the words ask to compile a program
-abbrev pub AskToCompile : {A : Type 0} → List (String A) → Type 0
-AskToCompile words = IsTrue (is_compile (asked_by_words words))
+-- it is asked to compare two machines, of files or generated
+abbrev pub AskToCompare : Option Asked → Type 0
+AskToCompare o = IsTrue (compares o)
 
--- the words ask to schedule a machine
-abbrev pub AskToSchedule : {A : Type 0} → List (String A) → Type 0
-AskToSchedule words = IsTrue (is_schedule (asked_by_words words))
+-- it is asked to check a certificate
+abbrev pub AskToVerify : Option Asked → Type 0
+AskToVerify o = IsTrue (is_verify o)
 
--- the words ask to bind a machine
-abbrev pub AskToBind : {A : Type 0} → List (String A) → Type 0
-AskToBind words = IsTrue (is_bind (asked_by_words words))
+-- it is asked to compile a program
+abbrev pub AskToCompile : Option Asked → Type 0
+AskToCompile o = IsTrue (is_compile o)
 
--- the words ask to make inputs small
-abbrev pub AskToShrink : {A : Type 0} → List (String A) → Type 0
-AskToShrink words = IsTrue (is_shrink (asked_by_words words))
+-- it is asked to schedule a machine
+abbrev pub AskToSchedule : Option Asked → Type 0
+AskToSchedule o = IsTrue (is_schedule o)
 
--- the words ask to check a chain
-abbrev pub AskToChain : {A : Type 0} → List (String A) → Type 0
-AskToChain words = IsTrue (is_chain (asked_by_words words))
+-- it is asked to bind a machine
+abbrev pub AskToBind : Option Asked → Type 0
+AskToBind o = IsTrue (is_bind o)
+
+-- it is asked to make inputs small
+abbrev pub AskToShrink : Option Asked → Type 0
+AskToShrink o = IsTrue (is_shrink o)
+
+-- it is asked to check a chain
+abbrev pub AskToChain : Option Asked → Type 0
+AskToChain o = IsTrue (is_chain o)

@@ -53,6 +53,11 @@ file_to_store_of (Some name) (Some bytes) = Some (file_to_store name bytes)
 abbrev pub to_store : Option Asked → Answer → Option FileToStore
 to_store o answer = file_to_store_of (cert_of o) (certificate_in answer)
 
+-- the same of an answer, where there is one
+abbrev pub to_store_given : Option Asked → Option Answer → Option FileToStore
+to_store_given o None = None
+to_store_given o (Some answer) = to_store o answer
+
 -- what became of what was to be stored, if anything was
 pub data Leaves (e : Option FileToStore) (s : FileChange) : Type 0 where
   LeftAlone : IsUnchangedStore s → Leaves e s

@@ -28,6 +28,12 @@ pub data IsDone (e : Option FileToStore) (reply : List ℕ) (meant : Status) (s 
 abbrev pub IsDoneFor : Option Asked → Answer → FileChange → Put → Type 0
 IsDoneFor o answer s p = IsDone (to_store o answer) (reply answer o) (status_of answer) s p
 
+-- there is an answer, and this was done for it
+pub record IsDoneForGiven (o : Option Asked) (given : Option Answer) (s : FileChange) (p : Put) : Type 0 where
+  pub answer : Answer
+  pub is : given ≡ Some answer
+  pub done : IsDoneFor o answer s p
+
 -- a correct answer was put, and its certificate stored where that is asked. Just the files that were opened for it were
 -- loaded, in order: none behind them, and no other
 pub record Answered (g : Call) (p : Put) : Type 0 where

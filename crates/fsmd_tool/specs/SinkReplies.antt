@@ -1,8 +1,8 @@
 -- What a sink got of a reply.
-use Rattle.std.specs.Prelude.{◌≡◌, ℕ, ◌<◌, List, length, take, Option}
+use Rattle.std.specs.Prelude.{◌≡◌, ℕ, ◌<◌, List, length, take, Option, Result, Ok, Err}
 use Rattle.fs_base.specs.Outside.{SinkTold, Rose, got_after}
 use Rattle.fsmd_replies.specs.declared.answer.Status.{Status}
-use Rattle.fsmd_replies.specs.declared.answer.Status.TheVariants.{Fault}
+use Rattle.fsmd_replies.specs.declared.answer.Status.TheVariants.{Fault, NoMemory}
 
 -- a status, and what a sink got and how often it had failed before and at the end
 pub record Put : Type 0 where
@@ -39,3 +39,8 @@ pub record IsPartialPut (reply : List ℕ) (p : Put) : Type 0 where
 pub data IsPut (reply : List ℕ) (meant : Status) (p : Put) : Type 0 where
   Whole : IsWhole reply meant p → IsPut reply meant p
   Cut : IsPartialPut reply p → IsPut reply meant p
+
+-- how a call ends, by the status that was put, or that there was no memory
+abbrev pub end_status : {E : Type 0} → Result Status E → Status
+end_status (Ok status) = status
+end_status (Err error) = NoMemory

@@ -12,8 +12,9 @@ ghost use Rattle.fsmd_tool.specs.Calls.{call, OnlyRead, LoadsNamed, IsCorrectInO
 
 use crate::answer::chains::chain_files;
 use crate::answer::machines::{cut_paths, format_text, run_files};
-use crate::answer::pairs::{PairCommand, pair_files};
+use crate::answer::pairs::{PairCommand, answer_pair};
 use crate::answer::synthesis::{bind_files, compile_file, schedule_files};
+use crate::load::load_pair;
 use crate::memory::made_answer;
 use fs_base::outside::Files;
 use fsmd_answers::generated::compare_generated;
@@ -27,7 +28,7 @@ use std::alloc::Global;
 ///
 /// `Answered` comes where a file is refused or cannot be loaded, with the answer that is then given; it is correct too.
 /// `NoMemory`: out of memory.
-pub fn answer_command<F: Files>(alloc: Global, ask: &Ask, files: &mut F) -> Result<Answer, Refused>
+pub fn answer<F: Files>(alloc: Global, ask: &Ask, files: &mut F) -> Result<Answer, Refused>
     requires { IsWithinLimits (asked_of_ask ask.now) }
     ensures answers { AnswersBy (IsCorrectInOrder (FollowsFrom (Some (asked_of_ask ask.now))) 0
         (call (Some (asked_of_ask ask.now)) (F.told files.old) (F.told files.new))) result }
@@ -40,14 +41,21 @@ pub fn answer_command<F: Files>(alloc: Global, ask: &Ask, files: &mut F) -> Resu
                 steps: *steps,
                 keeps: cert.is_some(),
             };
-            pair_files(alloc, ask, command, files)
+            answer_pair(alloc, ask, command, load_pair(alloc, ask, files), files)
         }
-        Ask::Verify { .. } => pair_files(alloc, ask, PairCommand::Verify, files),
+        Ask::Verify { .. } => answer_pair(
+            alloc,
+            ask,
+            PairCommand::Verify,
+            load_pair(alloc, ask, files),
+            files,
+        ),
         Ask::Run { steps, .. } => run_files(alloc, ask, *steps, files),
-        Ask::Replay { steps, .. } => pair_files(
+        Ask::Replay { steps, .. } => answer_pair(
             alloc,
             ask,
             PairCommand::Replay { steps: *steps },
+            load_pair(alloc, ask, files),
             files,
         ),
         Ask::Fmt { .. } => format_text(alloc, ask, files),
@@ -56,10 +64,11 @@ pub fn answer_command<F: Files>(alloc: Global, ask: &Ask, files: &mut F) -> Resu
         Ask::Compile { .. } => compile_file(alloc, ask, files),
         Ask::Schedule { .. } => schedule_files(alloc, ask, files),
         Ask::Bind { .. } => bind_files(alloc, ask, files),
-        Ask::Shrink { steps, .. } => pair_files(
+        Ask::Shrink { steps, .. } => answer_pair(
             alloc,
             ask,
             PairCommand::Shrink { steps: *steps },
+            load_pair(alloc, ask, files),
             files,
         ),
         Ask::Chain { files: words } => chain_files(alloc, ask, words.as_slice(), files),

@@ -90,26 +90,6 @@ pub fn load<F: Files>(
     read_machine(alloc, file, bytes.as_slice())
 }
 
-/// The machine that a file spells, or the answer that refuses the file.
-pub fn load_machine<F: Files>(
-    alloc: Global,
-    file: Operand,
-    ask: &Ask,
-    files: &mut F,
-) -> Result<Machine, Refused>
-    ensures spells { IfOk result
-        (λ m. MayHold ((F.told files.old).holds (file_word_of (Some (asked_of_ask ask.now)) file)) (SpellsMachine m)) }
-    ensures refused { IfErr result
-        (WhereAnswered
-        (GivesContent (call (Some (asked_of_ask ask.now)) (F.told files.old) (F.told files.new)) file (RefusesMachine file))) }
-    ensures only_read { OnlyRead (F.told files.old) (F.told files.new) }
-    ensures loads { LoadsFrom (Some (asked_of_ask ask.now)) file.0 1 (F.told files.old) (F.told files.new) }
-    ensures at_most { LoadsAtMost (Some (asked_of_ask ask.now)) file.0 1 (F.told files.old) (F.told files.new) }
-{
-    let Loaded { machine, .. } = load(alloc, file, ask, files)?;
-    Ok(machine)
-}
-
 /// The inputs of a machine that a file spells, or the answer that refuses the file.
 pub fn load_inputs<F: Files>(
     alloc: Global,
@@ -273,7 +253,7 @@ pub fn load_next<F: Files>(
     ensures loads { LoadsFrom (Some (asked_of_ask ask.now)) file.0 1 (F.told files.old) (F.told files.new) }
     ensures at_most { LoadsAtMost (Some (asked_of_ask ask.now)) file.0 1 (F.told files.old) (F.told files.new) }
 {
-    let machine = load_machine(alloc, file, ask, files)?;
+    let Loaded { machine, .. } = load(alloc, file, ask, files)?;
     let pairing = pairing_of(alloc, left, &machine)?;
     Ok(Next { machine, pairing })
 }
@@ -293,7 +273,7 @@ pub fn load_pair<F: Files>(alloc: Global, ask: &Ask, files: &mut F) -> Result<Pa
     ensures loads { OnOk result (LoadsFrom (Some (asked_of_ask ask.now)) 0 2 (F.told files.old) (F.told files.new)) }
     ensures at_most { LoadsAtMost (Some (asked_of_ask ask.now)) 0 2 (F.told files.old) (F.told files.new) }
 {
-    let left = load_machine(alloc, Operand(0), ask, files)?;
+    let Loaded { machine: left, .. } = load(alloc, Operand(0), ask, files)?;
     let Next { machine, pairing } = load_next(alloc, Operand(1), ask, &left, files)?;
     Ok(Pair {
         left,

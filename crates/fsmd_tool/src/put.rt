@@ -9,11 +9,13 @@ ghost use Rattle.fsmd_replies.specs.declared.answer.Status.TheVariants.{Fault};
 ghost use Rattle.fsmd_replies.specs.Statuses.{status_of};
 ghost use Rattle.fsmd_replies.specs.Replies.{reply, unstored_reply};
 ghost use Rattle.fsmd_tool.specs.SinkReplies.{IsPut, put_between};
-ghost use Rattle.fsmd_tool.specs.CertificateStores.{file_change, file_to_store, to_store, Leaves, NotStored};
-ghost use Rattle.fsmd_tool.specs.Correct.{IsDone, IsDoneFor};
+ghost use Rattle.fsmd_answers.specs.Refusing.{answer_in};
+ghost use Rattle.fsmd_tool.specs.CertificateStores.{file_change, file_to_store, to_store, to_store_given, Leaves, NotStored};
+ghost use Rattle.fsmd_tool.specs.Correct.{IsDone, IsDoneFor, IsDoneForGiven};
 
 use fs_base::outside::{Files, Sink, StoreError};
 use fs_base::put_all::put_all;
+use fsmd_answers::refused::{Refused, answer_of};
 use fsmd_replies::answer::{Answer, Status};
 use fsmd_replies::reply::{USAGE, reply, unstored_reply};
 use fsmd_replies::words::cert_word;
@@ -163,4 +165,33 @@ pub fn put_answer<F: Files, S: Sink>(
         Some(item) => put_stored(alloc, &item, bytes.as_slice(), answer.status(), files, out),
         None => Ok(put_fitting(bytes.as_slice(), answer.status(), out)),
     }
+}
+
+/// Stores and puts, as `put_answer` does, the answer that is given, or that is in a refusal.
+///
+/// The error is out of memory, also where there was none for an answer; then nothing was put, and nothing stored but where that
+/// failed.
+pub fn put_reply<F: Files, S: Sink>(
+    alloc: Global,
+    given: Result<Answer, Refused>,
+    ask: &Ask,
+    files: &mut F,
+    out: &mut S,
+) -> Result<Status, AllocError>
+    ensures ok { IfOk result
+        (λ status. IsDoneForGiven (Some (asked_of_ask ask.now)) (answer_in given)
+        (file_change (F.told files.old) (F.told files.new)) (put_between status (S.told out.old) (S.told out.new))) }
+    ensures err { OnErr result ((S.told out.new).got ≡ (S.told out.old).got) }
+    ensures leaves { Leaves (to_store_given (Some (asked_of_ask ask.now)) (answer_in given))
+        (file_change (F.told files.old) (F.told files.new)) }
+    ensures unstored { OnErr result
+        (NotStored (to_store_given (Some (asked_of_ask ask.now)) (answer_in given))
+        (file_change (F.told files.old) (F.told files.new))) }
+    ensures counts { NoneFell (F.told files.old).faults (F.told files.new).faults }
+    ensures store_counts { NoneFell (F.told files.old).store_faults (F.told files.new).store_faults }
+    ensures loaded { (F.told files.new).loaded ≡ (F.told files.old).loaded }
+    ensures sink_counts { (S.told out.old).faults ≤ (S.told out.new).faults }
+{
+    let answer = answer_of(given)?;
+    put_answer(alloc, &answer, ask, files, out)
 }

@@ -15,9 +15,10 @@ use crate::answers::{certificate_of, differing_machines, picture_machines, why_m
 use fs_ast::machine::Machine;
 use fs_base::outside::Files;
 use fs_pair::positions::Pairing;
+use fsmd_answers::reading::Loaded;
 use fsmd_answers::refused::Refused;
 use fsmd_replies::answer::{Answer, Lines, Operand};
-use fsmd_tool::load::{Pair, load_certificate, load_machine, load_pair};
+use fsmd_tool::load::{Pair, load, load_certificate, load_pair};
 use fsmd_tool::memory::made_answer;
 use fsmd_words::asking::Ask;
 use show_machine_pictures::pictures::picture_of;
@@ -30,7 +31,7 @@ fn show_machine<F: Files>(alloc: Global, ask: &Ask, files: &mut F) -> Result<Ans
         (call (Some (asked_of_ask ask.now)) (F.told files.old) (F.told files.new))) result }
     ensures only_read { OnlyRead (F.told files.old) (F.told files.new) }
 {
-    let machine = load_machine(alloc, Operand(0), ask, files)?;
+    let Loaded { machine, .. } = load(alloc, Operand(0), ask, files)?;
     let lines = Lines::of(picture_of(alloc, &machine)?);
     Ok(Answer::Text { lines })
 }

@@ -17,12 +17,13 @@ ghost use Rattle.fsmd_tool.specs.Calls.{call, OnlyRead, LoadsFrom, LoadsAtMost, 
 ghost use Rattle.fsmd_tool.specs.Loading.{NothingFollows, RefusesLink};
 ghost use Rattle.fsmd_tool.specs.HoldingLinks.{LinkHolds};
 
-use crate::load::{Next, load_certificate, load_machine, load_next};
+use crate::load::{Next, load, load_certificate, load_next};
 use crate::memory::made_answer;
 use cert_model::cert::Cert;
 use fs_ast::machine::Machine;
 use fs_base::outside::Files;
 use fsmd_answers::links::{add_link, at_link, chain_answer};
+use fsmd_answers::reading::Loaded;
 use fsmd_answers::refused::Refused;
 use fsmd_replies::answer::{Answer, Operand};
 use fsmd_words::asking::Ask;
@@ -164,8 +165,11 @@ pub fn chain_files<F: Files>(
     ensures at_most { LoadsAtMost (Some (asked_of_ask ask.now)) 0 (1 + 2 * links_of (map string_bytes words.now))
         (F.told files.old) (F.told files.new) }
 {
-    match load_machine(alloc, Operand(0), ask, files) {
-        Ok(first) => links_from(alloc, ask, first, link_count(words), files),
+    match load(alloc, Operand(0), ask, files) {
+        Ok(loaded) => {
+            let Loaded { machine, .. } = loaded;
+            links_from(alloc, ask, machine, link_count(words), files)
+        }
         Err(refused) => Err(refused),
     }
 }

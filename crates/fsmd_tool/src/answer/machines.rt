@@ -11,7 +11,7 @@ ghost use Rattle.fsmd_answers.specs.RunAnswers.{IsOfRun};
 ghost use Rattle.fsmd_answers.specs.Follows.{Ends, OpensMachine, OpensParts, OpensInputs};
 ghost use Rattle.fsmd_tool.specs.Calls.{call, OnlyRead, LoadsAtMost, IsCorrectInOrder, AnswersBy};
 
-use crate::load::{load, load_inputs, load_machine};
+use crate::load::{load, load_inputs};
 use crate::memory::made_answer;
 use fs_ast::machine::Machine;
 use fs_base::outside::Files;
@@ -66,8 +66,8 @@ pub fn cut_paths<F: Files>(alloc: Global, ask: &Ask, files: &mut F) -> Result<An
     ensures only_read { OnlyRead (F.told files.old) (F.told files.new) }
     ensures at_most { LoadsAtMost (Some (asked_of_ask ask.now)) 0 1 (F.told files.old) (F.told files.new) }
 {
-    match load_machine(alloc, Operand(0), ask, files) {
-        Ok(machine) => made_answer(text_of_paths(alloc, &machine)),
+    match load(alloc, Operand(0), ask, files) {
+        Ok(loaded) => made_answer(text_of_paths(alloc, &loaded.machine)),
         Err(refused) => Err(refused),
     }
 }
@@ -106,8 +106,8 @@ pub fn run_files<F: Files>(
     ensures only_read { OnlyRead (F.told files.old) (F.told files.new) }
     ensures at_most { LoadsAtMost (Some (asked_of_ask ask.now)) 0 2 (F.told files.old) (F.told files.new) }
 {
-    match load_machine(alloc, Operand(0), ask, files) {
-        Ok(machine) => run_from(alloc, ask, &machine, steps, files),
+    match load(alloc, Operand(0), ask, files) {
+        Ok(loaded) => run_from(alloc, ask, &loaded.machine, steps, files),
         Err(refused) => Err(refused),
     }
 }

@@ -1,6 +1,7 @@
 //! What the commands of two machines answer, from their files.
 
-ghost use Rattle.std.specs.Prelude.{◌≡◌, None, ◌+◌, ◌≤◌, Some, IsTrue};
+ghost use Rattle.std.specs.Prelude.{◌≡◌, None, ◌≤◌, Some, IsTrue, IfOk, Err};
+ghost use Rattle.std.specs.Result.{IfErr};
 ghost use Rattle.fsmd_words.specs.AskedWords.{asked_of_ask};
 ghost use Rattle.fs_pair.specs.Interfaces.{interface_fault};
 ghost use Rattle.fs_pair.specs.Positions.{positions};
@@ -8,11 +9,11 @@ ghost use Rattle.hls_shrink.specs.Given.{has_no_input_port};
 ghost use Rattle.fsmd_answers.specs.Verdicts.{IsJudged};
 ghost use Rattle.fsmd_answers.specs.Replays.{IsOfReplay};
 ghost use Rattle.fsmd_answers.specs.Shrinks.{IsOfShrink};
-ghost use Rattle.fsmd_answers.specs.Follows.{Ends, OpensPair, OpensInputs, OpensCertificate};
+ghost use Rattle.fsmd_answers.specs.Follows.{Ends, OpensInputs, OpensCertificate};
 ghost use Rattle.fsmd_tool.specs.Calls.{call, OnlyRead, LoadsAtMost, IsCorrectInOrder, AnswersBy};
 ghost use Rattle.fsmd_tool.specs.PairCommands.{FollowsFor, files_behind, MayStep};
 
-use crate::load::{Pair, load_certificate, load_inputs, load_pair};
+use crate::load::{Pair, load_certificate, load_inputs};
 use crate::memory::made_answer;
 use fs_ast::machine::Machine;
 use fs_base::outside::Files;
@@ -114,7 +115,7 @@ fn shrink_from<F: Files>(
 }
 
 // What a command answers to two machines with the same inputs and outputs, from the files behind theirs.
-fn answer_pair<F: Files>(
+fn answer_behind<F: Files>(
     alloc: Global,
     ask: &Ask,
     command: PairCommand,
@@ -145,22 +146,28 @@ fn answer_pair<F: Files>(
     }
 }
 
-/// What a command on two machines answers: of their files, which are loaded first, and of the one behind them, where it has one.
-pub fn pair_files<F: Files>(
+/// What a command on two machines answers where this was loaded of their files: what the machines and the file behind theirs,
+/// where it has one, call for; or the refusal of theirs.
+pub fn answer_pair<F: Files>(
     alloc: Global,
     ask: &Ask,
     command: PairCommand,
+    loaded: Result<Pair, Refused>,
     files: &mut F,
 ) -> Result<Answer, Refused>
-    requires { MayStep command }
-    ensures answers { AnswersBy (IsCorrectInOrder (OpensPair (FollowsFor command)) 0
-        (call (Some (asked_of_ask ask.now)) (F.told files.old) (F.told files.new))) result }
+    requires steps { MayStep command }
+    requires paired { IfOk loaded (λ p. p.pairing ≡ positions p.left p.right) }
+    requires alike { IfOk loaded (λ p. interface_fault p.left p.right ≡ None) }
+    requires ports { IfOk loaded (λ p. IsTrue (has_no_input_port p.left)) }
+    ensures answers { IfOk loaded (λ p. AnswersBy (IsCorrectInOrder (FollowsFor command p.left p.right) 2
+        (call (Some (asked_of_ask ask.now)) (F.told files.old) (F.told files.new))) result) }
+    ensures refused { IfErr loaded (λ refused. result ≡ Err refused) }
+    ensures none { IfErr loaded (λ _. F.told files.new ≡ F.told files.old) }
     ensures only_read { OnlyRead (F.told files.old) (F.told files.new) }
-    ensures at_most { LoadsAtMost (Some (asked_of_ask ask.now)) 0 (2 + files_behind command)
-        (F.told files.old) (F.told files.new) }
+    ensures at_most { LoadsAtMost (Some (asked_of_ask ask.now)) 2 (files_behind command) (F.told files.old) (F.told files.new) }
 {
-    match load_pair(alloc, ask, files) {
-        Ok(pair) => answer_pair(alloc, ask, command, &pair, files),
+    match loaded {
+        Ok(pair) => answer_behind(alloc, ask, command, &pair, files),
         Err(refused) => Err(refused),
     }
 }

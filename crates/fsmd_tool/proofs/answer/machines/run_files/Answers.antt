@@ -1,4 +1,4 @@
-use Rattle.std.proofs.Common.{arith}
+use Rattle.std.proofs.Common.{arith, refl}
 use Rattle.fs_model.specs.Machines.{Fsmd}
 use Rattle.fsmd_answers.specs.MachineFiles.{SpellsMachine}
 use Rattle.fsmd_answers.specs.Refusals.{RefusesMachine}
@@ -6,28 +6,29 @@ use Rattle.fsmd_answers.specs.RunAnswers.{IsOfRun}
 use Rattle.fsmd_answers.specs.Follows.{Ends, OpensInputs}
 use Rattle.fsmd_tool.proofs.Later.{read_both}
 use Rattle.fsmd_tool.proofs.Loads.{fewer, at_most_on}
+use Rattle.fsmd_tool.proofs.FromFiles.{machine_held}
 use Rattle.fsmd_tool.proofs.InOrder.{refused_in_order, spelled_in_order}
 use Rattle.fsmd_tool.proofs.answer.machines.run_files.Goals as goal
 
 pub returns-in-Err-clause-answers : goal.returns-in-Err-clause-answers
 returns-in-Err-clause-answers g c =
-    refused_in_order Fsmd RefusesMachine SpellsMachine (λ m. OpensInputs m (λ ins. Ends (IsOfRun c.args.steps m ins))) 0 _ _ c.load_machine.ensures.loads
+    refused_in_order Fsmd RefusesMachine SpellsMachine (λ m. OpensInputs m (λ ins. Ends (IsOfRun c.args.steps m ins))) 0 _ _ c.load.ensures.loads
     c.in-Err.ensures.refused
 
 pub returns-in-Ok-clause-answers : goal.returns-in-Ok-clause-answers
 returns-in-Ok-clause-answers g c =
-    let v = c.in-Ok.machine in
+    let v = c.in-Ok.loaded.machine in
     spelled_in_order Fsmd RefusesMachine SpellsMachine (λ m. OpensInputs m (λ ins. Ends (IsOfRun c.args.steps m ins)))
-    0 _ _ _ (g.F.Files.told c.run_from.new.files) c.load_machine.ensures.only_read c.load_machine.ensures.loads v c.in-Ok.ensures.spells
+    0 _ _ _ (g.F.Files.told c.run_from.new.files) c.load.ensures.only_read c.load.ensures.loads v (machine_held _ _ _ _ refl c.in-Ok.ensures.loaded)
     c.run_from.result
     c.run_from.ensures.answers
 
 pub returns-in-Err-clause-at_most : goal.returns-in-Err-clause-at_most
-returns-in-Err-clause-at_most g c = fewer _ 0 1 2 _ _ (omega arith) c.load_machine.ensures.at_most
+returns-in-Err-clause-at_most g c = fewer _ 0 1 2 _ _ (omega arith) c.load.ensures.at_most
 
 pub returns-in-Ok-clause-at_most : goal.returns-in-Ok-clause-at_most
 returns-in-Ok-clause-at_most g c =
-    at_most_on _ 0 1 1 1 2 _ _ _ (omega arith) (omega arith) c.load_machine.ensures.loads c.run_from.ensures.at_most
+    at_most_on _ 0 1 1 1 2 _ _ _ (omega arith) (omega arith) c.load.ensures.loads c.run_from.ensures.at_most
 
 pub returns-in-Ok-clause-only_read : goal.returns-in-Ok-clause-only_read
-returns-in-Ok-clause-only_read g c = read_both _ _ _ c.load_machine.ensures.only_read c.run_from.ensures.only_read
+returns-in-Ok-clause-only_read g c = read_both _ _ _ c.load.ensures.only_read c.run_from.ensures.only_read
