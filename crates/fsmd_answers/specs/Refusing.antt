@@ -19,6 +19,11 @@ answer_in (Ok answer) = Some answer
 answer_in (Err (Answered answer)) = Some answer
 answer_in (Err NoMemory) = None
 
+-- an answer, or that there is no memory for it
+abbrev pub made_answer : {E : Type 0} → Result Answer E → Result Answer Refusal
+made_answer (Ok answer) = Ok answer
+made_answer (Err error) = Err NoMemory
+
 -- these parts and this machine are what the bytes spell
 pub record IsLoaded (parts : Source) (m : Fsmd) (bytes : List ℕ) : Type 0 where
   pub spells : SpellsParts parts bytes

@@ -4,6 +4,7 @@ ghost use Rattle.std.specs.Prelude.{◌≤◌, IfOk};
 ghost use Rattle.fsmd_answers.specs.ComparisonAnswers.{IsOfLoops};
 
 use crate::compare::compare;
+use crate::pair::Pair;
 use fs_generated::generate::generate;
 use fs_pair::positions::{FaceError, same_interface};
 use fsmd_replies::answer::Answer;
@@ -22,7 +23,14 @@ pub fn compare_generated(alloc: Global, loops: u32) -> Result<Answer, AllocError
         return Err(AllocError);
     };
     match same_interface(alloc, &left, &right) {
-        Ok(pairing) => compare(alloc, &left, &right, &pairing, GENERATED_STEPS, false),
+        Ok(pairing) => {
+            let pair = Pair {
+                left,
+                right,
+                pairing,
+            };
+            compare(alloc, &pair, GENERATED_STEPS, false)
+        }
         Err(FaceError::Interface { .. }) => unreachable!(),
         Err(FaceError::NoMemory) => Err(AllocError),
     }

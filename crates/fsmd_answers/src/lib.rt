@@ -15,6 +15,7 @@ pub mod bindings;
 pub mod compare;
 pub mod generated;
 pub mod links;
+pub mod pair;
 pub mod programs;
 pub mod reading;
 pub mod refused;

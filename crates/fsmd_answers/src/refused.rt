@@ -3,7 +3,7 @@
 ghost use Rattle.std.specs.Prelude.{◌≡◌, Some, None, IfOk};
 ghost use Rattle.std.specs.Result.{OnErr};
 ghost use Rattle.fsmd_answers.specs.declared.refused.Refused.TheVariants.{NoMemory};
-ghost use Rattle.fsmd_answers.specs.Refusing.{answer_in};
+ghost use Rattle.fsmd_answers.specs.Refusing.{answer_in, made_answer};
 
 use fsmd_replies::answer::Answer;
 use std::alloc::AllocError;
@@ -34,5 +34,15 @@ pub fn answer_of(given: Result<Answer, Refused>) -> Result<Answer, AllocError>
         Ok(answer) => Ok(answer),
         Err(Refused::Answered(answer)) => Ok(answer),
         Err(Refused::NoMemory) => Err(AllocError),
+    }
+}
+
+/// An answer that takes memory to make, or that there is none.
+pub fn made_answer(made: Result<Answer, AllocError>) -> Result<Answer, Refused>
+    ensures { result ≡ made_answer made }
+{
+    match made {
+        Ok(answer) => Ok(answer),
+        Err(_) => Err(Refused::NoMemory),
     }
 }

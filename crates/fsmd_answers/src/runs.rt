@@ -7,6 +7,7 @@ ghost use Rattle.fsmd_answers.specs.RunAnswers.{IsOfStop, IsOfRun};
 ghost use Rattle.fsmd_answers.specs.Replays.{IsOfReplay};
 ghost use Rattle.fsmd_replies.specs.declared.answer.Answer.TheVariants.{Text, Differs};
 
+use crate::pair::Pair;
 use fs_ast::machine::Machine;
 use fs_run_text::ends::{Side, end_text, stop_text};
 use fs_run_text::replay::{Replay, replay_text};
@@ -65,17 +66,17 @@ fn replay_answer(same: bool, lines: Lines) -> Answer
 /// refusal is out of memory.
 pub fn replay_machines(
     alloc: Global,
-    left: &Machine,
-    right: &Machine,
+    pair: &Pair,
     inputs: &Inputs,
     steps: u64,
 ) -> Result<Answer, AllocError>
     requires steps { 1 ≤ steps }
-    requires alike { interface_fault left.now right.now ≡ None }
-    requires left_inputs { Serves (signatures_of inputs.now) left.now }
-    requires right_inputs { Serves (signatures_of inputs.now) right.now }
-    ensures { IfOk result (IsOfReplay steps left.now right.now (inputs_of inputs.now)) }
+    requires alike { interface_fault pair.now.left pair.now.right ≡ None }
+    requires left_inputs { Serves (signatures_of inputs.now) pair.now.left }
+    requires right_inputs { Serves (signatures_of inputs.now) pair.now.right }
+    ensures { IfOk result (IsOfReplay steps pair.now.left pair.now.right (inputs_of inputs.now)) }
 {
+    let Pair { left, right, .. } = pair;
     let left_end = match run(alloc, left, inputs, steps) {
         Ok(ended) => ended,
         Err(stop) => return stop_answer(alloc, Side::Left, stop),

@@ -8,9 +8,8 @@ ghost use Rattle.hls_shrink.specs.Given.{has_no_input_port};
 ghost use Rattle.fsmd_answers.specs.InputFiles.{signatures};
 ghost use Rattle.fsmd_answers.specs.Shrinks.{IsOfShrink};
 
+use crate::pair::Pair;
 use crate::runs::replay_machines;
-use fs_ast::machine::Machine;
-use fs_pair::positions::Pairing;
 use fs_run_text::counterexample::counterexample_text;
 use fs_stores::inputs::Inputs;
 use fs_trials::differences::differing_ends;
@@ -22,19 +21,22 @@ use std::alloc::{AllocError, Global};
 // What inputs answer that show a difference: the lines of a counterexample, from the end of the chain of first reductions.
 fn shrunk_answer(
     alloc: Global,
-    left: &Machine,
-    right: &Machine,
-    pairing: &Pairing,
+    pair: &Pair,
     inputs: &Inputs,
     steps: u64,
 ) -> Result<Answer, AllocError>
     requires steps { 1 ≤ steps }
-    requires alike { interface_fault left.now right.now ≡ None }
-    requires ports { IsTrue (has_no_input_port left.now) }
-    requires inputs { signatures_of inputs.now ≡ signatures left.now }
-    requires shows { ShowsDifference left.now right.now (inputs_of inputs.now) steps }
-    ensures { IfOk result (IsOfShrink steps left.now right.now (inputs_of inputs.now)) }
+    requires alike { interface_fault pair.now.left pair.now.right ≡ None }
+    requires ports { IsTrue (has_no_input_port pair.now.left) }
+    requires inputs { signatures_of inputs.now ≡ signatures pair.now.left }
+    requires shows { ShowsDifference pair.now.left pair.now.right (inputs_of inputs.now) steps }
+    ensures { IfOk result (IsOfShrink steps pair.now.left pair.now.right (inputs_of inputs.now)) }
 {
+    let Pair {
+        left,
+        right,
+        pairing,
+    } = pair;
     let _left = left.vars(); // The call tells the proof that the machine is sound.
     inputs_are_given_by_name();
     let small = match shrink(alloc, left, right, pairing, inputs, steps) {
@@ -54,22 +56,20 @@ fn shrunk_answer(
 /// one; and else what a replay answers. The one refusal is out of memory.
 pub fn shrink_inputs(
     alloc: Global,
-    left: &Machine,
-    right: &Machine,
-    pairing: &Pairing,
+    pair: &Pair,
     inputs: &Inputs,
     steps: u64,
 ) -> Result<Answer, AllocError>
     requires steps { 1 ≤ steps }
-    requires alike { interface_fault left.now right.now ≡ None }
-    requires ports { IsTrue (has_no_input_port left.now) }
-    requires inputs { signatures_of inputs.now ≡ signatures left.now }
-    requires serves { Serves (signatures_of inputs.now) left.now }
-    ensures { IfOk result (IsOfShrink steps left.now right.now (inputs_of inputs.now)) }
+    requires alike { interface_fault pair.now.left pair.now.right ≡ None }
+    requires ports { IsTrue (has_no_input_port pair.now.left) }
+    requires inputs { signatures_of inputs.now ≡ signatures pair.now.left }
+    requires serves { Serves (signatures_of inputs.now) pair.now.left }
+    ensures { IfOk result (IsOfShrink steps pair.now.left pair.now.right (inputs_of inputs.now)) }
 {
-    match differing_ends(alloc, left, right, inputs, steps) {
-        Ok(Some(_)) => shrunk_answer(alloc, left, right, pairing, inputs, steps),
-        Ok(None) => replay_machines(alloc, left, right, inputs, steps),
+    match differing_ends(alloc, &pair.left, &pair.right, inputs, steps) {
+        Ok(Some(_)) => shrunk_answer(alloc, pair, inputs, steps),
+        Ok(None) => replay_machines(alloc, pair, inputs, steps),
         Err(_) => Err(AllocError),
     }
 }

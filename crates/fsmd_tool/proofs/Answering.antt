@@ -11,7 +11,7 @@ use Rattle.fsmd_replies.specs.AskedFiles.{operand, in_links, files_of, file_word
 use Rattle.hls_shrink.specs.Given.{has_no_input_port}
 use Rattle.fsmd_answers.specs.MachineFiles.{SpellsMachine}
 use Rattle.fsmd_answers.specs.Refusing.{WhereAnswered}
-use Rattle.fsmd_tool.specs.MadeAnswers.{Refusal}
+use Rattle.fsmd_answers.specs.declared.refused.Refused.{Refused as Refusal}
 use Rattle.fsmd_answers.specs.ComparisonAnswers.{IsOfPair, IsOfLoops}
 use Rattle.fsmd_answers.specs.Links.{links_in, links_of}
 use Rattle.fsmd_answers.specs.Follows.{Ends, OpensMachine, OpensPair, OpensLinks, FollowsFrom}
@@ -20,7 +20,7 @@ use Rattle.fsmd_tool.specs.Loading.{RefusesBoth}
 use Rattle.fsmd_answers.proofs.Ports.{no_input_port}
 use Rattle.fsmd_tool.proofs.Loads.{fewer, at_most_on}
 use Rattle.fsmd_tool.proofs.InOrder.{ended_in_order, both_refused_in_order, both_in_order}
-use Rattle.fsmd_tool.specs.declared.load.Pair.{Pair}
+use Rattle.fsmd_answers.specs.declared.pair.Pair.{Pair}
 use Rattle.fsmd_tool.specs.declared.answer.pairs.PairCommand.{PairCommand}
 use Rattle.fsmd_tool.specs.PairCommands.{FollowsFor, files_behind}
 

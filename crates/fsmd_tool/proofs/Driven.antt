@@ -15,7 +15,7 @@ use Rattle.fsmd_answers.specs.Follows.{FollowsFrom}
 use Rattle.fsmd_answers.specs.Refusing.{answer_in}
 use Rattle.fsmd_tool.specs.Calls.{Call, call, OnlyRead, LoadsNamed, IsCorrectInOrder, AnswersBy}
 use Rattle.fsmd_tool.specs.SinkReplies.{Put, put_between, IsPut, end_status}
-use Rattle.fsmd_tool.specs.MadeAnswers.{Refusal}
+use Rattle.fsmd_answers.specs.declared.refused.Refused.{Refused as Refusal}
 use Rattle.fsmd_tool.specs.CertificateStores.{file_change, to_store_given, Leaves, NotStored, IsUnwritten, NoneWritten}
 use Rattle.fsmd_tool.specs.Correct.{IsDoneForGiven, Answered, Answers, Starves}
 use Rattle.fsmd_tool.specs.AlikeCalls.{AnswersPair}

@@ -15,13 +15,12 @@ use Rattle.fsmd_replies.specs.AskedFiles.{operand}
 use Rattle.fsmd_answers.specs.MachineFiles.{SpellsMachine}
 use Rattle.fsmd_answers.specs.Readings.{FileContent, Readable, Reading}
 use Rattle.fsmd_answers.specs.Refusals.{RefusesPair}
-use Rattle.fsmd_answers.specs.Refusing.{answer_in, WhereAnswered}
+use Rattle.fsmd_answers.specs.Refusing.{answer_in, made_answer, WhereAnswered}
 use Rattle.fsmd_answers.specs.ProgramFiles.{RefusesProgram, SpellsProgram, IsOfProgram, IsOfProgramIn}
 use Rattle.fsmd_answers.specs.Follows.{Ends, Opens, Refused, Spelled, Other, SameInterface, OpensPair, OpensProgram}
 use Rattle.fsmd_answers.proofs.Maps.{answer_map}
 use Rattle.fsmd_tool.specs.Calls.{Call, call, OnlyRead, LoadsFrom, known_at_start, MayHold, IsCorrectFrom, IsCorrectInOrder, AnswersBy}
 use Rattle.fsmd_tool.specs.Loading.{GivesContent, RefusesNext, RefusesBoth}
-use Rattle.fsmd_tool.specs.MadeAnswers.{made_answer}
 use Rattle.fsmd_tool.proofs.FromFiles.{answers_map, both_follow}
 use Rattle.fsmd_tool.proofs.Later.{read_map, each_since}
 use Rattle.fsmd_tool.proofs.Loads.{loads_none, loads_on}

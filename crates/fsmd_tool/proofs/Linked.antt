@@ -13,7 +13,8 @@ use Rattle.cert_model.specs.Obligations.{Yes, verdict_on}
 use Rattle.hls_shrink.specs.Chains.{ChainEnds}
 use Rattle.fsmd_replies.specs.declared.answer.Answer.{Answer}
 use Rattle.fsmd_replies.specs.declared.answer.Answer.TheVariants.{Link}
-use Rattle.fsmd_tool.specs.MadeAnswers.{Refusal, IsAnsweredWith}
+use Rattle.fsmd_answers.specs.declared.refused.Refused.{Refused as Refusal}
+use Rattle.fsmd_answers.specs.declared.refused.Refused.TheVariants.{Answered}
 use Rattle.fsmd_replies.specs.Statuses.{status_of}
 use Rattle.fsmd_replies.specs.ChainTexts.{link_lines}
 use Rattle.fsmd_replies.specs.AskedFiles.{operand}
@@ -107,10 +108,10 @@ module _ (o : Option Asked) (k : ℕ) (last : Fsmd) (P : Fsmd → (file : ℕ) �
       (λ f c e. at (RefusesCertificate last b f c) e) (λ v j s e. absurd e) i q p)) n r h
 
 pub link_refused : (o : Option Asked) (k : ℕ) (last : Fsmd) (P : Fsmd → (file : ℕ) → Reading → Answer → Type 0) (n : ℕ) (g : Call) (e told : Refusal)
-    → WhereAnswered (IsCorrectInOrder (RefusesLink last) n g) e → WhereAnswered (AtLink o k (IsAnsweredWith e)) told
+    → WhereAnswered (IsCorrectInOrder (RefusesLink last) n g) e → WhereAnswered (AtLink o k (λ answer. e ≡ Answered answer)) told
     → WhereAnswered (IsCorrectInOrder (OpensLink o k last P) n g) told
 link_refused o k last P n g e told h t =
-    answer_map (AtLink o k (IsAnsweredWith e)) (IsCorrectInOrder (OpensLink o k last P) n g)
+    answer_map (AtLink o k (λ answer. e ≡ Answered answer)) (IsCorrectInOrder (OpensLink o k last P) n g)
     (λ x l.
     let d : IsCorrectInOrder (RefusesLink last) n g l.stop = subst (WhereAnswered (IsCorrectInOrder (RefusesLink last) n g)) l.meets h in
     record {

@@ -1,6 +1,5 @@
 pub mod Calls
 pub mod Loading
-pub mod MadeAnswers
 pub mod HoldingLinks
 pub mod PairCommands
 pub mod Asking

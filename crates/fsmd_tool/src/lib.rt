@@ -14,6 +14,5 @@
 
 pub mod answer;
 pub mod load;
-pub mod memory;
 pub mod program;
 pub mod put;

@@ -31,6 +31,7 @@ use fs_model::limits::TEXT_LIMIT;
 use fs_pair::positions::{FaceError, Pairing, same_interface};
 use fs_stores::inputs::Inputs;
 use fsmd_answers::bindings::read_binding;
+use fsmd_answers::pair::Pair;
 use fsmd_answers::programs::compile_program;
 use fsmd_answers::reading::{CERT_LIMIT, Loaded, read_certificate, read_inputs, read_machine};
 use fsmd_answers::refused::Refused;
@@ -210,14 +211,6 @@ pub fn load_binding<F: Files>(
 #[derive(Drop)]
 pub struct Next {
     pub machine: Machine,
-    pub pairing: Pairing,
-}
-
-/// The machines that the first two files of a call spell, with the same inputs and outputs, and their positions.
-#[derive(Drop)]
-pub struct Pair {
-    pub left: Machine,
-    pub right: Machine,
     pub pairing: Pairing,
 }
 

@@ -15,6 +15,7 @@ use fs_ast::machine::Machine;
 use fs_pair::positions::Pairing;
 use fsmd_answers::compare::compare;
 use fsmd_answers::judge::judge;
+use fsmd_answers::pair::Pair;
 use fsmd_replies::answer::{Answer, Lines};
 use fsmd_replies::reply::equivalent_text;
 use show_inputs_text::differing::differing_inputs;
@@ -55,34 +56,24 @@ fn why_answer(alloc: Global, lines: Vec<u8>, answer: &PairAnswer) -> Result<Answ
 }
 
 /// What `why` answers: what `check` says of two machines, behind the lines of what led to it. The one refusal is out of memory.
-pub fn why_machines(
-    alloc: Global,
-    a: &Machine,
-    b: &Machine,
-    p: &Pairing,
-) -> Result<Answer, AllocError>
-    requires paired { p.now ≡ positions a.now b.now }
-    requires interface { interface_fault a.now b.now ≡ None }
-    ensures { IfOk result (IsOfWhy 10000 a.now b.now) }
+pub fn why_machines(alloc: Global, pair: &Pair) -> Result<Answer, AllocError>
+    requires paired { pair.now.pairing ≡ positions pair.now.left pair.now.right }
+    requires interface { interface_fault pair.now.left pair.now.right ≡ None }
+    ensures { IfOk result (IsOfWhy 10000 pair.now.left pair.now.right) }
 {
-    match explain(alloc, a, b, p, STEPS) {
+    match explain(alloc, &pair.left, &pair.right, &pair.pairing, STEPS) {
         Ok(why) => why_answer(alloc, why.lines, &why.answer),
         Err(_) => Err(AllocError),
     }
 }
 
 /// What `pair` answers: the picture of the search of two machines. The one refusal is out of memory.
-pub fn picture_machines(
-    alloc: Global,
-    a: &Machine,
-    b: &Machine,
-    p: &Pairing,
-) -> Result<Answer, AllocError>
-    requires paired { p.now ≡ positions a.now b.now }
-    requires interface { interface_fault a.now b.now ≡ None }
-    ensures { IfOk result (IsOfPicture a.now b.now) }
+pub fn picture_machines(alloc: Global, pair: &Pair) -> Result<Answer, AllocError>
+    requires paired { pair.now.pairing ≡ positions pair.now.left pair.now.right }
+    requires interface { interface_fault pair.now.left pair.now.right ≡ None }
+    ensures { IfOk result (IsOfPicture pair.now.left pair.now.right) }
 {
-    match search_picture(alloc, a, b, p) {
+    match search_picture(alloc, &pair.left, &pair.right, &pair.pairing) {
         Ok(text) => Ok(Answer::Text {
             lines: Lines::of(text),
         }),
@@ -91,18 +82,12 @@ pub fn picture_machines(
 }
 
 // The file of inputs that show a difference, or else the lines with which `check` tells of one.
-fn inputs_or(
-    alloc: Global,
-    a: &Machine,
-    b: &Machine,
-    p: &Pairing,
-    lines: Lines,
-) -> Result<Answer, AllocError>
-    requires interface { interface_fault a.now b.now ≡ None }
-    requires answer { IsOfPair 10000 false a.now b.now (Differs lines) }
-    ensures { IfOk result (IsOfInputs 10000 a.now b.now) }
+fn inputs_or(alloc: Global, pair: &Pair, lines: Lines) -> Result<Answer, AllocError>
+    requires interface { interface_fault pair.now.left pair.now.right ≡ None }
+    requires answer { IsOfPair 10000 false pair.now.left pair.now.right (Differs lines) }
+    ensures { IfOk result (IsOfInputs 10000 pair.now.left pair.now.right) }
 {
-    match differing_inputs(alloc, a, b, p, STEPS) {
+    match differing_inputs(alloc, &pair.left, &pair.right, &pair.pairing, STEPS) {
         Ok(Some(file)) => Ok(Answer::Differs {
             lines: Lines::of(file),
         }),
@@ -113,19 +98,14 @@ fn inputs_or(
 
 /// What `inputs` answers: the file of inputs that show a difference of two machines, where `check` tells of one, and else what
 /// `check` answers. The one refusal is out of memory.
-pub fn differing_machines(
-    alloc: Global,
-    a: &Machine,
-    b: &Machine,
-    p: &Pairing,
-) -> Result<Answer, AllocError>
-    requires paired { p.now ≡ positions a.now b.now }
-    requires interface { interface_fault a.now b.now ≡ None }
-    ensures { IfOk result (IsOfInputs 10000 a.now b.now) }
+pub fn differing_machines(alloc: Global, pair: &Pair) -> Result<Answer, AllocError>
+    requires paired { pair.now.pairing ≡ positions pair.now.left pair.now.right }
+    requires interface { interface_fault pair.now.left pair.now.right ≡ None }
+    ensures { IfOk result (IsOfInputs 10000 pair.now.left pair.now.right) }
 {
-    let answer = compare(alloc, a, b, p, STEPS, false)?;
+    let answer = compare(alloc, pair, STEPS, false)?;
     match answer {
-        Answer::Differs { lines } => inputs_or(alloc, a, b, p, lines),
+        Answer::Differs { lines } => inputs_or(alloc, pair, lines),
         _ => Ok(answer),
     }
 }

@@ -15,11 +15,11 @@ use crate::answers::{certificate_of, differing_machines, picture_machines, why_m
 use fs_ast::machine::Machine;
 use fs_base::outside::Files;
 use fs_pair::positions::Pairing;
+use fsmd_answers::pair::Pair;
 use fsmd_answers::reading::Loaded;
-use fsmd_answers::refused::Refused;
+use fsmd_answers::refused::{Refused, made_answer};
 use fsmd_replies::answer::{Answer, Lines, Operand};
-use fsmd_tool::load::{Pair, load, load_certificate, load_pair};
-use fsmd_tool::memory::made_answer;
+use fsmd_tool::load::{load, load_certificate, load_pair};
 use fsmd_words::asking::Ask;
 use show_machine_pictures::pictures::picture_of;
 use show_words::asking::{Show, View};
@@ -48,21 +48,15 @@ pub enum PairView {
 }
 
 // What is answered of two machines.
-fn answer_machines(
-    alloc: Global,
-    view: PairView,
-    left: &Machine,
-    right: &Machine,
-    pairing: &Pairing,
-) -> Result<Answer, AllocError>
-    requires paired { pairing.now ≡ positions left.now right.now }
-    requires alike { interface_fault left.now right.now ≡ None }
-    ensures { IfOk result (IsOfPairView view left.now right.now) }
+fn answer_machines(alloc: Global, view: PairView, pair: &Pair) -> Result<Answer, AllocError>
+    requires paired { pair.now.pairing ≡ positions pair.now.left pair.now.right }
+    requires alike { interface_fault pair.now.left pair.now.right ≡ None }
+    ensures { IfOk result (IsOfPairView view pair.now.left pair.now.right) }
 {
     match view {
-        PairView::Picture => picture_machines(alloc, left, right, pairing),
-        PairView::Why => why_machines(alloc, left, right, pairing),
-        PairView::Inputs => differing_machines(alloc, left, right, pairing),
+        PairView::Picture => picture_machines(alloc, pair),
+        PairView::Why => why_machines(alloc, pair),
+        PairView::Inputs => differing_machines(alloc, pair),
     }
 }
 
@@ -77,12 +71,8 @@ fn show_pair<F: Files>(
         (call (Some (asked_of_ask ask.now)) (F.told files.old) (F.told files.new))) result }
     ensures only_read { OnlyRead (F.told files.old) (F.told files.new) }
 {
-    let Pair {
-        left,
-        right,
-        pairing,
-    } = load_pair(alloc, ask, files)?;
-    made_answer(answer_machines(alloc, view, &left, &right, &pairing))
+    let pair = load_pair(alloc, ask, files)?;
+    made_answer(answer_machines(alloc, view, &pair))
 }
 
 // What a certificate of two machines answers to the file that spells it.

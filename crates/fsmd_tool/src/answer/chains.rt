@@ -18,13 +18,12 @@ ghost use Rattle.fsmd_tool.specs.Loading.{NothingFollows, RefusesLink};
 ghost use Rattle.fsmd_tool.specs.HoldingLinks.{LinkHolds};
 
 use crate::load::{Next, load, load_certificate, load_next};
-use crate::memory::made_answer;
 use cert_model::cert::Cert;
 use fs_ast::machine::Machine;
 use fs_base::outside::Files;
 use fsmd_answers::links::{add_link, at_link, chain_answer};
 use fsmd_answers::reading::Loaded;
-use fsmd_answers::refused::Refused;
+use fsmd_answers::refused::{Refused, made_answer};
 use fsmd_replies::answer::{Answer, Operand};
 use fsmd_words::asking::Ask;
 use hls_shrink::Chain;

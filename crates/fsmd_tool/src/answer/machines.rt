@@ -12,13 +12,12 @@ ghost use Rattle.fsmd_answers.specs.Follows.{Ends, OpensMachine, OpensParts, Ope
 ghost use Rattle.fsmd_tool.specs.Calls.{call, OnlyRead, LoadsAtMost, IsCorrectInOrder, AnswersBy};
 
 use crate::load::{load, load_inputs};
-use crate::memory::made_answer;
 use fs_ast::machine::Machine;
 use fs_base::outside::Files;
 use fs_cut::path_text::list_paths;
 use fs_model::parts::Parts;
 use fs_write::write_parts;
-use fsmd_answers::refused::Refused;
+use fsmd_answers::refused::{Refused, made_answer};
 use fsmd_answers::runs::run_machine;
 use fsmd_replies::answer::{Answer, Lines, Operand};
 use fsmd_words::asking::Ask;

@@ -13,14 +13,12 @@ ghost use Rattle.fsmd_answers.specs.Follows.{Ends, OpensInputs, OpensCertificate
 ghost use Rattle.fsmd_tool.specs.Calls.{call, OnlyRead, LoadsAtMost, IsCorrectInOrder, AnswersBy};
 ghost use Rattle.fsmd_tool.specs.PairCommands.{FollowsFor, files_behind, MayStep};
 
-use crate::load::{Pair, load_certificate, load_inputs};
-use crate::memory::made_answer;
-use fs_ast::machine::Machine;
+use crate::load::{load_certificate, load_inputs};
 use fs_base::outside::Files;
-use fs_pair::positions::Pairing;
 use fsmd_answers::compare::compare;
 use fsmd_answers::judge::judge;
-use fsmd_answers::refused::Refused;
+use fsmd_answers::pair::Pair;
+use fsmd_answers::refused::{Refused, made_answer};
 use fsmd_answers::runs::replay_machines;
 use fsmd_answers::shrinks::shrink_inputs;
 use fsmd_replies::answer::{Answer, Operand};
@@ -45,19 +43,22 @@ pub enum PairCommand {
 fn verify_from<F: Files>(
     alloc: Global,
     ask: &Ask,
-    left: &Machine,
-    right: &Machine,
-    pairing: &Pairing,
+    pair: &Pair,
     files: &mut F,
 ) -> Result<Answer, Refused>
-    requires paired { pairing.now ≡ positions left.now right.now }
-    requires alike { interface_fault left.now right.now ≡ None }
-    ensures answers { AnswersBy
-        (IsCorrectInOrder (OpensCertificate left.now right.now (λ nodes. Ends (IsJudged left.now right.now nodes)))
-        2 (call (Some (asked_of_ask ask.now)) (F.told files.old) (F.told files.new))) result }
+    requires paired { pair.now.pairing ≡ positions pair.now.left pair.now.right }
+    requires alike { interface_fault pair.now.left pair.now.right ≡ None }
+    ensures answers { AnswersBy (IsCorrectInOrder
+        (OpensCertificate pair.now.left pair.now.right (λ nodes. Ends (IsJudged pair.now.left pair.now.right nodes))) 2
+        (call (Some (asked_of_ask ask.now)) (F.told files.old) (F.told files.new))) result }
     ensures only_read { OnlyRead (F.told files.old) (F.told files.new) }
     ensures at_most { LoadsAtMost (Some (asked_of_ask ask.now)) 2 1 (F.told files.old) (F.told files.new) }
 {
+    let Pair {
+        left,
+        right,
+        pairing,
+    } = pair;
     match load_certificate(alloc, Operand(2), ask, left, right, pairing, files) {
         Ok(cert) => made_answer(judge(alloc, left, right, pairing, &cert)),
         Err(refused) => Err(refused),
@@ -68,20 +69,20 @@ fn verify_from<F: Files>(
 fn replay_from<F: Files>(
     alloc: Global,
     ask: &Ask,
-    left: &Machine,
-    right: &Machine,
+    pair: &Pair,
     steps: u64,
     files: &mut F,
 ) -> Result<Answer, Refused>
-    requires alike { interface_fault left.now right.now ≡ None }
+    requires alike { interface_fault pair.now.left pair.now.right ≡ None }
     requires steps { 1 ≤ steps }
-    ensures answers { AnswersBy (IsCorrectInOrder (OpensInputs left.now (λ ins. Ends (IsOfReplay steps left.now right.now ins))) 2
+    ensures answers { AnswersBy (IsCorrectInOrder
+        (OpensInputs pair.now.left (λ ins. Ends (IsOfReplay steps pair.now.left pair.now.right ins))) 2
         (call (Some (asked_of_ask ask.now)) (F.told files.old) (F.told files.new))) result }
     ensures only_read { OnlyRead (F.told files.old) (F.told files.new) }
     ensures at_most { LoadsAtMost (Some (asked_of_ask ask.now)) 2 1 (F.told files.old) (F.told files.new) }
 {
-    match load_inputs(alloc, Operand(2), ask, left, files) {
-        Ok(inputs) => made_answer(replay_machines(alloc, left, right, &inputs, steps)),
+    match load_inputs(alloc, Operand(2), ask, &pair.left, files) {
+        Ok(inputs) => made_answer(replay_machines(alloc, pair, &inputs, steps)),
         Err(refused) => Err(refused),
     }
 }
@@ -103,13 +104,8 @@ fn shrink_from<F: Files>(
     ensures only_read { OnlyRead (F.told files.old) (F.told files.new) }
     ensures at_most { LoadsAtMost (Some (asked_of_ask ask.now)) 2 1 (F.told files.old) (F.told files.new) }
 {
-    let Pair {
-        left,
-        right,
-        pairing,
-    } = pair;
-    match load_inputs(alloc, Operand(2), ask, left, files) {
-        Ok(inputs) => made_answer(shrink_inputs(alloc, left, right, pairing, &inputs, steps)),
+    match load_inputs(alloc, Operand(2), ask, &pair.left, files) {
+        Ok(inputs) => made_answer(shrink_inputs(alloc, pair, &inputs, steps)),
         Err(refused) => Err(refused),
     }
 }
@@ -131,17 +127,10 @@ fn answer_behind<F: Files>(
     ensures only_read { OnlyRead (F.told files.old) (F.told files.new) }
     ensures at_most { LoadsAtMost (Some (asked_of_ask ask.now)) 2 (files_behind command) (F.told files.old) (F.told files.new) }
 {
-    let Pair {
-        left,
-        right,
-        pairing,
-    } = pair;
     match command {
-        PairCommand::Check { steps, keeps } => made_answer(compare(
-            alloc, left, right, pairing, steps, keeps,
-        )),
-        PairCommand::Verify => verify_from(alloc, ask, left, right, pairing, files),
-        PairCommand::Replay { steps } => replay_from(alloc, ask, left, right, steps, files),
+        PairCommand::Check { steps, keeps } => made_answer(compare(alloc, pair, steps, keeps)),
+        PairCommand::Verify => verify_from(alloc, ask, pair, files),
+        PairCommand::Replay { steps } => replay_from(alloc, ask, pair, steps, files),
         PairCommand::Shrink { steps } => shrink_from(alloc, ask, pair, steps, files),
     }
 }

@@ -12,11 +12,10 @@ ghost use Rattle.fsmd_answers.specs.Follows.{Ends, OpensParts, OpensProgram, Ope
 ghost use Rattle.fsmd_tool.specs.Calls.{call, OnlyRead, LoadsAtMost, IsCorrectInOrder, AnswersBy};
 
 use crate::load::{load, load_binding, load_compiled, load_units};
-use crate::memory::made_answer;
 use fs_base::outside::Files;
 use fsmd_answers::bindings::bind_machine;
 use fsmd_answers::reading::Loaded;
-use fsmd_answers::refused::Refused;
+use fsmd_answers::refused::{Refused, made_answer};
 use fsmd_answers::schedules::schedule_machine;
 use fsmd_replies::answer::{Answer, Operand};
 use fsmd_words::asking::Ask;

@@ -8,5 +8,5 @@ use Rattle.fsmd_answers.proofs.compare.equivalent_answer.Goals as goal
 pub returns : goal.returns
 returns c =
     let count : c.len-nodes.result ≡ length (map node_of c.args.cert.now.nodes.items) = simp length-map (search rules) in
-    λ limit. equivalent limit c.args.keeps c.args.a.now c.args.b.now
+    λ limit. equivalent limit c.args.keeps c.args.pair.now.left c.args.pair.now.right
     (map node_of c.args.cert.now.nodes.items) c.len-nodes.result c.in_ok-cert.cert c.requires.same count c.in_ok-cert.ensures

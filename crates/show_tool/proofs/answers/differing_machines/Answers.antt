@@ -7,4 +7,4 @@ pub returns-in_default : goal.returns-in_default
 returns-in_default c = Other c.in_ok-answer.ensures
 
 pub inputs_or-requires-clause-answer : goal.inputs_or-requires-clause-answer
-inputs_or-requires-clause-answer c = subst (IsOfPair 10000 false c.args.a.now c.args.b.now) c.in-Differs.is c.in_ok-answer.ensures
+inputs_or-requires-clause-answer c = subst (IsOfPair 10000 false c.args.pair.now.left c.args.pair.now.right) c.in-Differs.is c.in_ok-answer.ensures

@@ -9,14 +9,14 @@ use Rattle.fsmd_tool.proofs.answer.pairs.replay_from.Goals as goal
 
 pub returns-in-Err-clause-answers : goal.returns-in-Err-clause-answers
 returns-in-Err-clause-answers g c =
-    refused_in_order Inputs (RefusesInputs c.args.left.now) (SpellsInputs c.args.left.now) (λ v. Ends
-    (IsOfReplay c.args.steps c.args.left.now c.args.right.now v))
+    refused_in_order Inputs (RefusesInputs c.args.pair.now.left) (SpellsInputs c.args.pair.now.left) (λ v. Ends
+    (IsOfReplay c.args.steps c.args.pair.now.left c.args.pair.now.right v))
     2 _ _ c.load_inputs.ensures.loads c.in-Err.ensures.refused
 
 pub returns-in-Ok-clause-answers : goal.returns-in-Ok-clause-answers
-returns-in-Ok-clause-answers g c = made_last Inputs (RefusesInputs c.args.left.now) (SpellsInputs c.args.left.now)
-    (IsOfReplay c.args.steps c.args.left.now c.args.right.now) 2 _ (inputs_of c.in-Ok.inputs)
+returns-in-Ok-clause-answers g c = made_last Inputs (RefusesInputs c.args.pair.now.left) (SpellsInputs c.args.pair.now.left)
+    (IsOfReplay c.args.steps c.args.pair.now.left c.args.pair.now.right) 2 _ (inputs_of c.in-Ok.inputs)
     c.load_inputs.ensures.loads c.in-Ok.ensures.spells c.replay_machines.result c.made_answer.result c.made_answer.ensures c.replay_machines.ensures
 
 pub replay_machines-requires-clause-right_inputs : goal.replay_machines-requires-clause-right_inputs
-replay_machines-requires-clause-right_inputs g c = serves_both c.args.left.now c.args.right.now _ c.requires.alike c.in-Ok.ensures.signatures
+replay_machines-requires-clause-right_inputs g c = serves_both c.args.pair.now.left c.args.pair.now.right _ c.requires.alike c.in-Ok.ensures.signatures

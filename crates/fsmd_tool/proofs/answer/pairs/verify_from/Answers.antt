@@ -10,12 +10,14 @@ use Rattle.fsmd_tool.proofs.answer.pairs.verify_from.Goals as goal
 
 pub returns-in-Err-clause-answers : goal.returns-in-Err-clause-answers
 returns-in-Err-clause-answers g c =
-    refused_in_order (List (Node Fact)) (RefusesCertificate c.args.left.now c.args.right.now) (SpellsCertificate c.args.left.now c.args.right.now)
-    (λ v. Ends (IsJudged c.args.left.now c.args.right.now v)) 2 _ _ c.load_certificate.ensures.loads c.in-Err.ensures.refused
+    refused_in_order (List (Node Fact)) (RefusesCertificate c.args.pair.now.left c.args.pair.now.right)
+    (SpellsCertificate c.args.pair.now.left c.args.pair.now.right)
+    (λ v. Ends (IsJudged c.args.pair.now.left c.args.pair.now.right v)) 2 _ _ c.load_certificate.ensures.loads c.in-Err.ensures.refused
 
 pub returns-in-Ok-clause-answers : goal.returns-in-Ok-clause-answers
-returns-in-Ok-clause-answers g c = made_last (List (Node Fact)) (RefusesCertificate c.args.left.now c.args.right.now)
-    (SpellsCertificate c.args.left.now c.args.right.now) (IsJudged c.args.left.now c.args.right.now) 2 _ (map node_of c.in-Ok.cert.nodes.items)
+returns-in-Ok-clause-answers g c = made_last (List (Node Fact)) (RefusesCertificate c.args.pair.now.left c.args.pair.now.right)
+    (SpellsCertificate c.args.pair.now.left c.args.pair.now.right) (IsJudged c.args.pair.now.left c.args.pair.now.right) 2 _
+    (map node_of c.in-Ok.cert.nodes.items)
     c.load_certificate.ensures.loads c.in-Ok.ensures.spells c.judge.result c.made_answer.result c.made_answer.ensures c.judge.ensures
 
 pub judge-requires-clause-lawful : goal.judge-requires-clause-lawful
