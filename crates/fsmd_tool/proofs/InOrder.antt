@@ -1,7 +1,7 @@
 -- What is correct, from the files that were loaded in the call: those of FromFiles, with the loads.
 use Rattle.std.proofs.Common.{◌≡◌, ◌+◌, ℕ, suc, List, [], ◌∷◌, length, Option, Some, refl, sym, subst, arith}
 use Rattle.std.specs.Prelude.{Result, Ok, Err, IfOk, None}
-use Rattle.std.specs.Result.{IfErr}
+use Rattle.std.specs.Result.{IfErr, IsErrAnd}
 use Rattle.fsmd_words.specs.AskedWords.{Asked}
 use Rattle.fs_base.specs.Outside.{FilesTold}
 use Rattle.fs_model.specs.Machines.{Fsmd}
@@ -30,6 +30,16 @@ pub in_answer : (P : Answer → Type 0) (r : Result Answer Refusal) (x : Answer)
 in_answer P (Ok y) x e h = subst P (let k : y ≡ x = cc e in k) h
 in_answer P (Err (refusal.Answered y)) x e h = subst P (let k : y ≡ x = cc e in k) h
 in_answer P (Err refusal.NoMemory) x e h = absurd (let k : None ≡ Some x = e in cc)
+
+-- what is said of a refusal that is passed on
+pub passed_on : (P : Answer → Type 0) (r : Result Answer Refusal) (e : Refusal) → IsErrAnd r (λ d. d ≡ e) → WhereAnswered P e → AnswersBy P r
+passed_on P (Ok x) e is h = absurd is
+passed_on P (Err d) e is h = subst (WhereAnswered P) (sym is) h
+
+pub refused_on : {T : Type 0} (P : Answer → Type 0) (r : Result T Refusal) (e : Refusal) → IsErrAnd r (λ d. d ≡ e) → WhereAnswered P e
+    → IfErr r (WhereAnswered P)
+refused_on P (Ok x) e is h = absurd is
+refused_on P (Err d) e is h = subst (WhereAnswered P) (sym is) h
 
 -- what is correct, whatever was loaded
 pub correct_of : (P : (file : ℕ) → Reading → Answer → Type 0) (n : ℕ) (g : Call) (e : Refusal) → WhereAnswered (IsCorrectInOrder P n g) e

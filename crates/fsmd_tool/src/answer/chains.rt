@@ -60,21 +60,17 @@ fn load_link<F: Files>(
     ensures loads { OnOk result (LoadsFrom (Some (asked_of_ask ask.now)) file 2 (F.told files.old) (F.told files.new)) }
     ensures at_most { LoadsAtMost (Some (asked_of_ask ask.now)) file 2 (F.told files.old) (F.told files.new) }
 {
-    match load_next(alloc, Operand(file), ask, last, files) {
-        Ok(next) => match load_certificate(
-            alloc,
-            Operand(file + 1),
-            ask,
-            last,
-            &next.machine,
-            &next.pairing,
-            files,
-        ) {
-            Ok(cert) => Ok(Link { next, cert }),
-            Err(refused) => Err(refused),
-        },
-        Err(refused) => Err(refused),
-    }
+    let next = load_next(alloc, Operand(file), ask, last, files)?;
+    let cert = load_certificate(
+        alloc,
+        Operand(file + 1),
+        ask,
+        last,
+        &next.machine,
+        &next.pairing,
+        files,
+    )?;
+    Ok(Link { next, cert })
 }
 
 // A chain of which so many links hold, with the next one, or the answer to this one: the first refusal, or the verdict that is
@@ -164,11 +160,6 @@ pub fn chain_files<F: Files>(
     ensures at_most { LoadsAtMost (Some (asked_of_ask ask.now)) 0 (1 + 2 * links_of (map string_bytes words.now))
         (F.told files.old) (F.told files.new) }
 {
-    match load(alloc, Operand(0), ask, files) {
-        Ok(loaded) => {
-            let Loaded { machine, .. } = loaded;
-            links_from(alloc, ask, machine, link_count(words), files)
-        }
-        Err(refused) => Err(refused),
-    }
+    let Loaded { machine, .. } = load(alloc, Operand(0), ask, files)?;
+    links_from(alloc, ask, machine, link_count(words), files)
 }

@@ -52,10 +52,8 @@ pub fn format_text<F: Files>(alloc: Global, ask: &Ask, files: &mut F) -> Result<
     ensures only_read { OnlyRead (F.told files.old) (F.told files.new) }
     ensures at_most { LoadsAtMost (Some (asked_of_ask ask.now)) 0 1 (F.told files.old) (F.told files.new) }
 {
-    match load(alloc, Operand(0), ask, files) {
-        Ok(loaded) => made_answer(canonical_text(alloc, &loaded.parts)),
-        Err(refused) => Err(refused),
-    }
+    let loaded = load(alloc, Operand(0), ask, files)?;
+    made_answer(canonical_text(alloc, &loaded.parts))
 }
 
 /// What `cuts` answers: the paths of a machine. Where the file spells none, the answer that refuses it; or out of memory.
@@ -65,10 +63,8 @@ pub fn cut_paths<F: Files>(alloc: Global, ask: &Ask, files: &mut F) -> Result<An
     ensures only_read { OnlyRead (F.told files.old) (F.told files.new) }
     ensures at_most { LoadsAtMost (Some (asked_of_ask ask.now)) 0 1 (F.told files.old) (F.told files.new) }
 {
-    match load(alloc, Operand(0), ask, files) {
-        Ok(loaded) => made_answer(text_of_paths(alloc, &loaded.machine)),
-        Err(refused) => Err(refused),
-    }
+    let loaded = load(alloc, Operand(0), ask, files)?;
+    made_answer(text_of_paths(alloc, &loaded.machine))
 }
 
 // What a run of a machine answers to the file of its inputs.
@@ -85,10 +81,8 @@ fn run_from<F: Files>(
     ensures only_read { OnlyRead (F.told files.old) (F.told files.new) }
     ensures at_most { LoadsAtMost (Some (asked_of_ask ask.now)) 1 1 (F.told files.old) (F.told files.new) }
 {
-    match load_inputs(alloc, Operand(1), ask, machine, files) {
-        Ok(inputs) => made_answer(run_machine(alloc, machine, &inputs, steps)),
-        Err(refused) => Err(refused),
-    }
+    let inputs = load_inputs(alloc, Operand(1), ask, machine, files)?;
+    made_answer(run_machine(alloc, machine, &inputs, steps))
 }
 
 /// What `run` answers: the end of a machine's run of at most so many steps, or why it has none. Where a file is refused, the
@@ -105,8 +99,6 @@ pub fn run_files<F: Files>(
     ensures only_read { OnlyRead (F.told files.old) (F.told files.new) }
     ensures at_most { LoadsAtMost (Some (asked_of_ask ask.now)) 0 2 (F.told files.old) (F.told files.new) }
 {
-    match load(alloc, Operand(0), ask, files) {
-        Ok(loaded) => run_from(alloc, ask, &loaded.machine, steps, files),
-        Err(refused) => Err(refused),
-    }
+    let loaded = load(alloc, Operand(0), ask, files)?;
+    run_from(alloc, ask, &loaded.machine, steps, files)
 }

@@ -59,10 +59,8 @@ fn verify_from<F: Files>(
         right,
         pairing,
     } = pair;
-    match load_certificate(alloc, Operand(2), ask, left, right, pairing, files) {
-        Ok(cert) => made_answer(judge(alloc, left, right, pairing, &cert)),
-        Err(refused) => Err(refused),
-    }
+    let cert = load_certificate(alloc, Operand(2), ask, left, right, pairing, files)?;
+    made_answer(judge(alloc, left, right, pairing, &cert))
 }
 
 // What runs of two machines with the same interface answer to the file of their inputs.
@@ -81,10 +79,8 @@ fn replay_from<F: Files>(
     ensures only_read { OnlyRead (F.told files.old) (F.told files.new) }
     ensures at_most { LoadsAtMost (Some (asked_of_ask ask.now)) 2 1 (F.told files.old) (F.told files.new) }
 {
-    match load_inputs(alloc, Operand(2), ask, &pair.left, files) {
-        Ok(inputs) => made_answer(replay_machines(alloc, pair, &inputs, steps)),
-        Err(refused) => Err(refused),
-    }
+    let inputs = load_inputs(alloc, Operand(2), ask, &pair.left, files)?;
+    made_answer(replay_machines(alloc, pair, &inputs, steps))
 }
 
 // What two machines with the same interface answer to the file of inputs that are to be made small.
@@ -104,10 +100,8 @@ fn shrink_from<F: Files>(
     ensures only_read { OnlyRead (F.told files.old) (F.told files.new) }
     ensures at_most { LoadsAtMost (Some (asked_of_ask ask.now)) 2 1 (F.told files.old) (F.told files.new) }
 {
-    match load_inputs(alloc, Operand(2), ask, &pair.left, files) {
-        Ok(inputs) => made_answer(shrink_inputs(alloc, pair, &inputs, steps)),
-        Err(refused) => Err(refused),
-    }
+    let inputs = load_inputs(alloc, Operand(2), ask, &pair.left, files)?;
+    made_answer(shrink_inputs(alloc, pair, &inputs, steps))
 }
 
 // What a command answers to two machines with the same inputs and outputs, from the files behind theirs.

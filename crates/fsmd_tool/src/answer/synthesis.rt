@@ -46,10 +46,8 @@ fn schedule_from<F: Files>(
     ensures only_read { OnlyRead (F.told files.old) (F.told files.new) }
     ensures at_most { LoadsAtMost (Some (asked_of_ask ask.now)) 1 1 (F.told files.old) (F.told files.new) }
 {
-    match load_units(alloc, Operand(1), ask, files) {
-        Ok(units) => made_answer(schedule_machine(alloc, &loaded.parts, &loaded.machine, &units)),
-        Err(refused) => Err(refused),
-    }
+    let units = load_units(alloc, Operand(1), ask, files)?;
+    made_answer(schedule_machine(alloc, &loaded.parts, &loaded.machine, &units))
 }
 
 /// What `schedule` answers: a machine with its lines in rows, under the units of a file. Where a file is refused, the answer
@@ -61,10 +59,8 @@ pub fn schedule_files<F: Files>(alloc: Global, ask: &Ask, files: &mut F) -> Resu
     ensures only_read { OnlyRead (F.told files.old) (F.told files.new) }
     ensures at_most { LoadsAtMost (Some (asked_of_ask ask.now)) 0 2 (F.told files.old) (F.told files.new) }
 {
-    match load(alloc, Operand(0), ask, files) {
-        Ok(loaded) => schedule_from(alloc, ask, &loaded, files),
-        Err(refused) => Err(refused),
-    }
+    let loaded = load(alloc, Operand(0), ask, files)?;
+    schedule_from(alloc, ask, &loaded, files)
 }
 
 // What the machine of parts is answered to the file of its binding.
@@ -81,10 +77,8 @@ fn bind_from<F: Files>(
     ensures only_read { OnlyRead (F.told files.old) (F.told files.new) }
     ensures at_most { LoadsAtMost (Some (asked_of_ask ask.now)) 1 1 (F.told files.old) (F.told files.new) }
 {
-    match load_binding(alloc, Operand(1), ask, &loaded.machine, files) {
-        Ok(binding) => made_answer(bind_machine(alloc, &loaded.parts, &loaded.machine, &binding)),
-        Err(refused) => Err(refused),
-    }
+    let binding = load_binding(alloc, Operand(1), ask, &loaded.machine, files)?;
+    made_answer(bind_machine(alloc, &loaded.parts, &loaded.machine, &binding))
 }
 
 /// What `bind` answers: a machine with registers for its locals, or the first branch that loses one. Where a file is refused,
@@ -96,8 +90,6 @@ pub fn bind_files<F: Files>(alloc: Global, ask: &Ask, files: &mut F) -> Result<A
     ensures only_read { OnlyRead (F.told files.old) (F.told files.new) }
     ensures at_most { LoadsAtMost (Some (asked_of_ask ask.now)) 0 2 (F.told files.old) (F.told files.new) }
 {
-    match load(alloc, Operand(0), ask, files) {
-        Ok(loaded) => bind_from(alloc, ask, &loaded, files),
-        Err(refused) => Err(refused),
-    }
+    let loaded = load(alloc, Operand(0), ask, files)?;
+    bind_from(alloc, ask, &loaded, files)
 }

@@ -7,15 +7,17 @@ use Rattle.fsmd_answers.specs.MachineFiles.{SpellsParts}
 use Rattle.fsmd_answers.specs.Refusals.{RefusesMachine}
 use Rattle.fsmd_answers.specs.Follows.{Ends}
 use Rattle.fsmd_tool.proofs.FromFiles.{parts_held}
-use Rattle.fsmd_tool.proofs.InOrder.{refused_in_order, made_last}
+use Rattle.fsmd_tool.proofs.InOrder.{passed_on, refused_in_order, made_last}
 use Rattle.fsmd_tool.proofs.answer.machines.format_text.Goals as goal
 
-pub returns-in-Err-clause-answers : goal.returns-in-Err-clause-answers
-returns-in-Err-clause-answers g c =
-    refused_in_order Source RefusesMachine SpellsParts (λ parts. Ends (λ answer. answer ≡ Text (canonical parts))) 0 _ _ c.load.ensures.loads
-    c.in-Err.ensures.refused
+pub returns-in_err-loaded-clause-answers : goal.returns-in_err-loaded-clause-answers
+returns-in_err-loaded-clause-answers g c =
+    passed_on _ c.from_residual.result _ c.from_residual.ensures.1
+    (refused_in_order Source RefusesMachine SpellsParts (λ parts. Ends (λ answer. answer ≡ Text (canonical parts))) 0 _ _ c.load.ensures.loads
+    c.in_err-loaded.ensures.refused)
 
-pub returns-in-Ok-clause-answers : goal.returns-in-Ok-clause-answers
-returns-in-Ok-clause-answers g c =
-    made_last Source RefusesMachine SpellsParts (λ parts answer. answer ≡ Text (canonical parts)) 0 _ (source_of c.in-Ok.loaded.parts) c.load.ensures.loads
-    (parts_held _ _ _ c.in-Ok.ensures.loaded) c.canonical_text.result c.made_answer.result c.made_answer.ensures c.canonical_text.ensures
+pub returns-clause-answers : goal.returns-clause-answers
+returns-clause-answers g c =
+    made_last Source RefusesMachine SpellsParts (λ parts answer. answer ≡ Text (canonical parts)) 0 _ (source_of c.in_ok-loaded.loaded.parts)
+    c.load.ensures.loads
+    (parts_held _ _ _ c.in_ok-loaded.ensures.loaded) c.canonical_text.result c.made_answer.result c.made_answer.ensures c.canonical_text.ensures

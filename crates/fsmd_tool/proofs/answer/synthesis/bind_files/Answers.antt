@@ -9,35 +9,36 @@ use Rattle.fsmd_answers.specs.Follows.{Ends, OpensBinding}
 use Rattle.fsmd_tool.proofs.FromFiles.{parts_held}
 use Rattle.fsmd_tool.proofs.Later.{read_both}
 use Rattle.fsmd_tool.proofs.Loads.{fewer, at_most_on}
-use Rattle.fsmd_tool.proofs.InOrder.{refused_in_order, spelled_in_order}
+use Rattle.fsmd_tool.proofs.InOrder.{passed_on, refused_in_order, spelled_in_order}
 use Rattle.fsmd_tool.proofs.answer.synthesis.bind_files.Goals as goal
 
-pub returns-in-Err-clause-answers : goal.returns-in-Err-clause-answers
-returns-in-Err-clause-answers g c =
-    refused_in_order Source RefusesMachine SpellsParts (λ parts. OpensBinding (machine_of parts) (λ b. Ends (IsOfBinding parts b)))
-    0 _ _ c.load.ensures.loads c.in-Err.ensures.refused
+pub returns-in_err-loaded-clause-answers : goal.returns-in_err-loaded-clause-answers
+returns-in_err-loaded-clause-answers g c =
+    passed_on _ c.from_residual.result _ c.from_residual.ensures.1
+    (refused_in_order Source RefusesMachine SpellsParts (λ parts. OpensBinding (machine_of parts) (λ b. Ends (IsOfBinding parts b)))
+    0 _ _ c.load.ensures.loads c.in_err-loaded.ensures.refused)
 
-pub returns-in-Ok-clause-answers : goal.returns-in-Ok-clause-answers
-returns-in-Ok-clause-answers g c =
-    let v = source_of c.in-Ok.loaded.parts in
+pub returns-clause-answers : goal.returns-clause-answers
+returns-clause-answers g c =
+    let v = source_of c.in_ok-loaded.loaded.parts in
     spelled_in_order Source RefusesMachine SpellsParts (λ parts. OpensBinding (machine_of parts) (λ b. Ends (IsOfBinding parts b))) 0 _ _ _
     (g.F.Files.told c.bind_from.new.files) c.load.ensures.only_read c.load.ensures.loads v
-    (parts_held _ _ _ c.in-Ok.ensures.loaded) c.bind_from.result
+    (parts_held _ _ _ c.in_ok-loaded.ensures.loaded) c.bind_from.result
     c.bind_from.ensures.answers
 
 pub bind_from-requires : goal.bind_from-requires
 bind_from-requires g c = record {
-  formed = c.in-Ok.ensures.well_formed;
-  lawful = c.in-Ok.ensures.loaded.meet.spells.lawful;
-  spelled = c.in-Ok.ensures.loaded.meet.machine;
+  formed = c.in_ok-loaded.ensures.well_formed;
+  lawful = c.in_ok-loaded.ensures.loaded.meet.spells.lawful;
+  spelled = c.in_ok-loaded.ensures.loaded.meet.machine;
 }
 
-pub returns-in-Err-clause-at_most : goal.returns-in-Err-clause-at_most
-returns-in-Err-clause-at_most g c = fewer _ 0 1 2 _ _ (omega arith) c.load.ensures.at_most
+pub returns-in_err-loaded-clause-at_most : goal.returns-in_err-loaded-clause-at_most
+returns-in_err-loaded-clause-at_most g c = fewer _ 0 1 2 _ _ (omega arith) c.load.ensures.at_most
 
-pub returns-in-Ok-clause-at_most : goal.returns-in-Ok-clause-at_most
-returns-in-Ok-clause-at_most g c =
+pub returns-clause-at_most : goal.returns-clause-at_most
+returns-clause-at_most g c =
     at_most_on _ 0 1 1 1 2 _ _ _ (omega arith) (omega arith) c.load.ensures.loads c.bind_from.ensures.at_most
 
-pub returns-in-Ok-clause-only_read : goal.returns-in-Ok-clause-only_read
-returns-in-Ok-clause-only_read g c = read_both _ _ _ c.load.ensures.only_read c.bind_from.ensures.only_read
+pub returns-clause-only_read : goal.returns-clause-only_read
+returns-clause-only_read g c = read_both _ _ _ c.load.ensures.only_read c.bind_from.ensures.only_read
