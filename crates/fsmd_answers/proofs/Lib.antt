@@ -8,6 +8,5 @@ pub mod Ports
 pub mod ProgramAnswers
 pub mod SmallAnswers
 pub use Rattle.fsmd_pair_answers.proofs.Alike
-pub use Rattle.fsmd_pair_answers.proofs.Interfaces
 pub use Rattle.fsmd_pair_answers.proofs.Behaviour
 pub use Rattle.fsmd_pair_answers.proofs.Once

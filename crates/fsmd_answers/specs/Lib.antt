@@ -19,9 +19,7 @@ pub use Rattle.fsmd_pair_answers.specs.Certificates
 pub use Rattle.fsmd_pair_answers.specs.SearchOutcomes
 pub use Rattle.fsmd_pair_answers.specs.PairAnswers
 pub use Rattle.fsmd_pair_answers.specs.Verdicts
-pub use Rattle.fsmd_replies.specs.SearchTables
 pub use Rattle.cert_writer.specs.WrittenCertificates
-pub use Rattle.fsmd_pair_answers.specs.Alike
 pub use Rattle.fsmd_synthesis_answers.specs.BindingAnswers
 pub use Rattle.fsmd_synthesis_answers.specs.ProgramAnswers
 pub use Rattle.fsmd_synthesis_answers.specs.ScheduleAnswers

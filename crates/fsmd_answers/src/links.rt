@@ -110,9 +110,7 @@ pub fn add_link(
         (verdict_on chain.last next (map node_of cert.now.nodes.items) ≢ Yes)
         × AtLink (Some (asked_of_ask ask.now)) link (IsJudged chain.last next (map node_of cert.now.nodes.items)) answer)) }
 {
-    let Ok((last, copy)) = copies(alloc, chain.last(), &next) else {
-        return Err(Refused::NoMemory);
-    };
+    let (last, copy) = copies(alloc, chain.last(), &next)?;
     match chain.add(alloc, next, pairing, cert) {
         Ok(longer) => Ok(longer),
         Err(stop) => Err(refused_link(alloc, ask, link, &last, &copy, pairing, stop)),

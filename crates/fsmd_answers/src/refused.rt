@@ -5,6 +5,7 @@ ghost use Rattle.std.specs.Result.{OnErr};
 ghost use Rattle.fsmd_answers.specs.declared.refused.Refused.TheVariants.{NoMemory};
 ghost use Rattle.fsmd_answers.specs.Refusing.{answer_in, made_answer};
 
+use fs_model::name::NoMemory as OutOfMemory;
 use fsmd_replies::answer::Answer;
 use std::alloc::AllocError;
 
@@ -21,6 +22,14 @@ impl From<AllocError> for Refused {
     ghost from_gives = { λ _ refused. refused ≡ NoMemory };
 
     fn from(_error: AllocError) -> Refused {
+        Refused::NoMemory
+    }
+}
+
+impl From<OutOfMemory> for Refused {
+    ghost from_gives = { λ _ refused. refused ≡ NoMemory };
+
+    fn from(_error: OutOfMemory) -> Refused {
         Refused::NoMemory
     }
 }

@@ -8,4 +8,4 @@ pub returns-clause-fails : goal.returns-clause-fails
 returns-clause-fails c =
     let nodes = map node_of c.args.cert.now.nodes.items in
     link_fails (Some (asked_of_ask c.args.ask.now)) c.args.link c.args.chain.last c.args.next _ _ nodes c.in-Err.stop c.refused_link.result
-    (c.in-Ok.ensures.left ∙ c.last.ensures.last) c.in-Ok.ensures.right (c.refused_link.ensures nodes) c.in-Err.ensures.verdict
+    (c.in_ok-last.ensures.left ∙ c.last.ensures.last) c.in_ok-last.ensures.right (c.refused_link.ensures nodes) c.in-Err.ensures.verdict
