@@ -1,9 +1,11 @@
 -- What is correct, from what was loaded.
-use Rattle.std.proofs.Common.{◌∙◌, ◌≡◌, ◌<◌, ◌+◌, ℕ, List, [], ◌∷◌, length, refl, subst, arith}
+use Rattle.std.proofs.Common.{◌∙◌, ◌≡◌, ◌<◌, ◌+◌, ℕ, List, [], ◌∷◌, length, refl, sym, ap, subst, arith}
 use Rattle.std.specs.Prelude.{Result, Ok, Err, IfOk, None, replicate}
 use Rattle.std.proofs.lemmas.List.{length-replicate}
 use Rattle.std.specs.Result.{IfErr}
-use Rattle.fs_base.specs.Outside.{FileKnowledge, Unknown, NoFile, Bytes, AreHeld, MoreAreHeld}
+use Rattle.fs_base.specs.Outside.{FileKnowledge, Unknown, NoFile, Bytes, AreHeld, MoreAreHeld, Rose, WhereFailed, WhereTooLong}
+use Rattle.fs_base.specs.declared.outside.LoadError.{LoadError}
+use Rattle.fs_base.specs.declared.outside.LoadError.TheVariants as errors
 use Rattle.fs_model.specs.Machines.{Fsmd}
 use Rattle.fs_model.specs.Source.{Source}
 use Rattle.fs_pair.specs.Interfaces.{interface_fault}
@@ -11,17 +13,17 @@ use Rattle.fsmd_replies.specs.declared.answer.Operand.{Operand}
 use Rattle.fsmd_replies.specs.declared.answer.Answer.{Answer}
 use Rattle.fsmd_replies.specs.declared.answer.Answer.TheVariants.{TooLong}
 use Rattle.fsmd_answers.specs.declared.refused.Refused.{Refused as Refusal}
-use Rattle.fsmd_replies.specs.AskedFiles.{operand}
+use Rattle.fsmd_replies.specs.AskedFiles.{operand, file_word_of}
 use Rattle.fsmd_answers.specs.MachineFiles.{SpellsParts, SpellsMachine}
-use Rattle.fsmd_answers.specs.Readings.{FileContent, Readable, Reading}
-use Rattle.fsmd_answers.specs.Unread.{IsUnread, Long}
+use Rattle.fsmd_answers.specs.Readings.{FileContent, Readable, Unreadable, Reading}
+use Rattle.fsmd_answers.specs.Unread.{IsUnread, Failed, Long}
 use Rattle.fsmd_answers.specs.Refusals.{RefusesMachine, RefusesPair}
 use Rattle.fsmd_answers.specs.Refusing.{WhereAnswered, IsLoaded}
 use Rattle.fsmd_answers.specs.ProgramFiles.{IsOfProgramIn}
 use Rattle.fsmd_answers.specs.Follows.{Ends, Opens, Refused, Spelled, ComparesPairs, Other, SameInterface, OpensMachine, OpensPair}
 use Rattle.fsmd_answers.proofs.Maps.{answer_map, ok_map, err_map}
-use Rattle.fsmd_tool.specs.Calls.{Call, known_at_start, MayHold, IsCorrectFrom, AnswersBy}
-use Rattle.fsmd_tool.specs.Loading.{MayGive, GivesContent, NothingFollows, RefusesNext, RefusesBoth}
+use Rattle.fsmd_tool.specs.Calls.{Call, known_at_start, FailedToRead, MayHold, IsCorrectFrom, AnswersBy}
+use Rattle.fsmd_tool.specs.Loading.{unread_refusal, MayGive, GivesContent, NothingFollows, RefusesNext, RefusesBoth}
 
 -- what holds of answers, for another cause
 pub answers_map : (P Q : Answer → Type 0) → ((x : Answer) → P x → Q x) → (r : Result Answer Refusal) → AnswersBy P r → AnswersBy Q r
@@ -51,6 +53,33 @@ pub too_long : (k h : FileKnowledge) (F : Type 0) (limit : ℕ) (file : Operand)
 too_long Unknown h F limit file e m = record { content = Readable (longer limit).bytes; may = tt; meets = Long (longer limit).more refl }
 too_long NoFile h F limit file e m = absurd (subst (λ o. MoreAreHeld o limit) e m)
 too_long (Bytes b) h F limit file e m = record { content = Readable b; may = refl; meets = Long (subst (λ o. MoreAreHeld o limit) e m) refl }
+
+-- a file that was not loaded was not read, and is refused so
+module _ (g : Call) (file : Operand) (limit : ℕ) where
+  unread_given : (name : List ℕ) (error : LoadError) → name ≡ file_word_of g.asked file
+      → WhereFailed (Rose (g.before.faults name) (g.now.faults name)) error → WhereTooLong (MoreAreHeld (g.before.holds name) limit) error
+      → WhereAnswered (GivesContent g file (IsUnread limit file)) (unread_refusal file limit error)
+  unread_given name errors.Failed e rose more =
+      record { content = Unreadable; may = subst (λ w. Rose (g.before.faults w) (g.now.faults w)) e rose; meets = Failed refl refl }
+  unread_given name errors.TooLong e rose more = too_long _ _ (FailedToRead g file) limit file (ap g.before.holds e) more
+  unread_given name errors.NoMemory e rose more = tt
+
+  pub unread_as : (P : FileContent → Answer → Type 0) → ((c : FileContent) (x : Answer) → IsUnread limit file c x → P c x)
+      → (name : List ℕ) (error : LoadError) (r : Refusal) → r ≡ unread_refusal file limit error → name ≡ file_word_of g.asked file
+      → WhereFailed (Rose (g.before.faults name) (g.now.faults name)) error → WhereTooLong (MoreAreHeld (g.before.holds name) limit) error
+      → WhereAnswered (GivesContent g file P) r
+  unread_as P f name error r is e rose more = subst (WhereAnswered (GivesContent g file P)) (sym is)
+      (answer_map (GivesContent g file (IsUnread limit file)) (GivesContent g file P)
+      (λ x m. record { content = m.content; may = m.may; meets = f m.content x m.meets }) (unread_refusal file limit error)
+      (unread_given name error e rose more))
+
+-- what is said of bytes that were loaded is said of bytes that the file may hold
+pub held_bytes : (holds : List ℕ → FileKnowledge) (name word xs ys : List ℕ) → name ≡ word → ys ≡ xs → AreHeld (holds name) xs → AreHeld (holds word) ys
+held_bytes holds name word xs ys e is h = subst (λ w. AreHeld (holds w) ys) e (subst (AreHeld (holds name)) (sym is) h)
+
+pub held_of : {T E : Type 0} (k : FileKnowledge) (bytes : List ℕ) (r : Result T E) (P : T → List ℕ → Type 0) → AreHeld k bytes → IfOk r (λ v. P v bytes)
+    → IfOk r (λ v. MayHold k (P v))
+held_of k bytes r P m h = ok_map (λ v. P v bytes) (λ v. MayHold k (P v)) (λ v p. record { bytes = bytes; may = m; meet = p }) r h
 
 -- a program that bytes spell is one that a file may hold
 pub compiled_held : {E : Type 0} (k : FileKnowledge) (bytes : List ℕ) (r : Result Answer E) → AreHeld k bytes → IfOk r (IsOfProgramIn bytes)

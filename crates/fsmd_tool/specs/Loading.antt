@@ -1,13 +1,24 @@
 -- What loading files gives.
 use Rattle.std.specs.Prelude.{ℕ}
 use Rattle.fs_base.specs.Outside.{FileKnowledge}
+use Rattle.fs_base.specs.declared.outside.LoadError.{LoadError}
+use Rattle.fs_base.specs.declared.outside.LoadError.TheVariants.{Failed, TooLong, NoMemory}
 use Rattle.fs_model.specs.Machines.{Fsmd}
 use Rattle.fsmd_replies.specs.declared.answer.Operand.{Operand}
 use Rattle.fsmd_replies.specs.declared.answer.Answer.{Answer}
+use Rattle.fsmd_replies.specs.declared.answer.Answer.TheVariants.{CannotRead, TooLong as LongFile}
+use Rattle.fsmd_answers.specs.declared.refused.Refused.{Refused as Refusal}
+use Rattle.fsmd_answers.specs.declared.refused.Refused.TheVariants.{Answered, NoMemory as NoAnswer}
 use Rattle.fsmd_answers.specs.Readings.{FileContent, Reading}
 use Rattle.fsmd_answers.specs.Refusals.{RefusesPair}
 use Rattle.fsmd_answers.specs.Follows.{ComparesPairs, OpensMachine, OpensCertificate}
 use Rattle.fsmd_tool.specs.Calls.{Call, known_at_start, FailedToRead, MayBeRead}
+
+-- why the bytes of a file, at most so many, are not read
+abbrev pub unread_refusal : Operand → (limit : ℕ) → LoadError → Refusal
+unread_refusal file limit Failed = Answered (CannotRead file)
+unread_refusal file limit TooLong = Answered (LongFile file limit)
+unread_refusal file limit NoMemory = NoAnswer
 
 -- what may be read of a file meets P
 pub record MayGive (known : FileKnowledge) (Failed : Type 0) (P : FileContent → Type 0) : Type 0 where

@@ -1,8 +1,8 @@
 //! The call of `fsmd`: loads its files, answers from what they spell, stores and puts.
 //!
-//! Promises: `load`, `load_pair` and the other loads: what a file spells, or the answer that refuses it; `answer_command`: a
-//! correct answer, and just the files that it follows from were loaded, in order; `drive`: all that is promised of a call;
-//! `run_words` and `run_program`: the program as a whole.
+//! Promises: `load`, `load_pair` and the other loads: what a file spells, or the answer that refuses it; `answer`: a correct
+//! answer, and just the files that it follows from were loaded, in order; `drive`: all that is promised of a call; `run_words`
+//! and `run_program`: the program as a whole.
 //!
 //! Rules: `specs/Equivalent`, `specs/Correct`, `specs/Clauses`, `specs/Running`, `specs/Asking`, `specs/CertificateStores`,
 //! `specs/Calls`, `specs/Loading`, `specs/PairCommands`, `specs/HoldingLinks`.

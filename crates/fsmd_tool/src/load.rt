@@ -21,7 +21,7 @@ ghost use Rattle.fsmd_answers.specs.ScheduleFiles.{SpellUnits, RefusesUnits};
 ghost use Rattle.fsmd_answers.specs.BindingFiles.{SpellsBinding, RefusesBinding};
 ghost use Rattle.fsmd_answers.specs.Refusing.{WhereAnswered, IsLoaded};
 ghost use Rattle.fsmd_tool.specs.Calls.{call, OnlyRead, LoadsFrom, LoadsAtMost, MayHold, IsCorrectInOrder};
-ghost use Rattle.fsmd_tool.specs.Loading.{GivesContent, RefusesNext, RefusesBoth};
+ghost use Rattle.fsmd_tool.specs.Loading.{unread_refusal, GivesContent, RefusesNext, RefusesBoth};
 ghost use Rattle.fs_pair.specs.Interfaces.{interface_fault};
 
 use cert_model::cert::Cert;
@@ -43,6 +43,17 @@ use hls_bind::Binding;
 use hls_unit_counts::Units;
 use std::alloc::Global;
 
+// The refusal of a file of which the bytes, at most so many, are not read.
+fn refused_load(file: Operand, limit: u64, error: LoadError) -> Refused
+    ensures { result ≡ unread_refusal file limit error }
+{
+    match error {
+        LoadError::Failed => Refused::Answered(Answer::CannotRead { file }),
+        LoadError::TooLong => Refused::Answered(Answer::TooLong { file, limit }),
+        LoadError::NoMemory => Refused::NoMemory,
+    }
+}
+
 // The bytes of a file, at most so many, or the answer that they are not read.
 fn load_bytes<F: Files>(
     alloc: Global,
@@ -63,9 +74,7 @@ fn load_bytes<F: Files>(
 {
     match files.load(alloc, word_of(ask, file), limit) {
         Ok(bytes) => Ok(bytes),
-        Err(LoadError::Failed) => Err(Refused::Answered(Answer::CannotRead { file })),
-        Err(LoadError::TooLong) => Err(Refused::Answered(Answer::TooLong { file, limit })),
-        Err(LoadError::NoMemory) => Err(Refused::NoMemory),
+        Err(error) => Err(refused_load(file, limit, error)),
     }
 }
 
@@ -87,8 +96,10 @@ pub fn load<F: Files>(
     ensures loads { LoadsFrom (Some (asked_of_ask ask.now)) file.0 1 (F.told files.old) (F.told files.new) }
     ensures at_most { LoadsAtMost (Some (asked_of_ask ask.now)) file.0 1 (F.told files.old) (F.told files.new) }
 {
-    let bytes = load_bytes(alloc, file, TEXT_LIMIT as u64, ask, files)?;
-    read_machine(alloc, file, bytes.as_slice())
+    match files.load(alloc, word_of(ask, file), TEXT_LIMIT as u64) {
+        Ok(bytes) => read_machine(alloc, file, bytes.as_slice()),
+        Err(error) => Err(refused_load(file, TEXT_LIMIT as u64, error)),
+    }
 }
 
 /// The inputs of a machine that a file spells, or the answer that refuses the file.
