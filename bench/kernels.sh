@@ -2,14 +2,14 @@
 # Prints how many of the machines of examples/from_c are decided, and how long `check` takes: bench/kernels.sh. A line a kind, with
 # the processor milliseconds of the pair in the middle and of the longest; each pair is checked once.
 set -u
-cd "$(dirname "$0")/.."
+cd "$(dirname "$0")/.." || exit 1
 program=${FSMD:-$PWD/crates/fsmd/out/fsmd}
 [ -x "$program" ] || { echo "build the program first: (cd crates/fsmd && rt run)"; exit 1; }
 TIMEFORMAT='%U %S'
 
 # A line a pair: its kind, the status of `check`, its processor seconds for the program and for the kernel.
 rows() {
-  local left right name status
+  local left right name
   while IFS=$'\t' read -r left right name; do
     { time "$program" check "$left" "$right" > /dev/null; echo "${name#*/} $?" >&2; } 2>&1 | paste -s -d ' '
   done < <(examples/many/pairs.sh examples/from_c)

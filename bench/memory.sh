@@ -41,7 +41,7 @@ cc -O1 -shared -fPIC -o "$folder/refuse.so" "$folder/refuse.c" -ldl
 
 # Each request of a command refused in turn, up to the first number that is never reached.
 each() {
-  local name=$1 number=0 starved=0 answered=0 got code want
+  local name=$1 number=0 starved=0 answered=0 got want
   shift
   want=$("$program" "$@"; echo "status $?")
   while [ "$answered" -lt 20 ]; do
