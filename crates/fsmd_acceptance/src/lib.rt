@@ -1,14 +1,10 @@
-//! Worked examples of what no clause says, by calls: each command once over files in memory, files and sinks that fail, words,
-//! candidates and inputs, files and sinks themselves, terms and straight lines.
+//! Worked examples of the one call that the program makes, over files in memory: each command once, and files and sinks that
+//! fail; and what words of the command line ask.
 //!
 //! The crate gives nothing. What needs the program alone is shown by tests/, whose files are the words, the machines and the
-//! replies; here stands what the program does not show.
+//! replies.
 #![tactic(auto)]
 
-#[cfg(test)]
-mod calls;
-#[cfg(test)]
-mod candidates;
 #[cfg(test)]
 mod cases;
 #[cfg(test)]
@@ -19,9 +15,5 @@ mod failing_files;
 mod failing_sinks;
 #[cfg(test)]
 mod files;
-#[cfg(test)]
-mod layers;
-#[cfg(test)]
-mod machines;
 #[cfg(test)]
 mod words;

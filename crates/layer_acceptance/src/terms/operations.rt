@@ -1,7 +1,7 @@
 //! What operations give, and where they stop.
 
-use crate::layers::terms::forms::{form, is_written};
-use crate::layers::terms::rows::number;
+use crate::terms::forms::{form, is_written};
+use crate::terms::rows::number;
 use nf_sums::sums;
 use nf_terms::stop::NfStop;
 use std::alloc::Global;

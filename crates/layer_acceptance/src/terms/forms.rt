@@ -3,7 +3,7 @@
 //! The words are those of trees, and more: `-` stands behind two sums and `neg` behind one; `#s` is the list s and `#0` the
 //! empty one, and `<<` stands behind a list and an item.
 
-use crate::layers::terms::trees::{Trees, operands, position, put_each as put_trees, put_last};
+use crate::terms::trees::{Trees, operands, position, put_each as put_trees, put_last};
 use nf_arrays::division::{div, rem};
 use nf_arrays::pushes::push;
 use nf_arrays::reads::read;

@@ -1,6 +1,6 @@
 //! Assertions of rows, by their subject and the name of their table.
 
-use crate::layers::terms::{calls, literals, measures, normal, operations, orders, substitutions};
+use crate::terms::{calls, literals, measures, normal, operations, orders, substitutions};
 use std::alloc::Global;
 use std::process::Abort;
 

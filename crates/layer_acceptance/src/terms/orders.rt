@@ -1,6 +1,6 @@
 //! The order of terms.
 
-use crate::layers::terms::forms::put_each;
+use crate::terms::forms::put_each;
 use nf_terms::form::Nf;
 use std::alloc::Global;
 use std::cmp::Ordering;

@@ -1,7 +1,7 @@
 //! Calls that take memory, each with ample memory.
 
-use crate::layers::terms::forms::{form, is_written};
-use crate::layers::terms::trees::position;
+use crate::terms::forms::{form, is_written};
+use crate::terms::trees::position;
 use nf_bank::bank::{AtomId, Bank};
 use nf_substitution::vector::Vector;
 use nf_symbols::gathering::symbols_of_nf;

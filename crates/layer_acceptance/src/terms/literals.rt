@@ -1,8 +1,8 @@
 //! Literals, clashes and implication.
 
-use crate::layers::terms::forms::{form, put_each};
-use crate::layers::terms::rows::number;
-use crate::layers::terms::trees::put_last;
+use crate::terms::forms::{form, put_each};
+use crate::terms::rows::number;
+use crate::terms::trees::put_last;
 use fs_model::parts::Rel;
 use nf_refutation::refutation::{Places, is_refuted, refuted};
 use nf_rel::clashes::{clash, implied, negate};

@@ -1,6 +1,6 @@
 //! Which trees are normal forms.
 
-use crate::layers::terms::forms::normal_form;
+use crate::terms::forms::normal_form;
 use std::alloc::Global;
 
 // Whether the tree of a text is a normal form, or is none, as wanted.

@@ -1,8 +1,8 @@
 //! Vectors, and what they give in place of symbols.
 
-use crate::layers::terms::forms::{form, is_form};
-use crate::layers::terms::operations::is_event;
-use crate::layers::terms::trees::position;
+use crate::terms::forms::{form, is_form};
+use crate::terms::operations::is_event;
+use crate::terms::trees::position;
 use nf_substitution::subst::{Subst, subst_arr, subst_poly, subst_seq};
 use nf_substitution::vector::Vector;
 use nf_terms::form::Nf;

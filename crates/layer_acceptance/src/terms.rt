@@ -3,7 +3,7 @@
 //! An empty line parts two tables. The rows of each table are of one kind, and its first line has its name. A text in a row is a
 //! list of words, each behind what it works on, as in `a b + 2 *`.
 
-use crate::layers::terms::rows::{Subject, each_table};
+use crate::terms::rows::{Subject, each_table};
 
 mod calls;
 mod forms;

@@ -1,6 +1,6 @@
 //! Files of the system, standard output and other writers. Each test takes away what it wrote.
 
-use crate::layers::files::memory::{is_too_long, load_and_store, load_fails, loads};
+use crate::files::memory::{is_too_long, load_and_store, load_fails, loads};
 use fs_base::disk::DiskFiles;
 use fs_base::outside::{Files, Sink, StoreError};
 use fs_base::put_all::{PutError, put_all};

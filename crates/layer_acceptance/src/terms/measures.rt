@@ -1,7 +1,7 @@
 //! Sizes, depths and weights.
 
-use crate::layers::terms::forms::written_form;
-use crate::layers::terms::rows::number;
+use crate::terms::forms::written_form;
+use crate::terms::rows::number;
 use nf_terms::form::Nf;
 use std::alloc::Global;
 
