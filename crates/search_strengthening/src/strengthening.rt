@@ -19,7 +19,7 @@ use search_strengthening_tables::flags::Flags;
 use search_strengthening_tables::nodes::ClaimedNode;
 use search_strengthening_tables::rules::Rule;
 use search_strengthening_tables::sides::{Sides, sides_of};
-use search_strengthening_tables::state::{State, begin};
+use search_strengthening_tables::state::{State, begin, settled_part};
 use search_strengthening_terms::stop::Stop;
 use search_strengthening_terms::work::Work;
 use search_strengthening_visits::visits::visit_points;
@@ -57,11 +57,21 @@ fn work_of(sides: &Sides<'_>) -> u64 {
     WORK_LIMIT.min(WORK.saturating_add(points.saturating_mul(WORK_OF_POINT)))
 }
 
-// What a search found: a closed table, if there is one, and what it has kept of pairs of points.
+// What a search found: a closed table, or else what it has kept of pairs of points, and the nodes of the components that it has
+// settled.
 #[derive(Drop)]
-struct Found {
-    closed: Option<Closed>,
-    flags: Vec<Flags>,
+enum Found {
+    Closed(Closed),
+    Open {
+        flags: Vec<Flags>,
+        settled: Vec<ClaimedNode>,
+    },
+}
+
+// What a search found that could not close its table.
+fn left_open(state: State) -> Found {
+    let (settled, flags) = settled_part(state);
+    Found::Open { flags, settled }
 }
 
 // Searches for a closed table of two machines with a first rule, after visits. It takes at most two thirds of the work that is
@@ -77,16 +87,12 @@ fn search_by_rule(
     let mut state = begin(alloc, sides, Work::of(most), rule, visited)?;
     let ended = close(alloc, sides, &mut state);
     work.give(most.saturating_sub(state.work.left()));
-    let State { nodes, flags, .. } = state;
     match ended {
-        Ok(ranks) => Ok(Found {
-            closed: Some(Closed { nodes, ranks }),
-            flags,
-        }),
-        Err(Stop::Bound | Stop::Exhausted) => Ok(Found {
-            closed: None,
-            flags,
-        }),
+        Ok(ranks) => {
+            let State { nodes, .. } = state;
+            Ok(Found::Closed(Closed { nodes, ranks }))
+        }
+        Err(Stop::Bound | Stop::Exhausted) => Ok(left_open(state)),
         Err(Stop::NoMemory) => Err(NoMemory),
     }
 }
@@ -97,11 +103,21 @@ fn visit(
     sides: &Sides<'_>,
     work: &mut Work,
     flags: &[Flags],
+    settled: &[ClaimedNode],
 ) -> Result<Option<Vec<VisitedPoints>>, NoMemory> {
-    match visit_points(alloc, sides, flags, work) {
+    match visit_points(alloc, sides, flags, settled, work) {
         Ok(visited) => Ok(Some(visited)),
         Err(Stop::Bound | Stop::Exhausted) => Ok(None),
         Err(Stop::NoMemory) => Err(NoMemory),
+    }
+}
+
+// The nodes from which visits go on behind a search with a first rule: those that it has settled, or none, and so the start, from
+// which runs are exact and tell more of numbers.
+fn visited_from(rule: Rule, settled: &[ClaimedNode]) -> &[ClaimedNode] {
+    match rule {
+        Rule::AsksLessFirst | Rule::AlwaysTogether => &[],
+        Rule::SeveralTogether | Rule::LoopsTogether => settled,
     }
 }
 
@@ -112,13 +128,17 @@ fn find_by_rule(
     work: &mut Work,
     rule: Rule,
 ) -> Result<Option<Closed>, NoMemory> {
-    let Found { closed, flags } = search_by_rule(alloc, sides, work, rule, Vec::new(alloc))?;
-    if closed.is_some() {
-        return Ok(closed);
-    }
-    match visit(alloc, sides, work, flags.as_slice())? {
-        Some(visited) => Ok(search_by_rule(alloc, sides, work, rule, visited)?.closed),
-        None => Ok(None),
+    let (flags, settled) = match search_by_rule(alloc, sides, work, rule, Vec::new(alloc))? {
+        Found::Closed(closed) => return Ok(Some(closed)),
+        Found::Open { flags, settled } => (flags, settled),
+    };
+    let settled = visited_from(rule, settled.as_slice());
+    let Some(visited) = visit(alloc, sides, work, flags.as_slice(), settled)? else {
+        return Ok(None);
+    };
+    match search_by_rule(alloc, sides, work, rule, visited)? {
+        Found::Closed(closed) => Ok(Some(closed)),
+        Found::Open { .. } => Ok(None),
     }
 }
 

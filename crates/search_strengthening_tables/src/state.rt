@@ -55,6 +55,7 @@ pub struct State {
     standing_versions: Vec<bool>,
     components: Vec<Component>,
     overfull: Option<Standing>,
+    failing: Option<Standing>,
 }
 
 // No claims.
@@ -119,6 +120,7 @@ pub fn begin(
         standing_versions: vec![in alloc; true; 1]?,
         components: Vec::new(alloc),
         overfull: None,
+        failing: None,
     })
 }
 
@@ -215,6 +217,7 @@ pub fn try_next_rule(state: &mut State, standing: Standing) -> Result<(), Stop> 
     if component.rule == state.first_rule {
         component.round = component.round.saturating_add(1);
     }
+    state.failing = Some(standing);
     if component.round >= ROUNDS {
         return Err(Stop::Bound);
     }
@@ -224,6 +227,20 @@ pub fn try_next_rule(state: &mut State, standing: Standing) -> Result<(), Stop> 
     empty_component(state, standing);
     forget_all(&mut state.flags, standing);
     Ok(())
+}
+
+/// The nodes before the component that has failed last, if one has, and what is kept of pairs of points.
+pub fn settled_part(state: State) -> (Vec<ClaimedNode>, Vec<Flags>) {
+    let State {
+        mut nodes,
+        flags,
+        failing,
+        ..
+    } = state;
+    if let Some(standing) = failing {
+        nodes.truncate(first_in_components(nodes.as_slice(), standing));
+    }
+    (nodes, flags)
 }
 
 // The version of the next fact.

@@ -12,6 +12,7 @@ use search_strengthening_claims::visited::VisitedPoints;
 use search_strengthening_claims::weeding::weed;
 use search_strengthening_equations::equations::add_equations;
 use search_strengthening_tables::flags::{Flags, flags_at};
+use search_strengthening_tables::nodes::ClaimedNode;
 use search_strengthening_tables::sides::{Covered, Sides};
 use search_strengthening_terms::stop::{Stop, unless_stopped};
 use search_strengthening_terms::work::Work;
@@ -54,6 +55,34 @@ fn first_walk(alloc: Global, sides: &Sides<'_>) -> Result<Walk, NoMemory> {
             vector,
         },
     })
+}
+
+// A walk that begins at a node, with what its fact says.
+fn walk_from(alloc: Global, node: &ClaimedNode) -> Result<Walk, NoMemory> {
+    Ok(Walk {
+        left: node.left,
+        right: node.right,
+        post: Post {
+            conds: copied_literals(alloc, node.fact.conds())?,
+            vector: node.fact.vector(alloc)?,
+        },
+    })
+}
+
+// The walks that begin at nodes, or where both machines do, if there is no node.
+fn first_walks(
+    alloc: Global,
+    sides: &Sides<'_>,
+    settled: &[ClaimedNode],
+) -> Result<VecDeque<Walk>, NoMemory> {
+    let mut walks = VecDeque::new(alloc);
+    for node in settled {
+        walks.push_back(walk_from(alloc, node)?)?;
+    }
+    if settled.is_empty() {
+        walks.push_back(first_walk(alloc, sides)?)?;
+    }
+    Ok(walks)
 }
 
 // What comes of a vector by a path of a side, or nothing where an operation meets a limit; a side without a path stays.
@@ -351,16 +380,17 @@ fn all_with_equations(
     Ok(out)
 }
 
-/// What holds at the first visits of pairs of points, along runs of both machines over the symbols of the start, in the modes
-/// that points have had; of numbers also which linear equations. `Exhausted` comes where too little work is left.
+/// What holds at the first visits of pairs of points, in the modes that points have had, along runs of both machines: from each
+/// of these nodes, over its free positions, or from the start where there is none; of numbers also which linear equations.
+/// `Exhausted` comes where too little work is left.
 pub fn visit_points(
     alloc: Global,
     sides: &Sides<'_>,
     flags: &[Flags],
+    settled: &[ClaimedNode],
     work: &mut Work,
 ) -> Result<Vec<VisitedPoints>, Stop> {
-    let mut walks = VecDeque::new(alloc);
-    walks.push_back(first_walk(alloc, sides)?)?;
+    let mut walks = first_walks(alloc, sides, settled)?;
     let mut visited = Vec::new(alloc);
     go_on_all(alloc, sides, work, flags, &mut walks, &mut visited)?;
     all_with_equations(alloc, sides, work, visited)
