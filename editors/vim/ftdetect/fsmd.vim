@@ -1,1 +1,2 @@
 autocmd BufRead,BufNewFile *.fsmd setfiletype fsmd
+autocmd BufRead,BufNewFile *.prog setfiletype fsmd_program

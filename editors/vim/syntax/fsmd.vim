@@ -7,6 +7,7 @@ syntax iskeyword @,48-57,_
 syntax keyword fsmdHead fsmd reset state
 syntax keyword fsmdDeclaration input output local array port
 syntax keyword fsmdTransition when goto emit
+syntax keyword fsmdReserved start done
 syntax match fsmdNumber /\<\d\+\>/
 syntax match fsmdOperator /[-+*\/%=<>!]\|&&\|||/
 syntax match fsmdState /\%(\<state\s\+\|\<goto\s\+\|\<reset\s\+\)\@<=\h\w*/
@@ -15,6 +16,7 @@ syntax match fsmdComment /#.*$/
 highlight default link fsmdHead Structure
 highlight default link fsmdDeclaration Type
 highlight default link fsmdTransition Keyword
+highlight default link fsmdReserved Error
 highlight default link fsmdNumber Number
 highlight default link fsmdOperator Operator
 highlight default link fsmdState Function
