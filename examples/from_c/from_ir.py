@@ -1,24 +1,32 @@
 #!/usr/bin/env python3
 """Translates one function of a textual LLVM IR file (LLVM 14) to a machine of `fsmd`.
 
-    from_ir.py FILE.ll [--function NAME] [--instructions] > FILE.fsmd
+    from_ir.py FILE.ll [--function NAME] [--instructions] [--assume-no-wrap] > FILE.fsmd
 
 The machine takes one transition a basic block; with --instructions one an instruction. It is not part of what is proved:
 what `fsmd` says is of the machine, and whether the machine is the function rests on this file.
 
 How a function becomes a machine:
-- Integers have no bounds: it is assumed that nothing wraps, so sext, zext and trunc change nothing. Where LLVM divides or
-  shifts without sign, the operands are taken as not negative, as LLVM knows them to be where the C is signed.
-- Each pointer is an array of its own (`restrict`). One that is written is an output; its entries before the call are the
-  input NAME_in, of which the first `cells` are copied before the function begins. Entries from `cells` on begin as 0.
-- The value that is returned is the output `result`. A value that LLVM leaves undefined is what its variable held.
+- A word of N bits is the integer from -2^(N-1) to 2^(N-1) - 1 that it is with sign; the integers of a machine have no
+  bounds. An operation is taken where both are the same: add, sub, mul and shl with nsw, or where the result fits by bounds
+  that are known of what they take; trunc, udiv and urem where such bounds tell that no number changes. All else may wrap
+  and is refused. --assume-no-wrap takes it as if it did not, and zext and lshr of 32 bits and more as not negative; the
+  machine says in comments, and the command on standard error, what was assumed.
+- sext, zext, sdiv, srem, shifts to the right and masks of low bits are exact.
+- Each pointer is an array of its own, which `restrict` must say where one of two is written. One that is written is an
+  output; its entries before the call are the input NAME_in, of which the first `cells` are copied before the function
+  begins. Entries from `cells` on begin as 0. Arrays of arrays stand row by row.
+- A local array begins with 0. A table of constants is one that is written before the function begins.
+- The value that is returned is the output `result`, from 0 to 2^N - 1 where it is zeroext. A value that LLVM leaves
+  undefined is what its variable held.
 - A division by 0 gives 0, as `fsmd` says; in C it is no behaviour at all.
 
-What is not translated is refused with the line, and status 1: calls, local arrays, pointers that are computed or compared,
-floating point, vectors, `or` and `xor` of numbers, shifts by a variable.
+What is not translated is refused with the line, and status 1: calls, variables of the file, pointers that are computed or
+compared, floating point, vectors, structures, `or` and `xor` of numbers, shifts by a variable.
 """
 import argparse
 import itertools
+import math
 import re
 import sys
 
@@ -29,13 +37,22 @@ SIGNED = {"eq": "==", "ne": "!=", "slt": "<", "sle": "<=", "sgt": ">", "sge": ">
 UNSIGNED = {"ult": "<", "ule": "<=", "ugt": ">", "uge": ">="}
 BINARY = {"add": "+", "sub": "-", "mul": "*", "sdiv": "/", "srem": "%", "udiv": "/", "urem": "%"}
 MOST_OPERATORS = 128  # of one guard or one assignment
+MOST_ENTRIES = 1024  # of one table, or of one array that is set at once
 NAME = r"(?:[-\w.$]+|\"[^\"]+\")"
 VALUE = rf"(?:%{NAME}|-?\d+|true|false|undef|poison)"
 TYPE = r"i\d+"
+SHAPE = rf"(?:\[\d+ x )*{TYPE}\]*"
+ELEMENT = rf"getelementptr(?: inbounds)? \({SHAPE}, {SHAPE}\* @{NAME}(?:, {TYPE} -?\d+)+\)"
+POINTER = rf"(?:%{NAME}|@{NAME}|{ELEMENT})"
+NOT_TAKEN = rf"\b(?:float|double|half|fp128|x86_fp80)\b|<\d+ x [^>]*>|%(?:struct|union)\.{NAME}|\{{ [^}}]* \}}|{TYPE}\*\*"
 
 
 class Refused(Exception):
     """What is not translated."""
+
+
+class Unread(Exception):
+    """What is not translated, whatever the line."""
 
 
 # ---------------------------------------------------------------- terms
@@ -142,6 +159,36 @@ def operators(tree):
     return len(re.findall(r"[-+*/%!(\[{<>]|&&|\|\||[=!]=", text(tree)))
 
 
+# ---------------------------------------------------------------- bounds of words
+
+def whole(width):
+    """The numbers that a word of so many bits may be, with sign."""
+    return -(1 << width - 1), (1 << width - 1) - 1
+
+
+def within(bounds, width):
+    return whole(width)[0] <= bounds[0] and bounds[1] <= whole(width)[1]
+
+
+def cut(bounds, width):
+    """The bounds, as far as a word has them."""
+    return max(bounds[0], whole(width)[0]), min(bounds[1], whole(width)[1])
+
+
+def result_bounds(op, left, right):
+    """Bounds of a sum, a difference, a product, a quotient or a remainder of integers with these bounds."""
+    if op in "+-":
+        low, high = right if op == "+" else (-right[1], -right[0])
+        return left[0] + low, left[1] + high
+    if op == "*":
+        ends = [l * r for l in left for r in right]
+        return min(ends), max(ends)
+    most = max(map(abs, left))
+    if op == "%":
+        most = min(most, max(map(abs, right)) - (0 not in right))
+    return (0 if left[0] >= 0 and (op == "%" or right[0] >= 0) else -most), most
+
+
 # ---------------------------------------------------------------- the function, read
 
 def fresh(wanted, taken):
@@ -172,7 +219,11 @@ class Function:
     def __init__(self):
         self.scalars, self.arrays, self.blocks = [], [], []
         self.written = {}  # each array that is written, with the input of its entries before the call
-        self.values, self.guards, self.addresses, self.names = {}, {}, {}, {}
+        self.unshared = set()  # arrays that are `restrict`
+        self.locals = {}  # each array that is no parameter: how many entries, of how many bits, and what it begins with
+        self.tables, self.extended, self.bounded = {}, False, {}
+        self.assumes, self.assumed, self.place = False, {}, 0
+        self.values, self.guards, self.addresses, self.wholes, self.names = {}, {}, {}, {}, {}
         self.taken = RESERVED | {"result", "cells", "copy_k"}
         self.returns = False
 
@@ -203,9 +254,34 @@ class Function:
 
     def address(self, value):
         """The array and the index of a pointer."""
+        if value.startswith("getelementptr"):
+            return element(self, value.replace("(", "", 1)[:-1])
+        if value not in self.addresses and value in self.tables:
+            size, width, entries = self.tables[value]
+            self.addresses[value] = (self.local(value.strip('@"'), size, width, entries), num(0))
         if value in self.addresses:
             return self.addresses[value]
-        raise Refused("a pointer that is no parameter plus an index")
+        raise Refused("a variable of the file" if value[0] == "@" else "a pointer that is no array plus an index")
+
+    def local(self, wanted, size, width, entries=()):
+        """A new array that is no parameter."""
+        if size > MOST_ENTRIES and any(entries):
+            raise Refused(f"a table of more than {MOST_ENTRIES} entries")
+        name = self.fresh(wanted)
+        self.locals[name] = (size, width, entries)
+        return name
+
+    def bounds(self, value, width):
+        """Between which numbers a value of so many bits lies."""
+        if value[0] != "%":
+            return self.bounded.get(value) or (int(value), int(value))
+        return self.bounded.get(value, whole(width))
+
+    def assume(self, what):
+        """Takes as given what may not be so, where that is allowed."""
+        if not self.assumes:
+            raise Refused(f"{what}, which may not be so (--assume-no-wrap takes it as given)")
+        self.assumed.setdefault(what, []).append(self.place)
 
 
 def matched(pattern, line):
@@ -218,12 +294,14 @@ def read_parameters(function, line):
         value = words[-1] if words[-1].startswith("%") else f"%{place}"
         if re.fullmatch(TYPE, words[0]):
             function.scalars.append(function.variable(value))
-        elif re.fullmatch(TYPE + r"\*", words[0]):
+        elif found := matched(rf"({SHAPE})\*( .*)?", parameter):
             name = function.variable(value)
             function.arrays.append(name)
             function.addresses[value] = (name, num(0))
+            if "noalias" in words:
+                function.unshared.add(name)
         else:
-            raise Refused(f"a parameter of type {words[0]}")
+            raise Refused(f"a parameter of a type that is not taken: {parameter}")
 
 
 def floor_divided(term, divisor):
@@ -235,51 +313,119 @@ def low_bits(term, divisor):
     return binary("%", binary("+", binary("%", term, num(divisor)), num(divisor)), num(divisor))
 
 
-def bits(op, exact, left, right):
-    """A shift or a mask by a constant."""
-    by = constant(right)
-    if by is None or by < 0:
-        raise Refused(f"{op} by what is no constant")
-    if op == "and":
-        if by & (by + 1):
-            raise Refused("a mask that is no power of 2 less 1")
-        return low_bits(left, by + 1)
+def arithmetic(function, op, flags, width, left, right):
+    """The term of an operation, and its bounds."""
+    l, r = function.bounds(left, width), function.bounds(right, width)
+    if op in ("udiv", "urem") and min(l[0], r[0]) < 0:
+        function.assume(f"what {op} takes is not negative")
+        l, r = (max(l[0], 0), max(l[1], 0)), (max(r[0], 0), max(r[1], 0))
+    bounds = result_bounds(BINARY[op], l, r)
+    if op in ("add", "sub", "mul") and "nsw" not in flags and not within(bounds, width):
+        function.assume(f"{op} without nsw does not wrap")
+    return binary(BINARY[op], function.term(left), function.term(right)), cut(bounds, width)
+
+
+def mask(function, width, left, right):
+    """The low bits of a number."""
+    if right[0] == "%":
+        left, right = right, left
+    by = constant(function.term(right))
+    if by is None or by < 0 or by & (by + 1):
+        raise Refused("a mask that is no power of 2 less 1")
+    low, high = function.bounds(left, width)
+    term = function.term(left)
+    return binary("%", term, num(by + 1)) if low >= 0 else low_bits(term, by + 1), (0, min(by, high) if low >= 0 else by)
+
+
+def shifted(function, op, flags, width, left, right):
+    """A shift by a constant, and its bounds."""
+    by, term, (low, high) = constant(function.term(right)), function.term(left), function.bounds(left, width)
+    if by is None or not 0 <= by < width:
+        raise Refused(f"{op} by what is no constant below {width}")
+    factor = 1 << by
     if op == "shl":
-        return binary("*", left, num(1 << by))
-    return binary("/", left, num(1 << by)) if op == "lshr" or exact else floor_divided(left, 1 << by)
+        if "nsw" not in flags and not within((low * factor, high * factor), width):
+            function.assume("shl without nsw does not wrap")
+        return binary("*", term, num(factor)), cut((low * factor, high * factor), width)
+    if op == "lshr" and by:
+        term, (low, high) = without_sign(function, op, width, left)
+    exact = low >= 0 or "exact" in flags
+    return binary("/", term, num(factor)) if exact else floor_divided(term, factor), (low // factor, high // factor)
+
+
+def without_sign(function, op, width, value):
+    """What a word is without sign, and its bounds. Where it is assumed that nothing wraps, a wide one is not negative."""
+    term, (low, high) = function.term(value), function.bounds(value, width)
+    if low >= 0:
+        return term, (low, high)
+    if width < 32 or not function.assumes:
+        return low_bits(term, 1 << width), (0, (1 << width) - 1)
+    function.assume(f"what {op} takes is not negative")
+    return term, (0, max(high, 0))
+
+
+def converted(function, op, before, value, after):
+    """A number as a word of another width, and its bounds."""
+    term, bounds = function.term(value), function.bounds(value, before)
+    if op == "zext":
+        term, bounds = without_sign(function, op, before, value)
+    if op == "trunc" and not within(bounds, after):
+        function.assume("trunc keeps its number")
+    return term, cut(bounds, after)
+
+
+def read_operation(function, rest):
+    """The term and the bounds of an operation that makes a number of numbers, or None where it is another instruction."""
+    if found := matched(rf"({'|'.join(BINARY)})((?: nuw| nsw| exact)*) i(\d+) ({VALUE}), ({VALUE})", rest):
+        return arithmetic(function, found[1], found[2], int(found[3]), found[4], found[5])
+    if found := matched(rf"and (?!i1 )i(\d+) ({VALUE}), ({VALUE})", rest):
+        return mask(function, int(found[1]), found[2], found[3])
+    if found := matched(rf"(shl|lshr|ashr)((?: nuw| nsw| exact)*) i(\d+) ({VALUE}), ({VALUE})", rest):
+        return shifted(function, found[1], found[2], int(found[3]), found[4], found[5])
+    if found := matched(rf"xor (?!i1 )i(\d+) ({VALUE}), -1", rest):
+        low, high = function.bounds(found[2], int(found[1]))
+        return binary("-", ("neg", function.term(found[2])), num(1)), (-high - 1, -low - 1)
+    return None
+
+
+def read_choice(function, rest):
+    """A guard with two terms, and bounds of both, or None where it is another instruction."""
+    if found := matched(rf"select i1 ({VALUE}), (?!i1 )i(\d+) ({VALUE}), {TYPE} ({VALUE})", rest):
+        ends = [function.bounds(found[place], int(found[2])) for place in (3, 4)]
+        bounds = min(low for low, _ in ends), max(high for _, high in ends)
+        return function.guard(found[1]), function.term(found[3]), function.term(found[4]), bounds
+    if found := matched(rf"(zext|sext) i1 ({VALUE}) to {TYPE}", rest):
+        one = 1 if found[1] == "zext" else -1
+        return function.guard(found[2]), num(one), num(0), (min(one, 0), max(one, 0))
+    call = rf"(?:tail )?call {TYPE} @llvm"
+    if found := matched(rf"{call}\.s(max|min)\.i(\d+)\({TYPE} ({VALUE}), {TYPE} ({VALUE})\)(?: #\d+)?", rest):
+        left, right = function.term(found[3]), function.term(found[4])
+        return relation(">" if found[1] == "max" else "<", left, right), left, right, whole(int(found[2]))
+    if found := matched(rf"{call}\.abs\.i(\d+)\({TYPE} ({VALUE}), i1 (true|false)\)(?: #\d+)?", rest):
+        width, term = int(found[1]), function.term(found[2])
+        if found[3] == "false" and function.bounds(found[2], width)[0] == whole(width)[0]:
+            function.assume("what abs takes is not the least number")
+        return relation("<", term, num(0)), ("neg", term), term, (0, whole(width)[1])
+    return None
 
 
 def read_number(function, block, value, rest):
     """An instruction that makes a number: its step, or False where it is another."""
-    def put(term):
-        block.steps.append(("set", function.variable(value), term))
+    if made := read_operation(function, rest):
+        block.steps.append(("set", function.variable(value), made[0]))
+    elif found := matched(rf"load {TYPE}, {TYPE}\* ({POINTER})(?:, .*)?", rest):
+        block.steps.append(("set", function.variable(value), ("read", *function.address(found[1]))))
         return True
-
-    def choose(guard, left, right):
+    elif made := read_choice(function, rest):
+        guard, left, right, _ = made
         block.steps.append(("choose", guard, [(function.variable(value), left, right)]))
-        return True
-
-    if found := matched(rf"({'|'.join(BINARY)})(?: nuw| nsw| exact)* {TYPE} ({VALUE}), ({VALUE})", rest):
-        return put(binary(BINARY[found[1]], function.term(found[2]), function.term(found[3])))
-    if found := matched(rf"(shl|lshr|ashr|and)((?: nuw| nsw| exact)*) (?!i1 ){TYPE} ({VALUE}), ({VALUE})", rest):
-        return put(bits(found[1], "exact" in found[2], function.term(found[3]), function.term(found[4])))
-    if found := matched(rf"xor {TYPE} ({VALUE}), -1", rest):
-        return put(binary("-", ("neg", function.term(found[1])), num(1)))
-    if found := matched(rf"load {TYPE}, {TYPE}\* ({VALUE})(?:, .*)?", rest):
-        return put(("read", *function.address(found[1])))
-    if found := matched(rf"select i1 ({VALUE}), (?!i1 ){TYPE} ({VALUE}), {TYPE} ({VALUE})", rest):
-        return choose(function.guard(found[1]), function.term(found[2]), function.term(found[3]))
-    if found := matched(rf"(zext|sext) i1 ({VALUE}) to {TYPE}", rest):
-        return choose(function.guard(found[2]), num(1 if found[1] == "zext" else -1), num(0))
-    if found := matched(rf"(?:tail )?call {TYPE} @llvm\.s(max|min)\.\w+\({TYPE} ({VALUE}), {TYPE} ({VALUE})\)(?: #\d+)?", rest):
-        left, right = function.term(found[2]), function.term(found[3])
-        return choose(relation(">" if found[1] == "max" else "<", left, right), left, right)
-    if found := matched(rf"(?:tail )?call {TYPE} @llvm\.abs\.\w+\({TYPE} ({VALUE}), i1 \w+\)(?: #\d+)?", rest):
-        return choose(relation("<", function.term(found[1]), num(0)), ("neg", function.term(found[1])), function.term(found[1]))
-    return False
+    else:
+        return False
+    function.bounded[value] = made[-1]
+    return True
 
 
-def read_truth(function, value, rest):
+def read_truth(function, _, value, rest):
     """An instruction that makes a truth value, or a number or a pointer that needs no step."""
     if found := matched(rf"icmp (\w+) {TYPE} ({VALUE}), ({VALUE})", rest):
         op, left, right = found[1], function.term(found[2]), function.term(found[3])
@@ -294,14 +440,113 @@ def read_truth(function, value, rest):
         function.guards[value] = joined("or", joined("and", test, yes), no_way)
     elif found := matched(rf"freeze i1 ({VALUE})", rest):
         function.guards[value] = function.guard(found[1])
-    elif found := matched(rf"(?:[sz]ext|trunc(?! {TYPE} {VALUE} to i1$)|freeze) (?!i1 ){TYPE} ({VALUE})(?: to {TYPE})?", rest):
-        function.values[value] = function.term(found[1])
-    elif found := matched(rf"getelementptr (?:inbounds )?{TYPE}, {TYPE}\* ({VALUE}), {TYPE} ({VALUE})", rest):
-        array, index = function.address(found[1])
-        function.addresses[value] = (array, binary("+", index, function.term(found[2])))
+    elif found := matched(rf"([sz]ext|trunc) (?!i1 )i(\d+) ({VALUE}) to (?!i1$)i(\d+)", rest):
+        function.values[value], function.bounded[value] = converted(function, found[1], int(found[2]), found[3], int(found[4]))
+    elif found := matched(rf"freeze i(\d+) ({VALUE})", rest):
+        function.values[value], function.bounded[value] = function.term(found[2]), function.bounds(found[2], int(found[1]))
+    elif rest.startswith("getelementptr "):
+        function.addresses[value] = element(function, rest)
     else:
         return False
     return True
+
+
+def shape(words):
+    """The lengths of an array type, the outermost first, and the bits of an entry."""
+    found = matched(r"((?:\[\d+ x )*)i(\d+)(\]*)", words)
+    if not found or found[1].count("[") != len(found[3]):
+        raise Refused(f"the type {words} is not taken")
+    return [int(length) for length in re.findall(r"\d+", found[1])], int(found[2])
+
+
+def element(function, rest):
+    """The array and the index of an address that is another one plus indices."""
+    found = matched(rf"getelementptr( inbounds)? ({SHAPE}), ({SHAPE})\* ({POINTER})((?:, {TYPE} {VALUE})+)", rest)
+    if not found:
+        raise Refused("an address that is not taken")
+    if not found[1]:
+        function.assume("an address without inbounds does not wrap")
+    lengths, _ = shape(found[2])
+    array, place = function.address(found[4])
+    for at, index in enumerate(re.findall(rf", {TYPE} ({VALUE})", found[5])):
+        if at > len(lengths):
+            raise Refused("more indices than the array has")
+        size, term = math.prod(lengths[at:]), function.term(index)
+        known = constant(term)
+        place = binary("+", place, binary("*", term, num(size)) if known is None else num(known * size))
+    return array, place
+
+
+def read_array(function, block, value, rest):
+    """A local array or a pointer to the whole of one, or False where it is another instruction."""
+    if found := matched(rf"alloca ({SHAPE})(?:, align \d+)?", rest):
+        if block is not function.blocks[0]:
+            raise Refused("a local array behind the first block")
+        lengths, width = shape(found[1])
+        function.addresses[value] = (function.local(value.strip('%"'), math.prod(lengths), width), num(0))
+    elif found := matched(rf"bitcast ({SHAPE})\* ({POINTER}) to i8\*", rest):
+        function.wholes[value] = whole_array(function, found[2])
+    else:
+        return False
+    return True
+
+
+def whole_array(function, value):
+    """The local array or the table at whose beginning a pointer is."""
+    if found := matched(rf"bitcast \({SHAPE}\* (@{NAME}) to i8\*\)", value):
+        value = found[1]
+    if value in function.wholes:
+        return function.wholes[value]
+    if value in function.tables:
+        return value
+    array, index = function.address(value)
+    if array not in function.locals or constant(index) != 0:
+        raise Refused("a pointer to what is no whole local array")
+    return array
+
+
+def read_setting(function, block, line):
+    """A local array that is set to 0 or to a table, all of it at once; or False where it is another instruction."""
+    words = r"(?:noundef |nonnull |align \d+ |dereferenceable\(\d+\) )*"
+    begin = rf"(?:tail )?call void @llvm\.mem(?:cpy|set)[\w.]*\(i8\* {words}({POINTER}), "
+    source = rf"i8\* {words}({POINTER}|bitcast \(.*?\))"
+    found = matched(rf"{begin}(?:{source}|i8 0), i64 (\d+), i1 false\)(?: #\d+)?", line)
+    if not found:
+        return False
+    array = whole_array(function, found[1])
+    size, width, entries = function.locals.get(array) or (0, 8, ())
+    if found[2]:
+        table = whole_array(function, found[2])
+        if table not in function.tables or function.tables[table][:2] != (size, width):
+            raise Refused("a copy that is not of a whole table to a whole local array")
+        entries = function.tables[table][2]
+    if int(found[3]) * 8 != size * width or size > MOST_ENTRIES:
+        raise Refused(f"a part of an array, or more than {MOST_ENTRIES} entries, at once")
+    block.steps += [("store", array, num(place), num(entries[place] if found[2] else 0)) for place in range(size)]
+    return True
+
+
+def entries_of(given, lengths, width):
+    """The entries of a table as they are given."""
+    if string := matched(r'c"(.*)"', given):
+        codes = [int(byte[1:], 16) if len(byte) > 1 else ord(byte) for byte in re.findall(r"\\[0-9A-F]{2}|.", string[1])]
+        return [code - 256 if code > 127 else code for code in codes]
+    if given == "zeroinitializer":
+        return [0] * math.prod(lengths)
+    given = re.sub(rf"({SHAPE}) zeroinitializer", lambda found: ", ".join([f"i{width} 0"] * math.prod(shape(found[1])[0])), given)
+    return [int(entry) for entry in re.findall(rf"{TYPE} (-?\d+)(?=[],]|$)", given if lengths else f"i{width} {given}")]
+
+
+def read_tables(lines):
+    """The tables of constants of a file, each with its length, the bits of an entry and the entries."""
+    tables, words = {}, "private |internal |dso_local |local_unnamed_addr |unnamed_addr "
+    for line in lines:
+        if found := matched(rf"(@{NAME}) = (?:{words})*constant ({SHAPE}) (.*?)(?:, align \d+)?", line):
+            lengths, width = shape(found[2])
+            entries = entries_of(found[3], lengths, width)
+            if len(entries) == math.prod(lengths):
+                tables[found[1]] = (len(entries), width, entries)
+    return tables
 
 
 def read_end(function, block, line):
@@ -316,9 +561,11 @@ def read_end(function, block, line):
         block.edges.append((("yes",), found[2]))
     elif line == "ret void":
         block.returned = []
-    elif found := matched(rf"ret {TYPE} ({VALUE})", line):
+    elif found := matched(rf"ret i(\d+) ({VALUE})", line):
         function.returns = True
-        block.returned = [function.term(found[1])]
+        width, term = int(found[1]), function.term(found[2])
+        below = function.extended and function.bounds(found[2], width)[0] < 0
+        block.returned = [low_bits(term, 1 << width) if below else term]
     else:
         return False
     return True
@@ -336,25 +583,37 @@ def read_line(function, block, line):
     made = matched(rf"(%{NAME}) = (.*)", line)
     if made and (found := matched(rf"phi ({TYPE}) (.*)", made[2])):
         read_phi(function, block, made[1], found[1], found[2])
-    elif made and (read_truth(function, made[1], made[2]) or read_number(function, block, made[1], made[2])):
+    elif made and any(read(function, block, made[1], made[2]) for read in (read_truth, read_number, read_array)):
         return
-    elif found := matched(rf"store {TYPE} ({VALUE}), {TYPE}\* ({VALUE})(?:, .*)?", line):
+    elif found := matched(rf"store {TYPE} ({VALUE}), {TYPE}\* ({POINTER})(?:, .*)?", line):
         array, index = function.address(found[2])
-        if array not in function.written:
+        if array not in function.written and array not in function.locals:
             function.written[array] = function.fresh(f"{array}_in")
         block.steps.append(("store", array, index, function.term(found[1])))
-    elif not read_end(function, block, line):
-        raise Refused("an instruction that is not translated")
+    elif not read_setting(function, block, line) and not read_end(function, block, line):
+        kind = re.search(NOT_TAKEN, line)
+        raise Refused(f"the type {kind[0]} is not taken" if kind else "an instruction that is not translated")
 
 
-def split(lines, function_name):
-    """The parameters and the blocks of the one function, or of the one that is named."""
-    head = rf"define .*?@({re.escape(function_name) if function_name else NAME})\((.*)\)[^()]*\{{"
-    heads = [place for place, line in enumerate(lines) if matched(head, line)]
-    if len(heads) != 1:
-        raise Refused(f"{len(heads)} functions" + (" of this name" if function_name else ": name one by --function"))
-    parameters, blocks, whole = matched(head, lines[heads[0]])[2], [], ""
-    for place in range(heads[0] + 1, lines.index("}", heads[0])):
+def heading(lines, function_name):
+    """The number of the line where the one function begins, or the one that is named."""
+    heads = {found[1].strip('"'): place for place, line in enumerate(lines)
+             if (found := re.match(rf"define .*?@({NAME})\(", line))}
+    there = ", ".join(heads) or "none"
+    if function_name is None and len(heads) != 1:
+        raise Unread(f"{len(heads)} functions: name one by --function, of {there}" if heads else "no function")
+    if function_name is not None and function_name not in heads:
+        raise Unread(f"no function {function_name}: there is {there}")
+    return heads[function_name] if function_name is not None else next(iter(heads.values()))
+
+
+def split(lines, first):
+    """The parameters, whether the result is extended without sign, and the blocks of the function that begins at a line."""
+    head = matched(rf"define (.*?)@{NAME}\((.*)\)[^()]*\{{", lines[first])
+    if not head or "..." in head[2]:
+        raise Refused("a function whose parameters are not taken")
+    parameters, blocks, whole = head[2], [], ""
+    for place in range(first + 1, lines.index("}", first)):
         line = re.sub(r"\s*;.*$", "", lines[place]).strip()
         if found := matched(rf"({NAME}):", line):
             blocks.append(Block(found[1]))
@@ -367,7 +626,7 @@ def split(lines, function_name):
         if not re.search(r"@llvm\.(lifetime|assume|dbg)", whole):
             blocks[-1].lines.append((place + 1, re.sub(r", !\w+ !\d+", "", whole)))
         whole = ""
-    return parameters, blocks
+    return parameters, "zeroext" in head[1].split(), blocks
 
 
 def in_order(blocks):
@@ -384,18 +643,44 @@ def in_order(blocks):
     return left[::-1]
 
 
-def read(path, function_name):
-    lines = open(path, encoding="utf-8").read().splitlines()
-    function, number, line = Function(), 1, ""
+def told_apart(function):
+    """Refuses arrays of which one is written and that may overlap."""
+    for one, other in itertools.combinations(function.arrays, 2):
+        if {one, other} & set(function.written) and not {one, other} & function.unshared:
+            raise Unread(f"{one} and {other} may overlap: declare one of them restrict")
+
+
+def file_lines(path):
     try:
-        parameters, blocks = split(lines, function_name)
+        with open(path, encoding="utf-8") as file:
+            return file.read().splitlines()
+    except OSError as error:
+        raise Unread(f"cannot be read: {error.strerror}") from None
+    except UnicodeDecodeError:
+        raise Unread("is no text") from None
+
+
+def read(path, function_name, assumes):
+    function, number, line = Function(), 0, ""
+    try:
+        lines = file_lines(path)
+        first = heading(lines, function_name)
+        number, line = first + 1, lines[first]
+        function.assumes, function.tables = assumes, read_tables(lines)
+        parameters, function.extended, blocks = split(lines, first)
         read_parameters(function, parameters)
         function.blocks = in_order(blocks)
         for block in function.blocks:
             for number, line in block.lines:
+                function.place = number
                 read_line(function, block, line)
+        told_apart(function)
+    except Unread as refused:
+        raise Refused(f"{path}: {refused}") from None
     except Refused as refused:
         raise Refused(f"{path}:{number}: {refused}: {line}") from None
+    except (LookupError, ValueError, RecursionError):
+        raise Refused(f"{path}:{number}: this is not read as IR of clang 14: {line}") from None
     return function
 
 
@@ -532,7 +817,8 @@ def declarations(function, machine):
     assigned = dict.fromkeys(x for _, ways in machine.states for _, _, sets, _ in ways for x in sets)
     local_names = [x for x in assigned if x != "result"] + (["copy_k"] if function.written else [])
     for words, names in (("input", inputs), ("input array", input_arrays), ("output", ["result"] if function.returns else []),
-                         ("output array", list(function.written)), ("local", local_names)):
+                         ("output array", list(function.written)), ("local", local_names),
+                         ("local array", list(function.locals))):
         if names:
             yield f"{words} {', '.join(names)};"
 
@@ -544,13 +830,21 @@ def transition(guard, target, sets, writes):
     return f"  {when}goto {target}{': ' if actions else ''}{', '.join(actions)};"
 
 
+def counted(places):
+    return f"{len(places)} place{'s' if len(places) > 1 else ''}"
+
+
 def machine_text(function, machine):
     yield "fsmd 1;"
+    for what, places in function.assumed.items():
+        yield f"# Assumed, not known, in {counted(places)}: {what}."
     yield from declarations(function, machine)
     first = machine.labels[function.blocks[0].label]
     yield "reset begin;"
     yield "state begin:"
-    yield "  goto copy: copy_k = 0;" if function.written else f"  goto {first};"
+    tables = [(name, num(place), num(entry)) for name, (_, _, entries) in function.locals.items()
+              for place, entry in enumerate(entries) if entry]
+    yield transition(("yes",), "copy" if function.written else first, {"copy_k": num(0)} if function.written else {}, tables)
     if function.written:
         copied = ", ".join(f"{name}[copy_k] = {before}[copy_k]" for name, before in function.written.items())
         yield "state copy:"
@@ -564,17 +858,23 @@ def machine_text(function, machine):
                 break
 
 
-def main():
+def main(given=None):
     words = argparse.ArgumentParser(description="Translates one function of a textual LLVM IR file to a machine of fsmd.")
     words.add_argument("file")
     words.add_argument("--function", help="which, where the file has more than one")
     words.add_argument("--instructions", action="store_true", help="one instruction a state, not one transition a basic block")
-    asked = words.parse_args()
+    words.add_argument("--assume-no-wrap", action="store_true", help="take as exact what may wrap, and say so")
+    asked = words.parse_args(given)
     try:
-        function = read(asked.file, asked.function)
-        print(*machine_text(function, machine_of(function, asked.instructions)), sep="\n")
+        function = read(asked.file, asked.function, asked.assume_no_wrap)
+        made = "\n".join(machine_text(function, machine_of(function, asked.instructions)))
     except Refused as refused:
         sys.exit(f"from_ir.py: {refused}")
+    except (LookupError, ValueError, RecursionError):
+        sys.exit(f"from_ir.py: {asked.file}: this is not read as IR of clang 14")
+    for what, places in function.assumed.items():
+        print(f"from_ir.py: {asked.file}:{places[0]}: assumed, not known, in {counted(places)}: {what}", file=sys.stderr)
+    print(made)
 
 
 if __name__ == "__main__":

@@ -20,11 +20,12 @@ passes="simplifycfg early-cse gvn licm loop-rotate indvars instcombine reassocia
 ir() {
   clang-14 -O0 -Xclang -disable-O0-optnone -fno-discard-value-names -fno-builtin -S -emit-llvm "$@" -o - | opt-14 -S -passes=mem2reg
 }
-# What LLVM makes of a file by a pass, as a machine. As in clang -O1, no loop is unrolled.
+# What LLVM makes of a file by a pass, as a machine. As in clang -O1, no loop is unrolled. A pass may drop what says that an
+# operation does not wrap; the machine's comments then say that it is assumed.
 machine() {
   local pass=$1 file=$2
   opt-14 -S -disable-loop-unrolling -passes="$pass" "$file" -o "$work/after.ll"
-  "$here/from_ir.py" "$work/after.ll"
+  "$here/from_ir.py" --assume-no-wrap "$work/after.ll" 2> "$work/said" || { cat "$work/said" >&2; return 1; }
 }
 
 for source in "$here"/*/*.c; do
