@@ -2,6 +2,12 @@
 # What the scripts of this folder share. Each of them sets `root`, the folder of the repository, and reads this file.
 # It needs bash and coreutils alone.
 
+# The environment may carry options of the shell (SHELLOPTS, BASHOPTS) and patterns that no name matches: what they change of
+# names, patterns and failures is put back.
+set +fk +o posix
+shopt -u failglob nocaseglob nocasematch extdebug inherit_errexit
+unset GLOBIGNORE CDPATH
+
 # Reads crates.txt: `libraries` has the crates' names, each with those that it takes.
 declare -A libraries=()
 read_crates() {
@@ -31,17 +37,19 @@ crates_below() {
 
 # Prints the checksum of what a program is made of, `fsmd` where none is named: of its crate and of each below it its line of
 # crates.txt, and each .rt and .antt file of its src/, specs/ and proofs/ with its path. It is the same in each folder and under
-# each locale.
+# each locale. Where no sources are there, it says so, with status 1.
 sources_sum() ( # [NAME]
   local crates=() lines=() files=() crate sum LC_ALL=C
   cd "$root" || exit
   shopt -s globstar nullglob dotglob
+  [ -r crates.txt ] || { echo "${1:-fsmd}: crates.txt is missing: a whole clone is needed" >&2; exit 1; }
   read_crates
   mapfile -t crates < <(crates_below "${1:-fsmd}")
   for crate in "${crates[@]}"; do
     lines+=("$crate:${libraries[$crate]}")
     files+=("crates/$crate"/{src,specs,proofs}/**/*.{rt,antt})
   done
+  [ "${#files[@]}" -gt 0 ] || { echo "${1:-fsmd}: crates/ is missing: a whole clone is needed" >&2; exit 1; }
   sum=$({ printf '%s\n' "${lines[@]}"; sha256sum -- "${files[@]}"; } | sha256sum)
   printf '%s\n' "${sum%% *}"
 )
@@ -54,9 +62,10 @@ file_sum() {
 # Beside a program stands its record: its checksum, that of the sources that it was made of, and the line of the kit that made it.
 # In release/, where two programs stand, that of `fsmd_show` is fsmd_show-record.
 record_of() { # PROGRAM
-  case $1 in
-    */release/fsmd_show-* | release/fsmd_show-*) printf '%s\n' "${1%/*}/fsmd_show-record" ;;
-    *) printf '%s\n' "${1%/*}/record" ;;
+  local folder=${1%/*} name=${1##*/}
+  case ${folder##*/}/$name in
+    release/fsmd_show-*) printf '%s\n' "$folder/fsmd_show-record" ;;
+    *) printf '%s\n' "$folder/record" ;;
   esac
 }
 write_record() { # PROGRAM SOURCES_SUM
@@ -106,7 +115,7 @@ stops() { # PROGRAM
 # sources as they stand and runs here. Otherwise it says why there is none, and what to do.
 usable_program() { # [NAME]
   local name=${1:-fsmd} sum program why said=""
-  sum=$(sources_sum "$name")
+  sum=$(sources_sum "$name") || return 70
   for program in "$root/release/$name-x86_64-linux" "$root/crates/$name/out/$name"; do
     why=$(differs "$program" "$sum")
     why=${why:-$(stops "$program")}
