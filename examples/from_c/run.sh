@@ -1,6 +1,6 @@
 #!/usr/bin/env bash
 # From C to checked schedules: examples/from_c/run.sh [--anew]. Prints, for each kind of machine, how many are equivalent to their
-# behaviour, and those that are undecided. With --anew the machines are made from C in a folder of their own (clang 14, opt 14 and
+# behaviour, those that are undecided, and of how many machines it is assumed that nothing wraps. With --anew the machines are made from C in a folder of their own (clang 14, opt 14 and
 # Python); else those that are kept here are taken. Each certificate is checked by `verify`.
 set -eu
 here=$(cd "$(dirname "$0")" && pwd)
@@ -31,3 +31,6 @@ sort "$work/results/rows" | awk -F '[\t/]' '
     }
     for (k = 1; k <= n; k++) if (open[kinds[k]] != "") print "undecided " kinds[k] ":" open[kinds[k]]
   }' | fold -s -w 120 | sed 's/ *$//'
+machines=("$folder"/*/*.fsmd)
+assumed=$(grep -l '^# Assumed' "${machines[@]}" | wc -l)
+[ "$assumed" = 0 ] || echo "of $assumed of the ${#machines[@]} machines it is assumed that operations do not wrap, as their comments say"
