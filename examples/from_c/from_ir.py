@@ -27,6 +27,7 @@ compared, floating point, vectors, structures, `or` and `xor` of numbers, shifts
 import argparse
 import itertools
 import math
+import os
 import re
 import sys
 
@@ -273,14 +274,14 @@ class Function:
 
     def bounds(self, value, width):
         """Between which numbers a value of so many bits lies."""
-        if value[0] != "%":
-            return self.bounded.get(value) or (int(value), int(value))
+        if re.fullmatch(r"-?\d+", value):
+            return int(value), int(value)
         return self.bounded.get(value, whole(width))
 
     def assume(self, what):
         """Takes as given what may not be so, where that is allowed."""
         if not self.assumes:
-            raise Refused(f"{what}, which may not be so (--assume-no-wrap takes it as given)")
+            raise Refused(f"it is not known that {what} (--assume-no-wrap assumes it)")
         self.assumed.setdefault(what, []).append(self.place)
 
 
@@ -438,6 +439,8 @@ def read_truth(function, _, value, rest):
         test, yes, no = (function.guard(found[place]) for place in (1, 2, 3))
         no_way = no if yes[0] == "yes" else joined("and", negation(test), no)
         function.guards[value] = joined("or", joined("and", test, yes), no_way)
+    elif found := matched(rf"trunc {TYPE} ({VALUE}) to i1", rest):
+        function.guards[value] = relation("!=", binary("%", function.term(found[1]), num(2)), num(0))
     elif found := matched(rf"freeze i1 ({VALUE})", rest):
         function.guards[value] = function.guard(found[1])
     elif found := matched(rf"([sz]ext|trunc) (?!i1 )i(\d+) ({VALUE}) to (?!i1$)i(\d+)", rest):
@@ -874,7 +877,11 @@ def main(given=None):
         sys.exit(f"from_ir.py: {asked.file}: this is not read as IR of clang 14")
     for what, places in function.assumed.items():
         print(f"from_ir.py: {asked.file}:{places[0]}: assumed, not known, in {counted(places)}: {what}", file=sys.stderr)
-    print(made)
+    try:
+        print(made, flush=True)
+    except OSError as error:
+        os.dup2(os.open(os.devnull, os.O_WRONLY), sys.stdout.fileno())  # what is not written yet is not tried again
+        sys.exit(f"from_ir.py: the machine cannot be written: {error.strerror}")
 
 
 if __name__ == "__main__":

@@ -69,6 +69,8 @@ CASES = [
     (one("%v = or i32 %a, 5"), "", "an instruction that is not translated"),
     (one("%c = icmp slt i32 %a, 0", "%d = zext i1 %c to i32", "%e = trunc i32 %d to i8", "%v = sext i8 %e to i32"), "",
      "result = d;"),
+    (one("%c = trunc i32 %a to i1", "%v = select i1 %c, i32 %a, i32 %b"), "", "when a % 2 != 0 goto"),
+    (one("%v = add nsw i32 undef, %b"), "", "an undefined value in an operation"),
     (LOOKED_UP, "", "goto entry: t[0] = 3, t[1] = -1;"),
     (LOOKED_UP, "", "result = t[k * 2 + 1];"),
     (LOOKED_UP.replace("constant", "global"), "", "a variable of the file"),
