@@ -370,9 +370,10 @@ def converted(function, op, before, value, after):
     term, bounds = function.term(value), function.bounds(value, before)
     if op == "zext":
         term, bounds = without_sign(function, op, before, value)
-    if op == "trunc" and not within(bounds, after):
-        function.assume("trunc keeps its number")
-    return term, cut(bounds, after)
+    if within(bounds, after):
+        return term, bounds
+    function.assume(f"{op} keeps its number")
+    return term, whole(after)
 
 
 def read_operation(function, rest):
@@ -833,6 +834,19 @@ def transition(guard, target, sets, writes):
     return f"  {when}goto {target}{': ' if actions else ''}{', '.join(actions)};"
 
 
+def beginning(function, machine, target):
+    """The reset state, which writes the tables; with one instruction a state, it and others write an entry each."""
+    writes = [(name, num(place), num(entry)) for name, (_, _, entries) in function.locals.items()
+              for place, entry in enumerate(entries) if entry]
+    steps = [[write] for write in writes] if machine.single and writes else [writes]
+    names = ["begin", *(machine.state_name("table") for _ in steps[1:])]
+    for at, step in enumerate(steps):
+        is_last = at == len(steps) - 1
+        yield f"state {names[at]}:"
+        sets = {"copy_k": num(0)} if is_last and function.written else {}
+        yield transition(("yes",), target if is_last else names[at + 1], sets, step)
+
+
 def counted(places):
     return f"{len(places)} place{'s' if len(places) > 1 else ''}"
 
@@ -844,10 +858,7 @@ def machine_text(function, machine):
     yield from declarations(function, machine)
     first = machine.labels[function.blocks[0].label]
     yield "reset begin;"
-    yield "state begin:"
-    tables = [(name, num(place), num(entry)) for name, (_, _, entries) in function.locals.items()
-              for place, entry in enumerate(entries) if entry]
-    yield transition(("yes",), "copy" if function.written else first, {"copy_k": num(0)} if function.written else {}, tables)
+    yield from beginning(function, machine, "copy" if function.written else first)
     if function.written:
         copied = ", ".join(f"{name}[copy_k] = {before}[copy_k]" for name, before in function.written.items())
         yield "state copy:"
