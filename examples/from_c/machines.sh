@@ -9,7 +9,7 @@
 #   O1.fsmd            after all of -O1
 #   broken.fsmd        the broken twin, after all of -O1
 set -eu
-here=$(cd "$(dirname "$0")" && pwd)
+here=$(CDPATH='' cd "$(dirname "$0")" && pwd)
 folder=${1:-$here}
 program=${FSMD:-$here/../../bin/fsmd}
 work=$(mktemp -d)

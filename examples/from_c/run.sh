@@ -3,7 +3,7 @@
 # behaviour, those that are undecided, and of how many machines it is assumed that nothing wraps. With --anew the machines are made from C in a folder of their own (clang 14, opt 14 and
 # Python); else those that are kept here are taken. Each certificate is checked by `verify`.
 set -eu
-here=$(cd "$(dirname "$0")" && pwd)
+here=$(CDPATH='' cd "$(dirname "$0")" && pwd)
 work=$(mktemp -d)
 trap 'rm -rf "$work"' EXIT
 folder=$here

@@ -6,7 +6,7 @@ set -u
 list=$1 folder=$2
 task=${SLURM_ARRAY_TASK_ID:-${PBS_ARRAY_INDEX:-${SGE_TASK_ID:?the number of this task, from 1}}}
 tasks=${TASKS:-${SLURM_ARRAY_TASK_COUNT:?the number of tasks}}
-here=${MANY:-$(cd "$(dirname "$0")" && pwd)}
+here=${MANY:-$(CDPATH='' cd "$(dirname "$0")" && pwd)}
 program=$(command -v "${FSMD:-fsmd}")
 worst=0
 while IFS=$'\t' read -r left right name; do

@@ -3,7 +3,7 @@
 # schedule with two registers for its six locals. Each step from a machine to a machine is checked. Prints a line a step, and one
 # of the steps together, from the compiled machine on.
 set -eu
-here=$(cd "$(dirname "$0")" && pwd)
+here=$(CDPATH='' cd "$(dirname "$0")" && pwd)
 work=$(mktemp -d)
 trap 'rm -rf "$work"' EXIT
 program=${FSMD:-$here/../../bin/fsmd}
