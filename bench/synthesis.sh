@@ -8,7 +8,7 @@ folder=${1:-$(mktemp -d)}
 mkdir -p "$folder"
 [ -x "$program" ] || { echo "build the program first: bin/build"; exit 1; }
 
-# One straight line of 4,000 assignments over 124 scalars.
+# One basic block of 4,000 assignments over 124 scalars.
 line() { awk 'BEGIN {
     print "fsmd 1; input a, b; output y; local v0"; for (k = 1; k < 124; k++) printf ", v%d", k
     print "; reset s0;"

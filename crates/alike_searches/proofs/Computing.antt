@@ -1,8 +1,8 @@
 -- What the operations give, where they give a term.
 use Rattle.std.proofs.Common.{◌≡◌, ℕ, ◌+◌, ◌*◌, ℤ, Bool, true, false, cond, nat_le}
 use Rattle.std.specs.Prelude.{unsigned_abs}
-use Rattle.nf_terms.specs.NormalTerms.{Polynomial, polynomial_of_number}
-use Rattle.nf_terms.specs.Measures.{size_of, weight_of}
+use Rattle.nf_trees.specs.NormalTerms.{Polynomial, polynomial_of_number}
+use Rattle.nf_trees.specs.Measures.{size_of, weight_of}
 use Rattle.nf_terms.specs.TermLimits.{weight_limit}
 use Rattle.nf_terms.specs.RawSums.{raw_sum, raw_difference, raw_product}
 use Rattle.nf_terms.specs.Computed.{Computed, Done, Wide, if_narrow}

@@ -2,8 +2,8 @@
 use Rattle.std.proofs.Common.{◌≡◌, ℤ, pos, ◌-ℤ◌, neg_ℤ, true, arith, refl, ◌∙◌}
 use Rattle.std.proofs.lemmas.Int.{ints}
 use Rattle.fs_model.proofs.Orderings.{is_lt-true}
-use Rattle.nf_terms.specs.NormalTerms.{Atom, Monomial, Polynomial, One, Times, Zero, Plus}
-use Rattle.nf_terms.specs.Order.{cmp_monomial}
+use Rattle.nf_trees.specs.NormalTerms.{Atom, Monomial, Polynomial, One, Times, Zero, Plus}
+use Rattle.nf_trees.specs.Order.{cmp_monomial}
 use Rattle.nf_terms.specs.Normal.{part_with_atoms, constant_sum, monomial_rises}
 use Rattle.nf_terms.specs.RawSums.{monomial_product, raw_negation, raw_difference}
 use Rattle.nf_sums.proofs.Partings.{rises_through}

@@ -8,7 +8,7 @@ use Rattle.std.specs.Str.{bytes_eq}
 use Rattle.std.proofs.lemmas.List.{append-nil}
 use Rattle.std.proofs.lemmas.Bool.{or_right, not-true}
 use Rattle.fs_model.proofs.Booleans.{and_first, and_second}
-use Rattle.sym_facts.specs.SoundParts.{IsSound, names_differ}
+use Rattle.fs_model.specs.SoundMachines.{IsSound, names_differ}
 use Rattle.fs_model.specs.declared.parts.Sort.{Sort}
 use Rattle.fs_model.specs.declared.parts.VarInfo.{VarInfo}
 use Rattle.fs_model.specs.Machines.{Fsmd}

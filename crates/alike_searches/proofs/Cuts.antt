@@ -3,13 +3,13 @@ use Rattle.std.proofs.Common.{◌≡◌, ℕ, zero, suc, ◌<◌, ◌≤◌, ◌
 use Rattle.std.specs.Prelude.{slice_get}
 use Rattle.std.specs.List.{list_all, slice_index_or}
 use Rattle.fs_model.specs.Limits.{most_branches}
-use Rattle.fs_model.specs.Terms.{Term, Variable, Sum, Difference, Product, Assignment, Assign, Transition}
+use Rattle.fs_model.specs.Expressions.{Expression, Variable, Sum, Difference, Product, Assignment, Assign, Transition}
 use Rattle.fs_model.specs.Machines.{transitions_of}
-use Rattle.fs_ast.specs.SoundParts.{IsSoundTransition, IsSound, branch_count, ends_open, reaches_cutpoint}
+use Rattle.fs_model.specs.SoundMachines.{IsSoundTransition, IsSound, branch_count, ends_open, reaches_cutpoint}
 use Rattle.fs_ast.specs.Branches.{is_sound_assignment}
 use Rattle.fs_cut.specs.Paths.{Point, Start, At, Done, Path, IsPath, state_of}
 use Rattle.fs_cut.proofs.Listed.{path_unique}
-use Rattle.cert_bisimulation.specs.PathExpressions.{Expression, Initial, InitialArray, InitialList, initial, expression_of_term, acted_all}
+use Rattle.cert_bisimulation.specs.PathExpressions.{PathExpression, Initial, InitialArray, InitialList, initial, path_expression, acted_all}
 use Rattle.cert_bisimulation.specs.ExpressionSameness.{SameLeft}
 use Rattle.cert_bisimulation.specs.Alike.{AlikePaths, AlikePoints, Alike, literals_of, left_after}
 use Rattle.alike_searches.specs.SplitStates.{their_variables, difference, sum, product, product_at_once, goto, choice, in_one_step, in_two_steps, their_pairs}
@@ -174,21 +174,21 @@ itself xs h =
     same_to_twin in_one_step in_two_steps refl refl (acted_all xs initial initial)
     (own_all in_one_step in_two_steps refl xs initial initial (own_initial in_one_step in_two_steps refl) (own_initial in_one_step in_two_steps refl) h)
 
-overwritten : (c : Bool) (x z w : Expression) → cond c x w ≡ cond c x (cond c z w)
+overwritten : (c : Bool) (x z w : PathExpression) → cond c x w ≡ cond c x (cond c z w)
 overwritten true x z w = refl
 overwritten false x z w = refl
 
-abbrev plus : Term ℕ
+abbrev plus : Expression ℕ
 plus = Sum (Variable 0) (Variable 1)
 
-abbrev minus : Term ℕ
+abbrev minus : Expression ℕ
 minus = Difference (Variable 0) (Variable 1)
 
 -- the second step overwrites t
 both_steps : left_after in_one_step (first_path [] 1) ≡ left_after in_two_steps (first_path (1 ∷ []) 2)
 both_steps = λ j. record {
-  scalar = λ y. overwritten (y == 3) (expression_of_term initial (Product plus minus)) (expression_of_term initial plus)
-      (cond (y == 4) (expression_of_term initial minus) (Initial y)) j;
+  scalar = λ y. overwritten (y == 3) (path_expression initial (Product plus minus)) (path_expression initial plus)
+      (cond (y == 4) (path_expression initial minus) (Initial y)) j;
   array = InitialArray;
   port = InitialList;
 }

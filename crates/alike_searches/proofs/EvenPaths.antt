@@ -2,10 +2,10 @@
 use Rattle.std.proofs.Common.{◌≡◌, ℕ, cond, refl, ap, ap₂, sym, subst, ◌∙◌, List, [], ◌∷◌, ◌++◌, Option, Some}
 use Rattle.std.specs.Prelude.{◌&&◌}
 use Rattle.fs_model.specs.declared.parts.Sort.TheVariants as sorts
-use Rattle.fs_model.specs.Terms.{Term, Literal}
+use Rattle.fs_model.specs.Expressions.{Expression, Literal}
 use Rattle.fs_model.specs.Machines.{Fsmd}
 use Rattle.fs_cut.specs.Paths.{Point, Path, BranchStep, branch_at, steps_in}
-use Rattle.nf_terms.specs.NormalTerms.{Polynomial, polynomial_of_symbol, bare_array}
+use Rattle.nf_trees.specs.NormalTerms.{Polynomial, polynomial_of_symbol, bare_array}
 use Rattle.nf_terms.specs.Lists.{bare_list}
 use Rattle.nf_terms.specs.Forms.{sort_of_form}
 use Rattle.nf_terms.specs.Computed.{Computed, Done, after}
@@ -33,12 +33,12 @@ use Rattle.sym_paths.specs.Sequences.{each}
 use Rattle.sym_paths.specs.Evaluation.{evaluate, evaluate_literal, Change, SetTo, PutAt, PushTo, evaluate_assignment, change, change_all, act_over}
 use Rattle.sym_paths.specs.Execution.{Post, conditions, steps_over, execute, arrive}
 use Rattle.sym_paths.proofs.Changes.{other_at}
-use Rattle.cert_bisimulation.specs.PathExpressions.{Expression, Constant, Initial, Element, Plus, Minus, Times, Over, Rest, Opposite, ArrayExpression}
-use Rattle.cert_bisimulation.specs.PathExpressions.{InitialArray, Stored, ListExpression, InitialList, Pushed, initial, expression_of_term}
+use Rattle.cert_bisimulation.specs.PathExpressions.{PathExpression, Constant, Initial, Element, Plus, Minus, Times, Over, Rest, Opposite, ArrayExpression}
+use Rattle.cert_bisimulation.specs.PathExpressions.{InitialArray, Stored, ListExpression, InitialList, Pushed, initial, path_expression}
 use Rattle.cert_bisimulation.specs.ExpressionSameness.{AreTwins, Same, SameArray, SameListExpression, SameLiterals}
 use Rattle.cert_bisimulation.specs.Alike.{literals_of, left_after, AlikePaths}
 use Rattle.alike_searches.specs.Evenness.{IsEven}
-use Rattle.alike_searches.proofs.ExpressionTerms.{Terms, terms_of, term_of, array_term_of, list_term_of, left_shows, initial_term}
+use Rattle.alike_searches.proofs.ExpressionTerms.{Expressions, terms_of, term_of, array_term_of, list_term_of, left_shows, initial_term}
 
 -- ---- the other side stays
 
@@ -100,19 +100,19 @@ steps_of m p side v post e =
 -- ---- the same expressions have equal terms
 
 -- the terms of twins at the start are equal
-record SameTerms (a b : Fsmd) (k l : Terms) : Type 0 where
+record SameTerms (a b : Fsmd) (k l : Expressions) : Type 0 where
   numbers : (x y : ℕ) → AreTwins a b sorts.Scalar x y → k.number x ≡ l.number y
   arrays : (x y : ℕ) → AreTwins a b sorts.Array x y → k.array x ≡ l.array y
   lists : (x y : ℕ) → AreTwins a b sorts.Port x y → k.list x ≡ l.list y
 
 module _ (a b : Fsmd) where
-  module _ (k l : Terms) (h : SameTerms a b k l) where
+  module _ (k l : Expressions) (h : SameTerms a b k l) where
     both : {U : Type 0} (o o' : Computed Polynomial) (f : Polynomial → Polynomial → Computed U) (r r' : Computed Polynomial) → o ≡ o' → r ≡ r'
         → after o (λ p. after r (λ q. f p q)) ≡ after o' (λ p. after r' (λ q. f p q))
     both o o' f r r' g i = ap₂ (λ z y. after z (λ p. after y (λ q. f p q))) g i
 
     mutual
-      same_term : (x z : Expression) → Same a b x z → term_of k x ≡ term_of l z
+      same_term : (x z : PathExpression) → Same a b x z → term_of k x ≡ term_of l z
       same_term (Constant c) z w = sym (ap (term_of l) w)
       same_term (Initial x) z (y, e, t) = ap Done (h.numbers x y t) ∙ sym (ap (term_of l) e)
       same_term (Element c i) z (d, j, e, g, w) = ap₂ (λ o r. after o (λ p. after r (λ q. read_at p q))) (same_array_term c d g) (same_term i j w)
@@ -147,9 +147,9 @@ module _ (a b : Fsmd) where
     start_terms : SameTerms a b (terms_of Left v) (terms_of Right v)
     start_terms = record { numbers = even.numbers; arrays = even.arrays; lists = even.lists }
 
-    same_value : (x z : Term ℕ) → Same a b (expression_of_term initial x) (expression_of_term initial z) → evaluate Left v x ≡ evaluate Right v z
-    same_value x z h = initial_term Left v x ∙ same_term (terms_of Left v) (terms_of Right v) start_terms (expression_of_term initial x)
-        (expression_of_term initial z) h
+    same_value : (x z : Expression ℕ) → Same a b (path_expression initial x) (path_expression initial z) → evaluate Left v x ≡ evaluate Right v z
+    same_value x z h = initial_term Left v x ∙ same_term (terms_of Left v) (terms_of Right v) start_terms (path_expression initial x)
+        (path_expression initial z) h
         ∙ sym (initial_term Right v z)
 
     same_literals : (ls ms : List (Literal ℕ)) → SameLiterals a b ls ms → each (λ l. evaluate_literal Left v l) ls ≡ each (λ l. evaluate_literal Right v l) ms

@@ -3,7 +3,7 @@ use Rattle.std.proofs.Common.{◌≡◌, cond, Bool, true, false, refl, ap, sym,
 use Rattle.fs_model.specs.declared.parts.Sort.{Sort}
 use Rattle.fs_model.specs.declared.parts.Sort.TheVariants as sort
 use Rattle.fs_pair.specs.declared.positions.Position.{Position}
-use Rattle.nf_terms.specs.NormalTerms.{Polynomial, Zero, polynomial_of_symbol}
+use Rattle.nf_trees.specs.NormalTerms.{Polynomial, Zero, polynomial_of_symbol}
 use Rattle.nf_terms.specs.Forms.{same_form}
 use Rattle.nf_terms.specs.Computed.{Computed, Done, after}
 use Rattle.fs_model.specs.declared.sides.Pos.{Pos}

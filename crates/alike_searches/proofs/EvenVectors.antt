@@ -4,15 +4,15 @@ use Rattle.std.specs.Prelude.{◌&&◌, ◌⊎◌, slice_get}
 use Rattle.std.specs.List.{list_all}
 use Rattle.std.proofs.lemmas.Bool.{eqb-true, and_from, eqb-false}
 use Rattle.fs_model.proofs.Booleans.{and_first, and_second}
-use Rattle.sym_facts.specs.SoundParts.{IsSound}
+use Rattle.fs_model.specs.SoundMachines.{IsSound}
 use Rattle.fs_model.specs.declared.parts.Sort.{Sort}
 use Rattle.fs_model.specs.declared.parts.Sort.TheVariants as sort
 use Rattle.fs_model.specs.declared.parts.VarInfo.{VarInfo}
 use Rattle.fs_model.specs.Machines.{Fsmd}
-use Rattle.nf_terms.specs.NormalTerms.{Polynomial, ArrayTerm}
+use Rattle.nf_trees.specs.NormalTerms.{Polynomial, ArrayTerm}
 use Rattle.nf_terms.specs.Lists.{ListTerm}
 use Rattle.nf_terms.specs.Forms.{sort_of_form}
-use Rattle.nf_terms.specs.Mentions.{same_pos}
+use Rattle.nf_trees.specs.Mentions.{same_pos}
 use Rattle.nf_terms.specs.declared.symbols.Sort.{Sort as TermSort}
 use Rattle.fs_model.specs.declared.sides.Side.TheVariants.{Left, Right}
 use Rattle.fs_model.specs.declared.sides.Pos.{Pos}

@@ -2,13 +2,14 @@
 use Rattle.std.proofs.Common.{◌≡◌, ℕ, ◌==◌, cond, Bool, true, false, arith, refl, ap, ap₂, sym, subst, ◌∙◌, List, [], ◌∷◌, Option, Some}
 use Rattle.std.specs.Prelude.{◌&&◌}
 use Rattle.std.proofs.lemmas.Bool.Decides.{nat_tests}
-use Rattle.fs_model.specs.Terms.{Term, Number, Variable, Read, Sum, Difference, Product, Quotient, Remainder, Negative, Assignment, Assign, ArrayWrite, Emit}
+use Rattle.fs_model.specs.Expressions.{Expression, Number, Variable, Read, Sum, Difference, Product, Quotient, Remainder, Negative, Assignment, Assign}
+use Rattle.fs_model.specs.Expressions.{ArrayWrite, Emit}
 use Rattle.fs_model.specs.Machines.{Fsmd}
 use Rattle.fs_cut.specs.Paths.{BranchStep, branch_at}
-use Rattle.nf_terms.specs.NormalTerms.{Polynomial, ArrayTerm, polynomial_of_symbol, bare_array}
+use Rattle.nf_trees.specs.NormalTerms.{Polynomial, ArrayTerm, polynomial_of_symbol, bare_array}
 use Rattle.nf_terms.specs.Lists.{ListTerm, bare_list}
 use Rattle.nf_terms.specs.Forms.{sort_of_form}
-use Rattle.nf_terms.specs.Mentions.{same_pos}
+use Rattle.nf_trees.specs.Mentions.{same_pos}
 use Rattle.nf_terms.specs.Computed.{Computed, Done, after}
 use Rattle.nf_terms.specs.declared.symbols.Sort.{Sort}
 use Rattle.nf_terms.specs.declared.symbols.Sort.TheVariants as sort
@@ -32,23 +33,23 @@ use Rattle.sym_paths.specs.Sequences.{each}
 use Rattle.sym_paths.specs.Evaluation.{evaluate, Change, SetTo, PutAt, PushTo, evaluate_assignment, change, change_all, act_over}
 use Rattle.sym_paths.specs.Execution.{steps_over}
 use Rattle.sym_paths.proofs.Changes.{same_at}
-use Rattle.cert_bisimulation.specs.PathExpressions.{Expression, Constant, Initial, Element, Plus, Minus, Times, Over, Rest, Opposite, ArrayExpression}
-use Rattle.cert_bisimulation.specs.PathExpressions.{InitialArray, Stored, ListExpression, InitialList, Pushed, ExpressionVector, initial, expression_of_term}
+use Rattle.cert_bisimulation.specs.PathExpressions.{PathExpression, Constant, Initial, Element, Plus, Minus, Times, Over, Rest, Opposite, ArrayExpression}
+use Rattle.cert_bisimulation.specs.PathExpressions.{InitialArray, Stored, ListExpression, InitialList, Pushed, ExpressionVector, initial, path_expression}
 use Rattle.cert_bisimulation.specs.PathExpressions.{expressions_after}
 use Rattle.cert_bisimulation.specs.PathExpressions.{acted_all, left_by}
 
 -- what stands at each variable of a side
-pub record Terms : Type 0 where
+pub record Expressions : Type 0 where
   pub number : ℕ → Polynomial
   pub array : ℕ → ArrayTerm
   pub list : ℕ → ListTerm
 
-abbrev pub terms_of : Side → List (Pos × Nf) → Terms
+abbrev pub terms_of : Side → List (Pos × Nf) → Expressions
 terms_of side v = record { number = λ x. number_at v (at side x); array = λ x. array_form v (at side x); list = λ x. list_at v (at side x) }
 
 -- the term of an expression over the terms at the start
 abbrev mutual
-  pub term_of : Terms → Expression → Computed Polynomial
+  pub term_of : Expressions → PathExpression → Computed Polynomial
   term_of k (Constant n) = number n
   term_of k (Initial x) = Done (k.number x)
   term_of k (Element a i) = after (array_term_of k a) (λ b. after (term_of k i) (λ j. read_at b j))
@@ -59,16 +60,16 @@ abbrev mutual
   term_of k (Rest a b) = after (term_of k a) (λ p. after (term_of k b) (λ q. remainder_of p q))
   term_of k (Opposite a) = after (term_of k a) (λ p. Done (normal_negation p))
 
-  pub array_term_of : Terms → ArrayExpression → Computed ArrayTerm
+  pub array_term_of : Expressions → ArrayExpression → Computed ArrayTerm
   array_term_of k (InitialArray x) = Done (k.array x)
   array_term_of k (Stored a i e) = after (array_term_of k a) (λ b. after (term_of k i) (λ j. after (term_of k e) (λ p. write_array b j p)))
 
-abbrev pub list_term_of : Terms → ListExpression → Computed ListTerm
+abbrev pub list_term_of : Expressions → ListExpression → Computed ListTerm
 list_term_of k (InitialList x) = Done (k.list x)
 list_term_of k (Pushed l e) = after (list_term_of k l) (λ m. after (term_of k e) (λ p. list_with_item m p))
 
 -- over the terms k at the start, each expression is computed to what the vector u has
-pub record Shows (k : Terms) (s : ExpressionVector) (side : Side) (u : List (Pos × Nf)) : Type 0 where
+pub record Shows (k : Expressions) (s : ExpressionVector) (side : Side) (u : List (Pos × Nf)) : Type 0 where
   pub numbers : (x : ℕ) → term_of k (s.scalar x) ≡ Done (number_at u (at side x))
   pub arrays : (x : ℕ) → array_term_of k (s.array x) ≡ Done (array_form u (at side x))
   pub lists : (x : ℕ) → list_term_of k (s.port x) ≡ Done (list_at u (at side x))
@@ -85,28 +86,28 @@ two o o' f r r' y g h e =
     let t = goes_done r (λ q. f s.middle q) y s.next in
     after_done o' (λ p. after r' (λ q. f p q)) s.middle y (g s.middle s.first) (after_done r' (λ q. f s.middle q) t.middle y (h t.middle t.first) t.next)
 
-module _ (k : Terms) (side : Side) where
-  expressed_term : (s : ExpressionVector) (u : List (Pos × Nf)) → Shows k s side u → (e : Term ℕ) (p : Polynomial) → evaluate side u e ≡ Done p
-      → term_of k (expression_of_term s e) ≡ Done p
+module _ (k : Expressions) (side : Side) where
+  expressed_term : (s : ExpressionVector) (u : List (Pos × Nf)) → Shows k s side u → (e : Expression ℕ) (p : Polynomial) → evaluate side u e ≡ Done p
+      → term_of k (path_expression s e) ≡ Done p
   expressed_term s u h (Number n) p e = e
   expressed_term s u h (Variable x) p e = h.numbers x ∙ e
   expressed_term s u h (Read x i) p e =
       let t = goes_done (evaluate side u i) (λ j. read_at (array_form u (at side x)) j) p e in
-      after_done (array_term_of k (s.array x)) (λ b. after (term_of k (expression_of_term s i)) (λ j. read_at b j)) (array_form u (at side x)) p (h.arrays x)
-      (after_done (term_of k (expression_of_term s i)) (λ j. read_at (array_form u (at side x)) j) t.middle p (expressed_term s u h i t.middle t.first) t.next)
-  expressed_term s u h (Sum a b) p e = two (evaluate side u a) (term_of k (expression_of_term s a)) normal_sum (evaluate side u b)
-      (term_of k (expression_of_term s b)) p (expressed_term s u h a) (expressed_term s u h b) e
-  expressed_term s u h (Difference a b) p e = two (evaluate side u a) (term_of k (expression_of_term s a)) normal_difference (evaluate side u b)
-      (term_of k (expression_of_term s b)) p (expressed_term s u h a) (expressed_term s u h b) e
-  expressed_term s u h (Product a b) p e = two (evaluate side u a) (term_of k (expression_of_term s a)) normal_product (evaluate side u b)
-      (term_of k (expression_of_term s b)) p (expressed_term s u h a) (expressed_term s u h b) e
-  expressed_term s u h (Quotient a b) p e = two (evaluate side u a) (term_of k (expression_of_term s a)) quotient_of (evaluate side u b)
-      (term_of k (expression_of_term s b)) p (expressed_term s u h a) (expressed_term s u h b) e
-  expressed_term s u h (Remainder a b) p e = two (evaluate side u a) (term_of k (expression_of_term s a)) remainder_of (evaluate side u b)
-      (term_of k (expression_of_term s b)) p (expressed_term s u h a) (expressed_term s u h b) e
+      after_done (array_term_of k (s.array x)) (λ b. after (term_of k (path_expression s i)) (λ j. read_at b j)) (array_form u (at side x)) p (h.arrays x)
+      (after_done (term_of k (path_expression s i)) (λ j. read_at (array_form u (at side x)) j) t.middle p (expressed_term s u h i t.middle t.first) t.next)
+  expressed_term s u h (Sum a b) p e = two (evaluate side u a) (term_of k (path_expression s a)) normal_sum (evaluate side u b)
+      (term_of k (path_expression s b)) p (expressed_term s u h a) (expressed_term s u h b) e
+  expressed_term s u h (Difference a b) p e = two (evaluate side u a) (term_of k (path_expression s a)) normal_difference (evaluate side u b)
+      (term_of k (path_expression s b)) p (expressed_term s u h a) (expressed_term s u h b) e
+  expressed_term s u h (Product a b) p e = two (evaluate side u a) (term_of k (path_expression s a)) normal_product (evaluate side u b)
+      (term_of k (path_expression s b)) p (expressed_term s u h a) (expressed_term s u h b) e
+  expressed_term s u h (Quotient a b) p e = two (evaluate side u a) (term_of k (path_expression s a)) quotient_of (evaluate side u b)
+      (term_of k (path_expression s b)) p (expressed_term s u h a) (expressed_term s u h b) e
+  expressed_term s u h (Remainder a b) p e = two (evaluate side u a) (term_of k (path_expression s a)) remainder_of (evaluate side u b)
+      (term_of k (path_expression s b)) p (expressed_term s u h a) (expressed_term s u h b) e
   expressed_term s u h (Negative a) p e =
       let t = goes_done (evaluate side u a) (λ q. Done (normal_negation q)) p e in
-      after_done (term_of k (expression_of_term s a)) (λ q. Done (normal_negation q)) t.middle p (expressed_term s u h a t.middle t.first) t.next
+      after_done (term_of k (path_expression s a)) (λ q. Done (normal_negation q)) t.middle p (expressed_term s u h a t.middle t.first) t.next
 
   -- ---- a form that is put
 
@@ -133,7 +134,7 @@ module _ (k : Terms) (side : Side) where
   list_in y o = list_or (bare_list (list.Sym (at side y))) o
 
   module _ (s : ExpressionVector) (u : List (Pos × Nf)) (h : Shows k s side u) (x : ℕ) where
-    set_shows : (e : Expression) (p : Polynomial) → term_of k e ≡ Done p
+    set_shows : (e : PathExpression) (p : Polynomial) → term_of k e ≡ Done p
         → Shows k (record { scalar = λ y. cond (y == x) e (s.scalar y); array = s.array; port = s.port }) side (with_form (at side x) (Num p) u)
     set_shows e p g =
         record {
@@ -148,7 +149,7 @@ module _ (k : Terms) (side : Side) where
         chosen y o i true = g
         chosen y o i false = i
 
-    put_shows : (i e : Expression) (a : ArrayTerm) → array_term_of k (Stored (s.array x) i e) ≡ Done a
+    put_shows : (i e : PathExpression) (a : ArrayTerm) → array_term_of k (Stored (s.array x) i e) ≡ Done a
         → Shows k (record { scalar = s.scalar; array = λ y. cond (y == x) (Stored (s.array y) i e) (s.array y); port = s.port }) side
         (with_form (at side x) (Arr a) u)
     put_shows i e a g =
@@ -164,7 +165,7 @@ module _ (k : Terms) (side : Side) where
         chosen y o j true w = let same : y ≡ x = grind (arith, nat_tests) in ap (λ z. array_term_of k (Stored (s.array z) i e)) same ∙ g
         chosen y o j false w = j
 
-    push_shows : (e : Expression) (l : ListTerm) → list_term_of k (Pushed (s.port x) e) ≡ Done l
+    push_shows : (e : PathExpression) (l : ListTerm) → list_term_of k (Pushed (s.port x) e) ≡ Done l
         → Shows k (record { scalar = s.scalar; array = s.array; port = λ y. cond (y == x) (Pushed (s.port y) e) (s.port y) }) side
         (with_form (at side x) (Seq l) u)
     push_shows e l g =
@@ -189,34 +190,34 @@ module _ (k : Terms) (side : Side) where
         let r = goes_done (evaluate side v e) (λ p. Done (SetTo x p)) c g in
         let i' : change side (SetTo x r.middle) u ≡ Done next = ap (λ z. change side z u) (same_Done (SetTo x r.middle) c r.next) ∙ i in
         subst (Shows k (expressions_after (Assign x e) before s) side) (same_Done (with_form (at side x) (Num r.middle) u) next i')
-        (set_shows s u h x (expression_of_term before e) r.middle (expressed_term before v b e r.middle r.first))
+        (set_shows s u h x (path_expression before e) r.middle (expressed_term before v b e r.middle r.first))
     assignment_shows s u next h (ArrayWrite x i e) c g j =
         let r = goes_done (evaluate side v i) (λ m. after (evaluate side v e) (λ p. Done (PutAt x m p))) c g in
         let t = goes_done (evaluate side v e) (λ p. Done (PutAt x r.middle p)) c r.next in
         let j' : change side (PutAt x r.middle t.middle) u ≡ Done next = ap (λ z. change side z u) (same_Done (PutAt x r.middle t.middle) c t.next) ∙ j in
         let d = goes_done (write_array (array_form u (at side x)) r.middle t.middle) (λ a. Done (with_form (at side x) (Arr a) u)) next j' in
-        let computed : array_term_of k (Stored (s.array x) (expression_of_term before i) (expression_of_term before e)) ≡ Done d.middle =
+        let computed : array_term_of k (Stored (s.array x) (path_expression before i) (path_expression before e)) ≡ Done d.middle =
         after_done (array_term_of k (s.array x))
-        (λ a. after (term_of k (expression_of_term before i)) (λ m. after (term_of k (expression_of_term before e)) (λ p. write_array a m p)))
+        (λ a. after (term_of k (path_expression before i)) (λ m. after (term_of k (path_expression before e)) (λ p. write_array a m p)))
         (array_form u (at side x)) d.middle (h.arrays x)
-        (after_done (term_of k (expression_of_term before i))
-        (λ m. after (term_of k (expression_of_term before e)) (λ p. write_array (array_form u (at side x)) m p)) r.middle
+        (after_done (term_of k (path_expression before i))
+        (λ m. after (term_of k (path_expression before e)) (λ p. write_array (array_form u (at side x)) m p)) r.middle
         d.middle (expressed_term before v b i r.middle r.first)
-        (after_done (term_of k (expression_of_term before e)) (λ p. write_array (array_form u (at side x)) r.middle p) t.middle d.middle
+        (after_done (term_of k (path_expression before e)) (λ p. write_array (array_form u (at side x)) r.middle p) t.middle d.middle
         (expressed_term before v b e t.middle t.first) d.first)) in
         subst (Shows k (expressions_after (ArrayWrite x i e) before s) side) (same_Done (with_form (at side x) (Arr d.middle) u) next d.next)
-        (put_shows s u h x (expression_of_term before i) (expression_of_term before e) d.middle computed)
+        (put_shows s u h x (path_expression before i) (path_expression before e) d.middle computed)
     assignment_shows s u next h (Emit x e) c g i =
         let r = goes_done (evaluate side v e) (λ p. Done (PushTo x p)) c g in
         let i' : change side (PushTo x r.middle) u ≡ Done next = ap (λ z. change side z u) (same_Done (PushTo x r.middle) c r.next) ∙ i in
         let d = goes_done (list_with_item (list_at u (at side x)) r.middle) (λ l. Done (with_form (at side x) (Seq l) u)) next i' in
-        let computed : list_term_of k (Pushed (s.port x) (expression_of_term before e)) ≡ Done d.middle =
-        after_done (list_term_of k (s.port x)) (λ l. after (term_of k (expression_of_term before e)) (λ p. list_with_item l p))
+        let computed : list_term_of k (Pushed (s.port x) (path_expression before e)) ≡ Done d.middle =
+        after_done (list_term_of k (s.port x)) (λ l. after (term_of k (path_expression before e)) (λ p. list_with_item l p))
         (list_at u (at side x)) d.middle (h.lists x)
-        (after_done (term_of k (expression_of_term before e)) (λ p. list_with_item (list_at u (at side x)) p) r.middle d.middle
+        (after_done (term_of k (path_expression before e)) (λ p. list_with_item (list_at u (at side x)) p) r.middle d.middle
         (expressed_term before v b e r.middle r.first) d.first) in
         subst (Shows k (expressions_after (Emit x e) before s) side) (same_Done (with_form (at side x) (Seq d.middle) u) next d.next)
-        (push_shows s u h x (expression_of_term before e) d.middle computed)
+        (push_shows s u h x (path_expression before e) d.middle computed)
 
     assignments_show : (xs : List (Assignment ℕ)) (cs : List Change) (s : ExpressionVector) (u next : List (Pos × Nf)) → Shows k s side u
         → each (λ x. evaluate_assignment side v x) xs ≡ Done cs → change_all side cs u ≡ Done next → Shows k (acted_all xs before s) side next
@@ -245,7 +246,7 @@ pub left_shows : (m : Fsmd) (side : Side) (xs : List BranchStep) (v u : List (Po
 left_shows m side xs v u e = steps_show (terms_of side v) side m xs initial v u (record { numbers = λ x. refl; arrays = λ x. refl; lists = λ x. refl }) e
 
 -- a term over a vector is that of its expression
-pub initial_term : (side : Side) (v : List (Pos × Nf)) (e : Term ℕ) → evaluate side v e ≡ term_of (terms_of side v) (expression_of_term initial e)
+pub initial_term : (side : Side) (v : List (Pos × Nf)) (e : Expression ℕ) → evaluate side v e ≡ term_of (terms_of side v) (path_expression initial e)
 initial_term side v (Number n) = refl
 initial_term side v (Variable x) = refl
 initial_term side v (Read x i) = ap (λ o. after o (λ j. read_at (array_form v (at side x)) j)) (initial_term side v i)

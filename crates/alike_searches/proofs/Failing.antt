@@ -7,7 +7,7 @@ use Rattle.fs_model.proofs.Booleans.{and_first, and_second}
 use Rattle.fs_model.proofs.Numbers.{eqb_self}
 use Rattle.fs_model.specs.declared.parts.Sort.{Sort}
 use Rattle.fs_model.specs.declared.parts.Sort.TheVariants as sort
-use Rattle.nf_terms.specs.NormalTerms.{polynomial_of_symbol}
+use Rattle.nf_trees.specs.NormalTerms.{polynomial_of_symbol}
 use Rattle.nf_terms.specs.Forms.{same_form}
 use Rattle.nf_terms.specs.Computed.{Done, after}
 use Rattle.fs_model.specs.declared.sides.Pos.{Pos}

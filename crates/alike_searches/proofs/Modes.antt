@@ -2,7 +2,7 @@
 use Rattle.std.proofs.Common.{◌≡◌, ℕ, zero, suc, ◌+◌, ◌<◌, ◌≤◌, arith, refl, ap, ap₂, sym, subst, ◌∙◌, List, ◌++◌, map, Bool, true, false, cond}
 use Rattle.std.specs.Prelude.{◌≢◌, not, nat_le}
 use Rattle.std.specs.List.{range_with_len}
-use Rattle.fs_cut.specs.SoundParts.{IsSound, branch_count}
+use Rattle.fs_model.specs.SoundMachines.{IsSound, branch_count}
 use Rattle.fs_model.specs.Machines.{Fsmd}
 use Rattle.fs_cut.specs.Paths.{Point, Start, At, Done, state_of}
 use Rattle.fs_cut.specs.Covers.{path_by, paths_of, same_point}

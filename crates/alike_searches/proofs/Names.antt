@@ -5,7 +5,7 @@ use Rattle.fs_model.specs.declared.parts.Sort.{Sort}
 use Rattle.fs_model.specs.declared.parts.Sort.TheVariants as sort
 use Rattle.fs_model.specs.Machines.{Fsmd}
 use Rattle.fs_model.specs.Runs.{is_scalar, is_array, is_port}
-use Rattle.fs_ast.specs.SoundParts.{has_sort, names_differ, IsSound, branch_count}
+use Rattle.fs_model.specs.SoundMachines.{has_sort, names_differ, IsSound, branch_count}
 use Rattle.fs_cut.specs.Paths.{Point, Path, IsPath, state_of, target_of, steps_in}
 use Rattle.fs_cut.proofs.Listed.{path_unique, passes_end}
 use Rattle.cert_bisimulation.specs.PathExpressions.{ExpressionVector, initial}

@@ -4,7 +4,7 @@ use Rattle.std.specs.Prelude.{◌⊎◌}
 use Rattle.std.specs.List.{AllByRecursion}
 use Rattle.std.specs.Option.{option_map, option_or}
 use Rattle.fs_model.proofs.Quantifiers.{each_at}
-use Rattle.fs_cut.specs.SoundParts.{IsSound}
+use Rattle.fs_model.specs.SoundMachines.{IsSound}
 use Rattle.fs_cut.specs.Paths.{Point, Done}
 use Rattle.fs_pair.specs.PairedOutputs.{OutputPair, output_pairs}
 use Rattle.cert_bisimulation.specs.declared.mode.Mode.TheVariants.{Both, End}
@@ -12,7 +12,7 @@ use Rattle.fs_model.specs.declared.sides.Side.{Side}
 use Rattle.fs_model.specs.declared.sides.Side.TheVariants as side
 use Rattle.fs_model.specs.declared.sides.Pos.{Pos}
 use Rattle.nf_terms.specs.declared.form.Nf.{Nf}
-use Rattle.alike_searches.specs.Facts.{vector_of}
+use Rattle.sym_facts.specs.Facts.{vector_of}
 use Rattle.alike_searches.specs.Obligations.{same_forms}
 use Rattle.cert_bisimulation.specs.Alike.{Alike}
 use Rattle.alike_searches.specs.Evenness.{IsEven}

@@ -12,8 +12,8 @@ use Rattle.fs_model.proofs.Ring.{mul-add_z}
 use Rattle.fs_model.specs.declared.parts.Rel.{Rel}
 use Rattle.fs_model.specs.declared.parts.Rel.TheVariants as rel
 use Rattle.fs_model.specs.Trees.{opposite}
-use Rattle.nf_terms.specs.NormalTerms.{Polynomial, Zero, Plus}
-use Rattle.nf_terms.specs.Order.{same_polynomial}
+use Rattle.nf_trees.specs.NormalTerms.{Polynomial, Zero, Plus}
+use Rattle.nf_trees.specs.Order.{same_polynomial}
 use Rattle.nf_terms.specs.Computed.{Done}
 use Rattle.nf_terms.specs.Normal.{part_with_atoms, constant_sum}
 use Rattle.nf_terms.specs.RawSums.{raw_negation, raw_difference}

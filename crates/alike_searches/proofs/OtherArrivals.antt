@@ -1,8 +1,8 @@
 -- What arrives by paths of other numbers has conditions that clash.
 use Rattle.std.proofs.Common.{◌≡◌, ℕ, zero, suc, ap, sym, ◌∙◌, subst, List, [], ◌∷◌, ◌++◌, Some}
 use Rattle.std.specs.Prelude.{◌≢◌, slice_get}
-use Rattle.fs_cut.specs.SoundParts.{IsSound}
-use Rattle.fs_model.specs.Terms.{Term, Literal}
+use Rattle.fs_model.specs.SoundMachines.{IsSound}
+use Rattle.fs_model.specs.Expressions.{Expression, Literal}
 use Rattle.fs_model.specs.Machines.{Fsmd}
 use Rattle.fs_cut.specs.Paths.{Point, Path, IsPath, state_of, branch_at, steps_in}
 use Rattle.nf_terms.specs.Computed.{Done, after}
@@ -16,7 +16,7 @@ use Rattle.nf_rel.specs.Literals.{NormalLiteral, literal}
 use Rattle.sym_paths.specs.Sequences.{each}
 use Rattle.sym_paths.specs.Evaluation.{evaluate, evaluate_literal}
 use Rattle.sym_paths.specs.Execution.{Post, conditions, steps_over, execute, arrive}
-use Rattle.cert_bisimulation.specs.PathExpressions.{initial, expression_of_term}
+use Rattle.cert_bisimulation.specs.PathExpressions.{initial, path_expression}
 use Rattle.cert_bisimulation.specs.Alike.{AlikePoints}
 use Rattle.alike_searches.specs.Evenness.{IsEven}
 use Rattle.alike_searches.specs.Clashes.{SomeClash}
@@ -30,8 +30,8 @@ module _ (side : Side) (v u : List (Pos × Nf)) (h : Stays side v u) where
   same_terms : terms_of side u ≡ terms_of side v
   same_terms = λ k. record { number = λ x. h.numbers x k; array = λ x. h.arrays x k; list = λ x. h.lists x k }
 
-  value_stays : (e : Term ℕ) → evaluate side u e ≡ evaluate side v e
-  value_stays e = initial_term side u e ∙ ap (λ t. term_of t (expression_of_term initial e)) same_terms ∙ sym (initial_term side v e)
+  value_stays : (e : Expression ℕ) → evaluate side u e ≡ evaluate side v e
+  value_stays e = initial_term side u e ∙ ap (λ t. term_of t (path_expression initial e)) same_terms ∙ sym (initial_term side v e)
 
   literal_stays : (l : Literal ℕ) → evaluate_literal side u l ≡ evaluate_literal side v l
   literal_stays l = λ k. after (value_stays l.left k) (λ p. after (value_stays l.right k) (λ q. literal l.relation p q))

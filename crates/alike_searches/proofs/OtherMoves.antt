@@ -1,7 +1,7 @@
 -- What arrives at a pair of alike points by two paths that are not of one number is refuted.
 use Rattle.std.proofs.Common.{◌≡◌, List, Some, true}
 use Rattle.std.specs.Prelude.{◌≢◌}
-use Rattle.fs_cut.specs.SoundParts.{IsSound}
+use Rattle.fs_model.specs.SoundMachines.{IsSound}
 use Rattle.fs_model.specs.Machines.{Fsmd}
 use Rattle.fs_cut.specs.Paths.{Point, Path, IsPath}
 use Rattle.nf_terms.specs.Computed.{Done}

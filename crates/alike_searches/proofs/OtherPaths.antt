@@ -2,10 +2,10 @@
 use Rattle.std.proofs.Common.{◌≡◌, ℕ, zero, suc, ◌<◌, arith, true, List, [], ◌∷◌, ◌++◌, Some, length, refl, ap, sym, subst, ◌∙◌, inl, inr}
 use Rattle.std.specs.Prelude.{◌≢◌, ◌⊎◌, slice_get}
 use Rattle.std.specs.List.{slice_index_or}
-use Rattle.fs_cut.specs.SoundParts.{IsSound, branch_count}
+use Rattle.fs_model.specs.SoundMachines.{IsSound, branch_count}
 use Rattle.fs_model.specs.declared.parts.Rel.{Rel}
 use Rattle.fs_model.specs.declared.parts.Rel.TheVariants as rel
-use Rattle.fs_model.specs.Terms.{Literal}
+use Rattle.fs_model.specs.Expressions.{Literal}
 use Rattle.fs_model.specs.Machines.{Fsmd, transitions_of}
 use Rattle.fs_model.specs.Trees.{opposite, negated_literal, Branch, branches_of}
 use Rattle.fs_cut.specs.Paths.{Point, Path, IsPath, state_of, branch_at}

@@ -7,15 +7,16 @@ use Rattle.fs_model.proofs.Quantifiers.{list_all_front, list_all_back}
 use Rattle.fs_model.specs.declared.parts.Sort.{Sort}
 use Rattle.fs_model.specs.declared.parts.Sort.TheVariants as sort
 use Rattle.fs_model.specs.declared.parts.VarInfo.{VarInfo}
-use Rattle.fs_model.specs.Terms.{Term, Number, Variable, Read, Sum, Difference, Product, Quotient, Remainder, Negative, Literal, Assignment, Assign, ArrayWrite}
-use Rattle.fs_model.specs.Terms.{Emit}
+use Rattle.fs_model.specs.Expressions.{Expression, Number, Variable, Read, Sum, Difference, Product, Quotient, Remainder, Negative, Literal, Assignment, Assign}
+use Rattle.fs_model.specs.Expressions.{ArrayWrite}
+use Rattle.fs_model.specs.Expressions.{Emit}
 use Rattle.fs_model.specs.Machines.{Fsmd}
 use Rattle.fs_model.specs.Runs.{is_scalar, is_array, is_port}
 use Rattle.fs_model.specs.PartFolds.{scalars, arrays, numbers, uses_in, uses_in_literal}
-use Rattle.fs_ast.specs.SoundParts.{has_sort, scalar_at, array_at, port_at, input_at, is_text_number, scalars_in_assignment, arrays_in_assignment, port_in}
-use Rattle.fs_ast.specs.SoundParts.{numbers_in_assignment, changed_by}
+use Rattle.fs_model.specs.SoundMachines.{has_sort, scalar_at, array_at, port_at, input_at, is_text_number, scalars_in_assignment, arrays_in_assignment, port_in}
+use Rattle.fs_model.specs.SoundMachines.{numbers_in_assignment, changed_by}
 use Rattle.fs_ast.specs.Branches.{is_sound_literal, is_sound_assignment}
-use Rattle.cert_bisimulation.specs.PathExpressions.{Expression, ArrayExpression, Stored, ListExpression, Pushed, ExpressionVector, initial, expression_of_term}
+use Rattle.cert_bisimulation.specs.PathExpressions.{PathExpression, ArrayExpression, Stored, ListExpression, Pushed, ExpressionVector, initial, path_expression}
 use Rattle.cert_bisimulation.specs.PathExpressions.{expressions_after}
 use Rattle.cert_bisimulation.specs.PathExpressions.{acted_all}
 use Rattle.cert_bisimulation.specs.ExpressionSameness.{AreTwins, Same, SameArray, SameListExpression, SameLiterals}
@@ -59,17 +60,17 @@ module _ (a b : Fsmd) (same : a.variables ≡ b.variables) where
 
   -- ---- terms
 
-  abbrev FitScalars : Term ℕ → Type 0
+  abbrev FitScalars : Expression ℕ → Type 0
   FitScalars t = list_all (scalar_at a.variables) (uses_in scalars t) ≡ true
 
-  abbrev FitArrays : Term ℕ → Type 0
+  abbrev FitArrays : Expression ℕ → Type 0
   FitArrays t = list_all (array_at a.variables) (uses_in arrays t) ≡ true
 
   module _ (s : ExpressionVector) (own : AreOwn s) where
-    abbrev OwnTerm : Term ℕ → Type 0
-    OwnTerm t = Same a b (expression_of_term s t) (expression_of_term s t)
+    abbrev OwnTerm : Expression ℕ → Type 0
+    OwnTerm t = Same a b (path_expression s t) (path_expression s t)
 
-    own_operands : (c d : Term ℕ) → list_all (scalar_at a.variables) (uses_in scalars c ++ uses_in scalars d) ≡ true
+    own_operands : (c d : Expression ℕ) → list_all (scalar_at a.variables) (uses_in scalars c ++ uses_in scalars d) ≡ true
         → list_all (array_at a.variables) (uses_in arrays c ++ uses_in arrays d) ≡ true
         → (FitScalars c → FitArrays c → OwnTerm c) → (FitScalars d → FitArrays d → OwnTerm d) → OwnTerm c × OwnTerm d
     own_operands c d h g of_left of_right = (
@@ -79,32 +80,32 @@ module _ (a b : Fsmd) (same : a.variables ≡ b.variables) where
           (list_all_back (array_at a.variables) (uses_in arrays c) (uses_in arrays d) g),
     )
 
-    own_term : (t : Term ℕ) → FitScalars t → FitArrays t → OwnTerm t
+    own_term : (t : Expression ℕ) → FitScalars t → FitArrays t → OwnTerm t
     own_term (Number n) h g = refl
     own_term (Variable x) h g = own.scalar x (and_first (scalar_at a.variables x) true h)
     own_term (Read x i) h g =
         let used = list_all (array_at a.variables) (uses_in arrays i) in (
           s.array x,
-          expression_of_term s i,
+          path_expression s i,
           refl,
           own.array x (and_first (array_at a.variables x) used g),
           own_term i h (and_second (array_at a.variables x) used g),
         )
     own_term (Sum c d) h g = let r = own_operands c d h g (λ p q. own_term c p q) (λ p q. own_term d p q) in
-        (expression_of_term s c, expression_of_term s d, refl, r.0, r.1)
+        (path_expression s c, path_expression s d, refl, r.0, r.1)
     own_term (Difference c d) h g = let r = own_operands c d h g (λ p q. own_term c p q) (λ p q. own_term d p q) in
-        (expression_of_term s c, expression_of_term s d, refl, r.0, r.1)
+        (path_expression s c, path_expression s d, refl, r.0, r.1)
     own_term (Product c d) h g = let r = own_operands c d h g (λ p q. own_term c p q) (λ p q. own_term d p q) in
-        (expression_of_term s c, expression_of_term s d, refl, r.0, r.1)
+        (path_expression s c, path_expression s d, refl, r.0, r.1)
     own_term (Quotient c d) h g = let r = own_operands c d h g (λ p q. own_term c p q) (λ p q. own_term d p q) in
-        (expression_of_term s c, expression_of_term s d, refl, r.0, r.1)
+        (path_expression s c, path_expression s d, refl, r.0, r.1)
     own_term (Remainder c d) h g = let r = own_operands c d h g (λ p q. own_term c p q) (λ p q. own_term d p q) in
-        (expression_of_term s c, expression_of_term s d, refl, r.0, r.1)
-    own_term (Negative c) h g = (expression_of_term s c, refl, own_term c h g)
+        (path_expression s c, path_expression s d, refl, r.0, r.1)
+    own_term (Negative c) h g = (path_expression s c, refl, own_term c h g)
 
   -- ---- assignments
 
-  either_scalar : (c : Bool) (e f : Expression) → Same a b e e → Same a b f f → Same a b (cond c e f) (cond c e f)
+  either_scalar : (c : Bool) (e f : PathExpression) → Same a b e e → Same a b f f → Same a b (cond c e f) (cond c e f)
   either_scalar true e f h g = h
   either_scalar false e f h g = g
 
@@ -133,7 +134,7 @@ module _ (a b : Fsmd) (same : a.variables ≡ b.variables) where
         let used = list_all (scalar_at a.variables) (uses_in scalars e) in
         let value = own_term before own e (and_second (scalar_at a.variables x) used f.scalars_fit) f.arrays_fit in
         record {
-          scalar = λ y h. either_scalar (y == x) (expression_of_term before e) (s.scalar y) value (done.scalar y h);
+          scalar = λ y h. either_scalar (y == x) (path_expression before e) (s.scalar y) value (done.scalar y h);
           array = done.array;
           port = done.port;
         }
@@ -141,8 +142,8 @@ module _ (a b : Fsmd) (same : a.variables ≡ b.variables) where
         let used = list_all (array_at a.variables) (uses_in arrays i ++ uses_in arrays e) in
         let r = own_operands before own i e f.scalars_fit (and_second (array_at a.variables x) used f.arrays_fit) (own_term before own i)
         (own_term before own e) in
-        let index = expression_of_term before i in
-        let value = expression_of_term before e in
+        let index = path_expression before i in
+        let value = path_expression before e in
         record {
           scalar = done.scalar;
           array = λ y h. either_array (y == x) (Stored (s.array y) index value) (s.array y) (s.array y, index, value, refl, done.array y h, r.0, r.1)
@@ -150,7 +151,7 @@ module _ (a b : Fsmd) (same : a.variables ≡ b.variables) where
           port = done.port;
         }
     own_acted (Emit x e) f =
-        let value = expression_of_term before e in
+        let value = path_expression before e in
         let own_value = own_term before own e f.scalars_fit f.arrays_fit in
         record {
           scalar = done.scalar;
@@ -169,8 +170,8 @@ module _ (a b : Fsmd) (same : a.variables ≡ b.variables) where
   -- ---- literals
 
   own_literal : (l : Literal ℕ) → is_sound_literal a.variables l ≡ true
-      → Same a b (expression_of_term initial l.left) (expression_of_term initial l.left)
-      × Same a b (expression_of_term initial l.right) (expression_of_term initial l.right)
+      → Same a b (path_expression initial l.left) (path_expression initial l.left)
+      × Same a b (path_expression initial l.right) (path_expression initial l.right)
   own_literal l h =
       let p = list_all (scalar_at a.variables) (uses_in_literal scalars l) in
       let q = list_all (array_at a.variables) (uses_in_literal arrays l) in

@@ -1,7 +1,7 @@
 -- Two branches of a state part at a literal and its negation.
 use Rattle.std.proofs.Common.{◌≡◌, ℕ, zero, suc, ◌<◌, arith, List, [], ◌∷◌, ◌++◌, Some, refl, ap, subst, ◌∙◌}
 use Rattle.std.specs.Prelude.{slice_get}
-use Rattle.fs_model.specs.Terms.{Literal, Transition}
+use Rattle.fs_model.specs.Expressions.{Literal, Transition}
 use Rattle.fs_model.specs.Trees.{Tree, Empty, Leaf, Node, Branch, negated_literal, leaves, tree_of_transitions, branches_of}
 
 -- behind the same literals the earlier branch has a literal, and the later one its negation

@@ -5,8 +5,8 @@ use Rattle.std.specs.Ordering.{int_eq, is_le, is_lt}
 use Rattle.std.specs.Cmp.{signed_Decides}
 use Rattle.std.proofs.lemmas.Bool.{and_from}
 use Rattle.fs_model.proofs.Booleans.{and_first, and_second, by_test}
-use Rattle.nf_terms.specs.NormalTerms.{Atom, Monomial, Polynomial, One, Times, Zero, Plus, polynomial_of_number}
-use Rattle.nf_terms.specs.Order.{cmp_atom, cmp_monomial}
+use Rattle.nf_trees.specs.NormalTerms.{Atom, Monomial, Polynomial, One, Times, Zero, Plus, polynomial_of_number}
+use Rattle.nf_trees.specs.Order.{cmp_atom, cmp_monomial}
 use Rattle.nf_terms.specs.Normal.{atom_rises, monomial_rises}
 use Rattle.nf_terms.specs.RawSums.{raw_negation}
 use Rattle.nf_sums.specs.OrderedSums.{worth_of, IgnoresOrder}

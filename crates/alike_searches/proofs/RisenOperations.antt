@@ -3,9 +3,9 @@ use Rattle.std.proofs.Common.{◌≡◌, ◌+◌, ℤ, Bool, true, false, ◌&&�
 use Rattle.std.proofs.lemmas.Bool.{and_from}
 use Rattle.fs_model.proofs.Booleans.{and_first, and_second, by_test}
 use Rattle.fs_model.specs.Division.{quotient, remainder}
-use Rattle.nf_terms.specs.NormalTerms.{Atom, Polynomial, ArrayTerm, Writes, Read, Quotient, Remainder, Zero, Over, NoWrites, Write, polynomial_of_number}
-use Rattle.nf_terms.specs.Order.{same_polynomial}
-use Rattle.nf_terms.specs.Measures.{size_of, depth_of, size_of_array, depth_of_array}
+use Rattle.nf_trees.specs.NormalTerms.{Atom, Polynomial, ArrayTerm, Writes, Read, Quotient, Remainder, Zero, Over, NoWrites, Write, polynomial_of_number}
+use Rattle.nf_trees.specs.Order.{same_polynomial}
+use Rattle.nf_trees.specs.Measures.{size_of, depth_of, size_of_array, depth_of_array}
 use Rattle.nf_terms.specs.Normal.{is_constant, constant_sum, is_written, last_index}
 use Rattle.nf_terms.specs.RawSums.{raw_sum, raw_difference, raw_product}
 use Rattle.nf_terms.specs.Tidied.{last_writes, goes_after, with_write, rising_stretches, tidy_array}

@@ -1,10 +1,11 @@
 -- What a path leaves rises.
 use Rattle.std.proofs.Common.{◌≡◌, ℕ, Bool, true, false, cond, refl, sym, subst, List, [], ◌∷◌, Option, Some, None}
 use Rattle.std.specs.Prelude.{◌++◌}
-use Rattle.fs_model.specs.Terms.{Term, Number, Variable, Read, Sum, Difference, Product, Quotient, Remainder, Negative, Assignment, Assign, ArrayWrite, Emit}
+use Rattle.fs_model.specs.Expressions.{Expression, Number, Variable, Read, Sum, Difference, Product, Quotient, Remainder, Negative, Assignment, Assign}
+use Rattle.fs_model.specs.Expressions.{ArrayWrite, Emit}
 use Rattle.fs_model.specs.Machines.{Fsmd}
 use Rattle.fs_cut.specs.Paths.{Path, BranchStep, branch_at, steps_in}
-use Rattle.nf_terms.specs.NormalTerms.{Polynomial, ArrayTerm, polynomial_of_symbol, bare_array}
+use Rattle.nf_trees.specs.NormalTerms.{Polynomial, ArrayTerm, polynomial_of_symbol, bare_array}
 use Rattle.nf_terms.specs.Lists.{ListTerm}
 use Rattle.nf_terms.specs.Computed.{Computed, Done, after}
 use Rattle.nf_terms.specs.declared.symbols.Sort.TheVariants as sort
@@ -41,7 +42,7 @@ last_of o n f r e =
     (s.middle, t.middle, t.next)
 
 module _ (side : Side) (v : List (Pos × Nf)) (h : IsRisenVector v) where
-  pub value_rises : (e : Term ℕ) (r : Polynomial) → evaluate side v e ≡ Done r → is_risen r ≡ true
+  pub value_rises : (e : Expression ℕ) (r : Polynomial) → evaluate side v e ≡ Done r → is_risen r ≡ true
   value_rises (Number n) r e = number_rises n r e
   value_rises (Variable x) r e = subst (λ z. is_risen z ≡ true) (same_Done (number_at v (at side x)) r e) (h.numbers (at side x))
   value_rises (Read x i) r e =

@@ -1,7 +1,7 @@
 -- What a substitution gives rises; and what it gives for a symbol.
 use Rattle.std.proofs.Common.{◌≡◌, true, arith, refl, ap, sym, subst, ◌∙◌, List}
 use Rattle.std.proofs.lemmas.Int.{ints}
-use Rattle.nf_terms.specs.NormalTerms.{Polynomial, ArrayTerm, Writes, Zero, Plus, Over, NoWrites, Write}
+use Rattle.nf_trees.specs.NormalTerms.{Polynomial, ArrayTerm, Writes, Zero, Plus, Over, NoWrites, Write}
 use Rattle.nf_terms.specs.RawSums.{raw_difference}
 use Rattle.nf_terms.specs.Computed.{Done, after}
 use Rattle.fs_model.specs.declared.sides.Pos.{Pos}

@@ -2,9 +2,9 @@
 use Rattle.std.proofs.Common.{◌≡◌, ℕ, zero, suc, ◌<◌, ◌==◌, refl, ap, ap₂, sym, subst, ◌∙◌, true, cond, List, [], ◌∷◌, length, Some}
 use Rattle.std.specs.Prelude.{◌&&◌, ◌||◌, not, nat_lt, slice_get}
 use Rattle.std.specs.List.{list_all, slice_index_or}
-use Rattle.fs_ast.specs.SoundParts.{IsSound, branch_count, is_cutpoint}
+use Rattle.fs_model.specs.SoundMachines.{IsSound, branch_count, is_cutpoint}
 use Rattle.fs_model.specs.Machines.{Fsmd, transitions_of}
-use Rattle.fs_model.specs.Terms.{Transition}
+use Rattle.fs_model.specs.Expressions.{Transition}
 use Rattle.fs_model.specs.Trees.{Branch, branches_of}
 use Rattle.fs_ast.specs.Branches.{is_sound_literal, is_sound_assignment}
 use Rattle.fs_ast.proofs.Lifted.{branch_sound}

@@ -7,7 +7,7 @@ use Rattle.std.specs.Cmp.{signed_Decides}
 use Rattle.std.proofs.lemmas.Int.{ints}
 use Rattle.std.proofs.lemmas.Bool.{and_from}
 use Rattle.fs_model.proofs.Booleans.{and_first}
-use Rattle.nf_terms.specs.NormalTerms.{Monomial, Polynomial, Symbol, One, Times, Zero, Plus, polynomial_of_symbol}
+use Rattle.nf_trees.specs.NormalTerms.{Monomial, Polynomial, Symbol, One, Times, Zero, Plus, polynomial_of_symbol}
 use Rattle.nf_terms.specs.Symbols.{symbols_of_monomial, symbols_of}
 use Rattle.nf_terms.specs.Computed.{Done, after}
 use Rattle.nf_terms.specs.declared.symbols.Sort.{Sort as TermSort}

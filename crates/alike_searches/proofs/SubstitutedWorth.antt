@@ -5,7 +5,7 @@ use Rattle.std.specs.Ordering.{int_eq}
 use Rattle.std.specs.Cmp.{signed_Decides}
 use Rattle.fs_model.proofs.Booleans.{by_test}
 use Rattle.fs_model.proofs.Ring.{mul-add_z, mul_assoc_z}
-use Rattle.nf_terms.specs.NormalTerms.{Monomial, Polynomial, Symbol, One, Times, Zero, Plus, polynomial_of_symbol, polynomial_of_number}
+use Rattle.nf_trees.specs.NormalTerms.{Monomial, Polynomial, Symbol, One, Times, Zero, Plus, polynomial_of_symbol, polynomial_of_number}
 use Rattle.nf_terms.specs.RawSums.{raw_sum, raw_difference, raw_multiple, raw_product}
 use Rattle.nf_terms.specs.Computed.{Done, after}
 use Rattle.fs_model.specs.declared.sides.Pos.{Pos}

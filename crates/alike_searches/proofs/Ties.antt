@@ -4,8 +4,8 @@ use Rattle.std.specs.Prelude.{◌&&◌}
 use Rattle.std.proofs.lemmas.Bool.{and_from}
 use Rattle.fs_model.specs.declared.parts.Sort.{Sort}
 use Rattle.fs_model.specs.declared.parts.Sort.TheVariants as sort
-use Rattle.nf_terms.specs.NormalTerms.{Polynomial, Zero, polynomial_of_symbol}
-use Rattle.nf_terms.specs.Order.{same_polynomial}
+use Rattle.nf_trees.specs.NormalTerms.{Polynomial, Zero, polynomial_of_symbol}
+use Rattle.nf_trees.specs.Order.{same_polynomial}
 use Rattle.nf_terms.specs.Forms.{same_form}
 use Rattle.nf_terms.specs.Computed.{Computed, Done, after}
 use Rattle.fs_model.specs.declared.sides.Pos.{Pos}

@@ -8,4 +8,3 @@ pub mod Couples
 pub mod RisenFacts
 pub mod Even
 pub use Rattle.search_tables.specs.Obligations
-pub use Rattle.sym_facts.specs.Facts

@@ -1,7 +1,7 @@
 -- Terms whose sums rise. What stands inside an atom is left open.
 use Rattle.std.specs.Prelude.{◌≡◌, pos, Bool, true, ◌&&◌, not, List}
 use Rattle.std.specs.Ordering.{int_eq}
-use Rattle.nf_terms.specs.NormalTerms.{Monomial, Polynomial, Writes, ArrayTerm, One, Times, Zero, Plus, Over, NoWrites, Write}
+use Rattle.nf_trees.specs.NormalTerms.{Monomial, Polynomial, Writes, ArrayTerm, One, Times, Zero, Plus, Over, NoWrites, Write}
 use Rattle.nf_terms.specs.Normal.{atom_rises, monomial_rises}
 use Rattle.fs_model.specs.declared.sides.Pos.{Pos}
 use Rattle.nf_terms.specs.declared.form.Nf.{Nf}

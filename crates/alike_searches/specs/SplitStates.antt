@@ -5,7 +5,7 @@ use Rattle.fs_model.specs.declared.parts.Role.{Role}
 use Rattle.fs_model.specs.declared.parts.Role.TheVariants as role
 use Rattle.fs_model.specs.declared.parts.Sort.TheVariants as sort
 use Rattle.fs_model.specs.declared.parts.VarInfo.{VarInfo}
-use Rattle.fs_model.specs.Terms.{Number, Variable, Sum, Difference, Product, Test, Assignment, Assign, Transition}
+use Rattle.fs_model.specs.Expressions.{Number, Variable, Sum, Difference, Product, Test, Assignment, Assign, Transition}
 use Rattle.fs_model.specs.Machines.{State, Fsmd}
 use Rattle.fs_cut.specs.Paths.{Point, Start, At}
 
@@ -34,7 +34,7 @@ product_at_once = Assign 3 (Product (Sum (Variable 0) (Variable 1)) (Difference 
 
 -- a state that is named s and a digit
 abbrev pub split_state : ℕ → List (Transition ℕ ℕ) → State
-split_state digit lines = record { name = 115 ∷ digit ∷ []; lines = lines }
+split_state digit lines = record { name = 115 ∷ digit ∷ []; transitions = lines }
 
 -- goto a state, with assignments
 abbrev pub goto : ℕ → List (Assignment ℕ) → List (Transition ℕ ℕ)

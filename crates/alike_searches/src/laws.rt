@@ -1,7 +1,7 @@
 //! Laws of searches of alike machines, over the definitions alone. The functions do nothing.
 
 ghost use Rattle.std.specs.Prelude.{◌≡◌, ℕ, List, None};
-ghost use Rattle.fs_cut.specs.SoundParts.{IsSound};
+ghost use Rattle.fs_model.specs.SoundMachines.{IsSound};
 ghost use Rattle.fs_model.specs.Machines.{Fsmd};
 ghost use Rattle.fs_cut.specs.Paths.{Point};
 ghost use Rattle.fs_pair.specs.Interfaces.{interface_fault};

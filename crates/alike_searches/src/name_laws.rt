@@ -1,6 +1,6 @@
 //! Laws of names and of cuts, over the definitions alone. The functions do nothing.
 
-ghost use Rattle.fs_ast.specs.SoundParts.{IsSound};
+ghost use Rattle.fs_model.specs.SoundMachines.{IsSound};
 ghost use Rattle.fs_model.specs.Machines.{Fsmd};
 ghost use Rattle.cert_bisimulation.specs.Alike.{Alike};
 ghost use Rattle.alike_searches.specs.RenamedStates.{DifferInNames, own_pairs};

@@ -2,7 +2,7 @@
 
 ghost use Rattle.std.specs.Prelude.{◌≡◌, ◌≢◌, ◌⊎◌, true, List, Some};
 ghost use Rattle.std.specs.List.{AllByRecursion};
-ghost use Rattle.fs_cut.specs.SoundParts.{IsSound};
+ghost use Rattle.fs_model.specs.SoundMachines.{IsSound};
 ghost use Rattle.fs_model.specs.Machines.{Fsmd};
 ghost use Rattle.fs_cut.specs.Paths.{Point, Path, IsPath};
 ghost use Rattle.cert_bisimulation.specs.declared.mode.Mode.{Mode};

@@ -5,7 +5,7 @@ ghost use Rattle.fs_model.specs.declared.parts.Rel.{Rel};
 ghost use Rattle.fs_model.specs.Trees.{opposite};
 ghost use Rattle.fs_model.specs.Machines.{Fsmd};
 ghost use Rattle.fs_cut.specs.Paths.{Path};
-ghost use Rattle.nf_terms.specs.NormalTerms.{Polynomial, ArrayTerm, Zero, polynomial_of_symbol};
+ghost use Rattle.nf_trees.specs.NormalTerms.{Polynomial, ArrayTerm, Zero, polynomial_of_symbol};
 ghost use Rattle.nf_terms.specs.Computed.{Done};
 ghost use Rattle.fs_model.specs.declared.sides.Pos.{Pos};
 ghost use Rattle.nf_terms.specs.declared.form.Nf.{Nf};

@@ -1,7 +1,7 @@
 -- The nodes of a table lead either machine's run.
 use Rattle.std.proofs.Common.{◌≡◌, ℕ, suc, ◌+◌, ◌<◌, sym, refl, ◌∙◌, ap, subst, arith, Bool, true, false, List, Option, Some, length}
 use Rattle.std.specs.Prelude.{◌≢◌, slice_get}
-use Rattle.fs_cut.specs.SoundParts.{IsSound}
+use Rattle.fs_model.specs.SoundMachines.{IsSound}
 use Rattle.fs_model.specs.Machines.{Fsmd}
 use Rattle.fs_model.specs.Stores.{Store}
 use Rattle.fs_model.specs.Runs.{Inputs, Content, start, output, Run, SameBehaviour}

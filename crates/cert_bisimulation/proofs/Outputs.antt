@@ -6,7 +6,7 @@ use Rattle.std.specs.Str.{bytes_eq}
 use Rattle.std.proofs.lemmas.Slice.Eq.{bytes_eq-Decides}
 use Rattle.std.proofs.lemmas.Bool.{and_from, or_right, not-true}
 use Rattle.fs_model.proofs.Booleans.{and_first, and_second}
-use Rattle.fs_cut.specs.SoundParts.{names_differ}
+use Rattle.fs_model.specs.SoundMachines.{names_differ}
 use Rattle.fs_model.specs.declared.parts.VarInfo.{VarInfo}
 use Rattle.fs_model.specs.Stores.{Store}
 use Rattle.fs_model.specs.Runs.{Content, is_output, content, output_from}

@@ -4,12 +4,12 @@ use Rattle.std.proofs.Common.{None, map, inl, inr, zero-add}
 use Rattle.std.specs.Prelude.{◌⊎◌, ◌&&◌, slice_get, option_map}
 use Rattle.std.specs.Ordering.{int_eq}
 use Rattle.std.proofs.lemmas.Option.{slice_get-map}
-use Rattle.fs_cut.specs.SoundParts.{IsSound, branch_count}
+use Rattle.fs_model.specs.SoundMachines.{IsSound, branch_count}
 use Rattle.fs_model.specs.Division.{quotient, remainder}
 use Rattle.fs_model.specs.declared.parts.Sort.{Sort}
 use Rattle.fs_model.specs.declared.parts.Sort.TheVariants as sort
 use Rattle.fs_model.specs.declared.parts.VarInfo.{VarInfo}
-use Rattle.fs_model.specs.Terms.{Literal}
+use Rattle.fs_model.specs.Expressions.{Literal}
 use Rattle.fs_model.specs.Machines.{Fsmd}
 use Rattle.fs_model.specs.Stores.{Store}
 use Rattle.fs_model.specs.Meaning.{value, relates}
@@ -22,8 +22,8 @@ use Rattle.fs_cut.proofs.Legs.{one_path}
 use Rattle.cert_bisimulation.specs.declared.mode.Mode.TheVariants.{Both, End}
 use Rattle.cert_bisimulation.specs.Tables.{Node, Stands, Owes, LeadsOn}
 use Rattle.cert_bisimulation.proofs.Nodes.{same_behaviour}
-use Rattle.cert_bisimulation.specs.PathExpressions.{Expression, Constant, Initial, Element, Plus, Minus, Times, Over, Rest, Opposite, ArrayExpression}
-use Rattle.cert_bisimulation.specs.PathExpressions.{InitialArray, Stored, ListExpression, InitialList, Pushed, initial, expression_of_term}
+use Rattle.cert_bisimulation.specs.PathExpressions.{PathExpression, Constant, Initial, Element, Plus, Minus, Times, Over, Rest, Opposite, ArrayExpression}
+use Rattle.cert_bisimulation.specs.PathExpressions.{InitialArray, Stored, ListExpression, InitialList, Pushed, initial, path_expression}
 use Rattle.cert_bisimulation.specs.ExpressionSameness.{AreTwins, Same, SameArray, SameListExpression, SameLiterals}
 use Rattle.cert_bisimulation.specs.Alike.{ArePaired, literals_of, left_after, AlikePaths, AlikePoints, Alike}
 use Rattle.cert_bisimulation.specs.ExpressionValues.{value_in, array_in, list_in}
@@ -41,7 +41,7 @@ module _ (a b : Fsmd) where
     -- ---- the same expressions are worth the same
 
     mutual
-      same_value : (e f : Expression) → Same a b e f → value_in s e ≡ value_in u f
+      same_value : (e f : PathExpression) → Same a b e f → value_in s e ≡ value_in u f
       same_value (Constant n) z w = sym (ap (value_in u) w)
       same_value (Initial x) z (y, e, t) = h.scalars x y t ∙ sym (ap (value_in u) e)
       same_value (Element c i) z (d, j, e, g, k) = same_array c d g (value_in s i) ∙ ap (array_in u d) (same_value i j k) ∙ sym (ap (value_in u) e)
@@ -67,9 +67,9 @@ module _ (a b : Fsmd) where
     same_literals [] ms e = sym (ap (λ r. literals_hold r u) e)
     same_literals (l ∷ ls) ms (m, rest, e, r, g, k, w) =
         let x : value l.left s ≡ value m.left u = sym (expressed_value s initial s (at_start s) l.left)
-        ∙ same_value (expression_of_term initial l.left) (expression_of_term initial m.left) g ∙ expressed_value u initial u (at_start u) m.left in
+        ∙ same_value (path_expression initial l.left) (path_expression initial m.left) g ∙ expressed_value u initial u (at_start u) m.left in
         let y : value l.right s ≡ value m.right u = sym (expressed_value s initial s (at_start s) l.right)
-        ∙ same_value (expression_of_term initial l.right) (expression_of_term initial m.right) k ∙ expressed_value u initial u (at_start u) m.right in
+        ∙ same_value (path_expression initial l.right) (path_expression initial m.right) k ∙ expressed_value u initial u (at_start u) m.right in
         (λ j. relates (r j) (x j) (y j) && same_literals ls rest w j) ∙ sym (ap (λ z. literals_hold z u) e)
 
     takes_alike : (K : List (Point × Point)) (p q : Path) → AlikePaths a b K p q → takes a p s ≡ takes b q u

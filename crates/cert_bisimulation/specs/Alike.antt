@@ -1,8 +1,8 @@
--- Machines that differ only in the names of their states and in how straight lines are cut into states.
+-- Machines that differ only in the names of their states and in how basic blocks are cut into states.
 use Rattle.std.specs.Prelude.{◌≡◌, ◌≢◌, ◌⊎◌, ℕ, true, List, Some, slice_get}
-use Rattle.fs_cut.specs.SoundParts.{branch_count}
+use Rattle.fs_model.specs.SoundMachines.{branch_count}
 use Rattle.fs_model.specs.declared.parts.VarInfo.{VarInfo}
-use Rattle.fs_model.specs.Terms.{Literal}
+use Rattle.fs_model.specs.Expressions.{Literal}
 use Rattle.fs_model.specs.Machines.{Fsmd}
 use Rattle.fs_cut.specs.Paths.{Point, Start, Done, Path, IsPath, is_point, state_of, branch_at, steps_in}
 use Rattle.cert_bisimulation.specs.PathExpressions.{ExpressionVector, initial, left_by}

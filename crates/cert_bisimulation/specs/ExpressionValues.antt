@@ -3,12 +3,12 @@ use Rattle.std.specs.Prelude.{cond, ℤ, ◌+ℤ◌, ◌-ℤ◌, ◌*ℤ◌, neg
 use Rattle.std.specs.Ordering.{int_eq}
 use Rattle.fs_model.specs.Division.{quotient, remainder}
 use Rattle.fs_model.specs.Stores.{Store}
-use Rattle.cert_bisimulation.specs.PathExpressions.{Expression, Constant, Initial, Element, Plus, Minus, Times, Over, Rest}
+use Rattle.cert_bisimulation.specs.PathExpressions.{PathExpression, Constant, Initial, Element, Plus, Minus, Times, Over, Rest}
 use Rattle.cert_bisimulation.specs.PathExpressions.{Opposite, ArrayExpression, InitialArray, Stored, ListExpression, InitialList}
 use Rattle.cert_bisimulation.specs.PathExpressions.{Pushed}
 
 abbrev mutual
-  pub value_in : Store → Expression → ℤ
+  pub value_in : Store → PathExpression → ℤ
   value_in s (Constant n) = n
   value_in s (Initial x) = s.scalar x
   value_in s (Element a i) = array_in s a (value_in s i)

@@ -1,7 +1,7 @@
 //! Laws of machines that are alike, over the definitions alone. The functions do nothing.
 
 ghost use Rattle.std.specs.Prelude.{◌≡◌, List};
-ghost use Rattle.fs_cut.specs.SoundParts.{IsSound};
+ghost use Rattle.fs_model.specs.SoundMachines.{IsSound};
 ghost use Rattle.fs_model.specs.Machines.{Fsmd};
 ghost use Rattle.fs_model.specs.Runs.{SameBehaviour};
 ghost use Rattle.fs_model.specs.Stores.{Store};

@@ -10,4 +10,3 @@ pub mod KeptParts
 pub mod OrderedValues
 mod Files
 mod Digits
-pub use Rattle.cert_values.proofs.Views

@@ -6,4 +6,3 @@ pub mod Trim
 pub mod WrittenJson
 pub use Rattle.cert_values.specs.JsonTexts
 pub use Rattle.cert_values.specs.Shape
-pub use Rattle.cert_values.specs.View

@@ -6,7 +6,7 @@ use Rattle.std.specs.List.{list_all, flat_map, slice_index_or, AllByRecursion}
 use Rattle.std.proofs.lemmas.Bool.Decides.{nat_tests}
 use Rattle.std.proofs.lemmas.Bool.{and_from}
 use Rattle.fs_model.proofs.Booleans.{and_first, and_second, true_and_false}
-use Rattle.fs_cut.specs.SoundParts.{IsSound}
+use Rattle.fs_model.specs.SoundMachines.{IsSound}
 use Rattle.fs_model.specs.declared.parts.Sort.{Sort}
 use Rattle.fs_model.specs.declared.parts.Sort.TheVariants as sort
 use Rattle.fs_model.specs.Machines.{Fsmd}
@@ -32,7 +32,7 @@ use Rattle.fs_model.specs.declared.sides.Side.TheVariants as side
 use Rattle.fs_model.specs.declared.sides.Pos.{Pos}
 use Rattle.nf_terms.specs.declared.form.Nf.{Nf}
 use Rattle.sym_facts.proofs.Values.{goes_done}
-use Rattle.sym_facts.specs.Vectors.{number_at, array_form, list_at, vector_meaning}
+use Rattle.nf_vectors.specs.Vectors.{number_at, array_form, list_at, vector_meaning}
 use Rattle.sym_facts.specs.Literals.{all_true_in, is_refuted}
 use Rattle.sym_facts.proofs.Truth.{refuted_false}
 use Rattle.sym_facts.specs.ValuationStores.{at, store_on, choose_side, pair}

@@ -19,7 +19,7 @@ use Rattle.fs_model.specs.declared.sides.Pos.{Pos}
 use Rattle.nf_terms.specs.declared.form.Nf.{Nf}
 use Rattle.nf_terms.specs.declared.form.Nf.TheVariants.{Num, Arr, Seq}
 use Rattle.nf_terms.specs.Computed.{Computed, Done, Wide, Large, after}
-use Rattle.sym_facts.specs.Vectors.{number_at, array_form, list_at}
+use Rattle.nf_vectors.specs.Vectors.{number_at, array_form, list_at}
 use Rattle.sym_facts.specs.Literals.{is_refuted}
 use Rattle.sym_facts.specs.ValuationStores.{at}
 use Rattle.sym_facts.specs.Execution.{Post, arrive, end_of}

@@ -1,7 +1,7 @@
 //! The law of certificates, over the definitions alone. The function does nothing.
 
 ghost use Rattle.std.specs.Prelude.{◌≡◌, List, None};
-ghost use Rattle.fs_cut.specs.SoundParts.{IsSound};
+ghost use Rattle.fs_model.specs.SoundMachines.{IsSound};
 ghost use Rattle.fs_model.specs.Machines.{Fsmd};
 ghost use Rattle.fs_model.specs.Runs.{SameBehaviour};
 ghost use Rattle.sym_facts.specs.Interfaces.{interface_fault};

@@ -12,7 +12,7 @@ use Rattle.indexmap.specs.IndexMap.{insert_entry}
 use Rattle.fs_model.proofs.Lists.{map_grown}
 use Rattle.fs_model.specs.Limits.{most_states}
 use Rattle.fs_model.specs.Machines.{State, Fsmd}
-use Rattle.fs_ast.specs.SoundParts.{IsSound}
+use Rattle.fs_model.specs.SoundMachines.{IsSound}
 use Rattle.fs_pair.specs.declared.positions.Position.{Position}
 use Rattle.fs_pair.specs.Paired.{IsPairing}
 use Rattle.fs_pair.specs.Partners.{position_name}

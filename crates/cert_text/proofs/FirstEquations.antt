@@ -19,7 +19,7 @@ use Rattle.fs_pair.specs.declared.positions.Position.{Position}
 use Rattle.fs_pair.specs.Partners.{position_name}
 use Rattle.nf_terms.specs.declared.form.Nf.{Nf}
 use Rattle.cert_facts.specs.declared.faults.CertError.{CertError}
-use Rattle.cert_text.specs.CertificateNames.{names_on, place_named, place_within, name_place, place_by_key}
+use Rattle.cert_terms.specs.CertificateNames.{names_on, place_named, place_within, name_place, place_by_key}
 use Rattle.cert_facts.specs.FactReading.{TermContext, known_place, equation_put, equations_read}
 use Rattle.cert_facts.specs.PartAnswers.{then_part}
 

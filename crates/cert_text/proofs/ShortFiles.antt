@@ -37,7 +37,7 @@ use Rattle.cert_model.specs.View.{node_of}
 use Rattle.cert_facts.specs.declared.faults.CertError.{CertError}
 use Rattle.cert_facts.specs.declared.faults.Stop.{Stop}
 use Rattle.cert_facts.specs.declared.faults.Stop.TheVariants as stop
-use Rattle.cert_text.specs.CertificateNames.{place_named, find_in}
+use Rattle.cert_terms.specs.CertificateNames.{place_named, find_in}
 use Rattle.cert_facts.specs.FactReading.{equations_read, conditions_read, fact_read, unwritten_equation, node_fact}
 use Rattle.cert_text.specs.CertificateReading.{mode_named, node_read, node_added, nodes_read}
 use Rattle.cert_facts.specs.JsonParts.{texts_of, items_or_none, members_or_none, number_or_zero, equations_in, node_text_in, node_texts}
@@ -46,7 +46,7 @@ use Rattle.cert_facts.specs.PartAnswers.{then_part}
 use Rattle.cert_text.specs.NodePointNames.{points_read}
 use Rattle.cert_text.specs.Refusals.{context_of, file_read, ComesTo, TellsNodes, SpellsNodes, IsRefusedAsCertificate}
 use Rattle.cert_text.specs.FileErrors.{error_of_file, error_of}
-use Rattle.cert_text.specs.TextMeanings.{TextMeanings, AreRead}
+use Rattle.cert_terms.specs.TextMeanings.{TextMeanings, AreRead}
 use Rattle.cert_text.proofs.FirstEquations.{few_known, first_read}
 use Rattle.cert_text.proofs.Refused.{nodes_refused}
 

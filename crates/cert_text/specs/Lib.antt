@@ -4,7 +4,6 @@ pub mod FileErrors
 pub mod Refusals
 pub mod View
 pub mod Within
-pub use Rattle.cert_facts.specs.JsonParts
 pub use Rattle.cert_terms.specs.CertificateNames
 pub use Rattle.cert_terms.specs.TextMeanings
 pub use Rattle.cert_terms.specs.TextFunctions

@@ -8,7 +8,7 @@ use Rattle.nf_terms.specs.declared.tree.SeqBase.{SeqBase}
 use Rattle.nf_terms.specs.declared.tree.SeqBase.TheVariants as list_bases
 use Rattle.nf_terms.specs.declared.form.Nf.{Nf}
 use Rattle.nf_terms.specs.declared.form.Nf.TheVariants.{Num, Arr, Seq}
-use Rattle.nf_terms.specs.NormalTerms as terms
+use Rattle.nf_trees.specs.NormalTerms as terms
 use Rattle.nf_terms.specs.Forms.{IsNormalForm, size_of_form}
 use Rattle.nf_terms.specs.Normal.{is_light, narrow_inside}
 use Rattle.nf_rel.specs.Literals.{NormalLiteral, True, False, Is}

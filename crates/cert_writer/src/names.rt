@@ -1,7 +1,7 @@
 //! The names of the positions of two machines.
 
 ghost use Rattle.std.specs.Prelude.{◌≡◌};
-ghost use Rattle.fs_ast.specs.SoundParts.{IsSound};
+ghost use Rattle.fs_model.specs.SoundMachines.{IsSound};
 ghost use Rattle.fs_pair.specs.Partners.{variables_on as variables_of};
 
 use fs_ast::machine::Machine;

@@ -3,7 +3,7 @@
 ghost use Rattle.std.specs.Prelude.{◌≡◌, ◌≤◌, length, map, IfOk};
 ghost use Rattle.std.specs.List.{list_any, AllByRecursion};
 ghost use Rattle.fs_model.specs.Runs.{is_port};
-ghost use Rattle.fs_ast.specs.SoundParts.{IsSound};
+ghost use Rattle.fs_model.specs.SoundMachines.{IsSound};
 ghost use Rattle.serde_json.specs.View.{view};
 ghost use Rattle.fs_pair.specs.Positions.{positions};
 ghost use Rattle.cert_model.specs.Lawful.{IsLawful};

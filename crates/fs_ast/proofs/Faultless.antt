@@ -8,7 +8,7 @@ use Rattle.fs_model.proofs.Booleans.{and_first, and_second}
 use Rattle.fs_model.specs.declared.parts.Sort.{Sort}
 use Rattle.fs_model.specs.declared.parts.VarInfo.{VarInfo}
 use Rattle.fs_model.specs.Limits.{most_emits}
-use Rattle.fs_model.specs.Terms.{Guard, Assignment, Transition}
+use Rattle.fs_model.specs.Expressions.{Guard, Assignment, Transition}
 use Rattle.fs_model.specs.Renamed.{guard_over}
 use Rattle.fs_model.specs.Source.{SourceTransition}
 use Rattle.fs_model.specs.Runs.{is_scalar, is_array, is_port}
@@ -16,10 +16,11 @@ use Rattle.fs_rules.specs.declared.check.CheckRule.{CheckRule}
 use Rattle.fs_rules.specs.declared.check.CheckRule.TheVariants.{UnknownName, WrongSort, AssignInput, AssignedTwice, UnknownState, TooManyEmits}
 use Rattle.fs_rules.specs.declared.check.CheckFault.{CheckFault}
 use Rattle.fs_rules.specs.MachineOfParts.{place_or_end, transition_spelled}
-use Rattle.fs_rules.specs.SoundParts.{IsSoundTransition, has_sort, other_sort_at, scalar_at, array_at, port_at, input_at, changed_by, assigned_in, all_differ}
-use Rattle.fs_rules.specs.SoundParts.{scalars_in_condition, arrays_in_condition, scalars_in_assignments, arrays_in_assignments, ports_in_assignments}
-use Rattle.fs_rules.specs.SoundParts.{emit_count}
-use Rattle.fs_rules.specs.SoundParts.{is_open, ends_open}
+use Rattle.fs_model.specs.SoundMachines.{IsSoundTransition, has_sort, other_sort_at, scalar_at, array_at, port_at, input_at, changed_by, assigned_in}
+use Rattle.fs_model.specs.SoundMachines.{all_differ}
+use Rattle.fs_model.specs.SoundMachines.{scalars_in_condition, arrays_in_condition, scalars_in_assignments, arrays_in_assignments, ports_in_assignments}
+use Rattle.fs_model.specs.SoundMachines.{emit_count}
+use Rattle.fs_model.specs.SoundMachines.{is_open, ends_open}
 use Rattle.fs_rules.specs.Rules.{broken_where, is_known, uses_unknown, uses_wrong_sort, changes_input, transition_faults, lacks_else, after_else}
 
 -- ---- nothing in a list

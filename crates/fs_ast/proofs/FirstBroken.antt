@@ -12,7 +12,7 @@ use Rattle.fs_model.specs.Machines.{State, Fsmd, transitions_of}
 use Rattle.fs_rules.specs.declared.check.CheckRule.TheVariants.{EndlessLine}
 use Rattle.fs_rules.specs.declared.check.CheckFault.{CheckFault}
 use Rattle.fs_rules.specs.MachineOfParts.{names_of, variables_of, state_names, place_or_end, machine_of}
-use Rattle.fs_rules.specs.SoundParts.{first_transition_target, is_cutpoint}
+use Rattle.fs_model.specs.SoundMachines.{first_transition_target, is_cutpoint}
 use Rattle.fs_rules.specs.Rules.{rule_rank, is_sooner, plain_faults, branch_faults, after_steps, IsEndless, IsFirstBroken}
 use Rattle.fs_rules.specs.FirstFault.{earliest}
 use Rattle.fs_branches.specs.NumberedParts.{spelled_state_with_line, states_with_lines}
@@ -136,7 +136,7 @@ lines_to lines (p ∷ qs) (suc i) q n e at = let r = lines_to lines qs i q n e a
 steps_alike : (m n : Fsmd) → m.states ≡ n.states → (k q : ℕ) → after_steps m k q ≡ after_steps n k q
 steps_alike m n e zero q = refl
 steps_alike m n e (suc k) q = steps_alike m n e k (first_transition_target (transitions_of m q))
-    ∙ ap (λ st. after_steps n k (first_transition_target (slice_index_or st q no_state).lines)) e
+    ∙ ap (λ st. after_steps n k (first_transition_target (slice_index_or st q no_state).transitions)) e
 
 endless_alike : (m n : Fsmd) → m.states ≡ n.states → m.reset ≡ n.reset → (q : ℕ) → IsEndless m q → IsEndless n q
 endless_alike m n e f q r = record {

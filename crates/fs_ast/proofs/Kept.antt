@@ -7,7 +7,7 @@ use Rattle.std.specs.Str.{bytes_eq}
 use Rattle.std.proofs.lemmas.Slice.Eq.{bytes_eq-Decides}
 use Rattle.std.proofs.lemmas.Bool.Decides.{nat_tests}
 use Rattle.fs_model.specs.declared.parts.VarInfo.{VarInfo}
-use Rattle.fs_model.specs.Terms.{Transition}
+use Rattle.fs_model.specs.Expressions.{Transition}
 use Rattle.fs_model.specs.Source.{SourceTransition, SourceState, Source}
 use Rattle.fs_model.specs.Machines.{State, Fsmd, transitions_of}
 use Rattle.fs_model.specs.Trees.{tree_of_transitions, branches_of, count_leaves}
@@ -25,12 +25,13 @@ use Rattle.fs_model.specs.Words.{is_name}
 use Rattle.fs_model.specs.Limits.{most_variables, most_states, most_emits}
 use Rattle.fs_model.specs.declared.parts.Sort.{Sort}
 use Rattle.fs_model.specs.Runs.{is_scalar, is_array, is_port}
-use Rattle.fs_rules.specs.SoundParts.{has_sort, other_sort_at, input_at, names_differ, all_differ, scalars_in_condition, arrays_in_condition}
-use Rattle.fs_rules.specs.SoundParts.{scalars_in_assignments}
-use Rattle.fs_rules.specs.SoundParts.{arrays_in_assignments, ports_in_assignments, emit_count, numbers_in_condition, numbers_in_assignments, numbers_in_states}
-use Rattle.fs_rules.specs.SoundParts.{is_text_number, changed_by, assigned_in, IsSoundTransition, IsSound, is_open, ends_open, branch_count}
-use Rattle.fs_rules.specs.SoundParts.{first_transition_target}
-use Rattle.fs_rules.specs.SoundParts.{is_cutpoint, reaches_cutpoint}
+use Rattle.fs_model.specs.SoundMachines.{has_sort, other_sort_at, input_at, names_differ, all_differ, scalars_in_condition, arrays_in_condition}
+use Rattle.fs_model.specs.SoundMachines.{scalars_in_assignments}
+use Rattle.fs_model.specs.SoundMachines.{arrays_in_assignments, ports_in_assignments, emit_count, numbers_in_condition, numbers_in_assignments}
+use Rattle.fs_model.specs.SoundMachines.{numbers_in_states}
+use Rattle.fs_model.specs.SoundMachines.{is_text_number, changed_by, assigned_in, IsSoundTransition, IsSound, is_open, ends_open, branch_count}
+use Rattle.fs_model.specs.SoundMachines.{first_transition_target}
+use Rattle.fs_model.specs.SoundMachines.{is_cutpoint, reaches_cutpoint}
 use Rattle.fs_rules.specs.Rules.{at_lines, broken_where, declared_names, declared_states, repeated_lines, line_past_limit, is_known, uses_unknown}
 use Rattle.fs_rules.specs.Rules.{uses_wrong_sort}
 use Rattle.fs_rules.specs.Rules.{changes_input, transition_faults, transitions_faults, lacks_else, after_else, state_faults, plain_faults, branches_too_often}
@@ -202,16 +203,16 @@ open_end ns ss (l ∷ k ∷ ls) e f =
 -- ---- states by their places
 
 abbrev pub no_state : State
-no_state = record { name = []; lines = [] }
+no_state = record { name = []; transitions = [] }
 
 pub lines_some : (ns ss : List (List ℕ)) (sts : List SourceState) (q : ℕ) (s : SourceState) → slice_get sts q ≡ Some s
-    → (slice_index_or (map (state_spelled ns ss) sts) q no_state).lines ≡ map (transition_spelled ns ss) s.lines
+    → (slice_index_or (map (state_spelled ns ss) sts) q no_state).transitions ≡ map (transition_spelled ns ss) s.transitions
 lines_some ns ss [] q s e = absurd (cc)
-lines_some ns ss (t ∷ sts) zero s e = let same : t ≡ s = cc in ap (λ x. map (transition_spelled ns ss) x.lines) same
+lines_some ns ss (t ∷ sts) zero s e = let same : t ≡ s = cc in ap (λ x. map (transition_spelled ns ss) x.transitions) same
 lines_some ns ss (t ∷ sts) (suc q) s e = lines_some ns ss sts q s e
 
 pub lines_none : (ns ss : List (List ℕ)) (sts : List SourceState) (q : ℕ) → slice_get sts q ≡ None
-    → (slice_index_or (map (state_spelled ns ss) sts) q no_state).lines ≡ []
+    → (slice_index_or (map (state_spelled ns ss) sts) q no_state).transitions ≡ []
 lines_none ns ss [] q e = refl
 lines_none ns ss (t ∷ sts) zero e = absurd (cc)
 lines_none ns ss (t ∷ sts) (suc q) e = lines_none ns ss sts q e
@@ -279,32 +280,35 @@ pub state_kept : (p : Source) → AreKept p → (q : ℕ) (s : SourceState) → 
 state_kept p k q s at = flat_nil (state_faults (variables_of p.declarations) (state_names p.states)) p.states k.states q s at
 
 pub state_ends : (p : Source) → AreKept p → (q : ℕ) (s : SourceState) → slice_get p.states q ≡ Some s
-    → (lacks_else s.lines ≡ false) × (after_else false s.lines ≡ [])
+    → (lacks_else s.transitions ≡ false) × (after_else false s.transitions ≡ [])
 state_ends p k q s at =
     let vs = variables_of p.declarations in
     let ss = state_names p.states in
     let e = state_kept p k q s at in
-    let n = broken_where (lacks_else s.lines) NoElse s.line in
-    let a = at_lines AfterElse (after_else false s.lines) in
-    let l = transitions_faults vs ss s.lines in
-    (kept (lacks_else s.lines) NoElse s.line (nil_left n (a ++ l) e), lines_nil AfterElse (after_else false s.lines) (nil_left a l (nil_right n (a ++ l) e)))
+    let n = broken_where (lacks_else s.transitions) NoElse s.line in
+    let a = at_lines AfterElse (after_else false s.transitions) in
+    let l = transitions_faults vs ss s.transitions in (
+      kept (lacks_else s.transitions) NoElse s.line (nil_left n (a ++ l) e),
+      lines_nil AfterElse (after_else false s.transitions)
+          (nil_left a l (nil_right n (a ++ l) e)),
+    )
 
 pub lines_kept : (p : Source) → AreKept p → (q : ℕ) (s : SourceState) → slice_get p.states q ≡ Some s → (j : ℕ) (l : SourceTransition)
-    → slice_get s.lines j ≡ Some l
+    → slice_get s.transitions j ≡ Some l
     → transition_faults (variables_of p.declarations) (length p.states) l.line
     (transition_spelled (names_of (variables_of p.declarations)) (state_names p.states) l) ≡ []
 lines_kept p k q s at j l there =
     let vs = variables_of p.declarations in
     let ss = state_names p.states in
     let e = state_kept p k q s at in
-    let n = broken_where (lacks_else s.lines) NoElse s.line in
-    let a = at_lines AfterElse (after_else false s.lines) in
-    let f = nil_right a (transitions_faults vs ss s.lines) (nil_right n (a ++ transitions_faults vs ss s.lines) e) in
-    let one = flat_nil (λ x. transition_faults vs (length ss) x.line (transition_spelled (names_of vs) ss x)) s.lines f j l there in
+    let n = broken_where (lacks_else s.transitions) NoElse s.line in
+    let a = at_lines AfterElse (after_else false s.transitions) in
+    let f = nil_right a (transitions_faults vs ss s.transitions) (nil_right n (a ++ transitions_faults vs ss s.transitions) e) in
+    let one = flat_nil (λ x. transition_faults vs (length ss) x.line (transition_spelled (names_of vs) ss x)) s.transitions f j l there in
     subst (λ c. transition_faults vs c l.line (transition_spelled (names_of vs) ss l) ≡ []) (length_map (λ (x : SourceState). x.name) p.states) one
 
 pub state_lines : (p : Source) → AreKept p → (q : ℕ) (s : SourceState) → slice_get p.states q ≡ Some s → (j : ℕ) (l : SourceTransition)
-    → slice_get s.lines j ≡ Some l
+    → slice_get s.transitions j ≡ Some l
     → list_all is_text_number (numbers_in_transition (transition_spelled (names_of (variables_of p.declarations)) (state_names p.states) l)) ≡ true
     → IsSoundTransition (variables_of p.declarations) (length p.states) (transition_spelled (names_of (variables_of p.declarations)) (state_names p.states) l)
 state_lines p k q s at j l there right =
@@ -341,8 +345,8 @@ sound p k forked ends right =
           (λ none. let empty : transitions_of (machine_of p) q ≡ [] = lines_none ns ss p.states q none in
           let gone : slice_get (transitions_of (machine_of p) q) j ≡ None = ap (λ ls. slice_get ls j) empty in absurd (cc))
           (λ some.
-          let is : transitions_of (machine_of p) q ≡ map (transition_spelled ns ss) some.0.lines = lines_some ns ss p.states q some.0 some.1 in
-          let m = get_mapped (transition_spelled ns ss) some.0.lines j l (ap (λ ls. slice_get ls j) (sym is) ∙ at) in
+          let is : transitions_of (machine_of p) q ≡ map (transition_spelled ns ss) some.0.transitions = lines_some ns ss p.states q some.0 some.1 in
+          let m = get_mapped (transition_spelled ns ss) some.0.transitions j l (ap (λ ls. slice_get ls j) (sym is) ∙ at) in
           let numbers = transition_numbers is_text_number (transitions_of (machine_of p) q) j l
           (state_numbers is_text_number (machine_of p).states q right.numbers) at in
           let one = state_lines p k q some.0 some.1 j m.0 m.1.0 (subst (λ x. list_all is_text_number (numbers_in_transition x) ≡ true) m.1.1 numbers) in
@@ -351,12 +355,12 @@ sound p k forked ends right =
       open_last = λ q h.
           let s = element_at p.states q (omega arith) in
           let e = state_ends p k q s.0 s.1 in
-          ap ends_open (lines_some ns ss p.states q s.0 s.1) ∙ open_end ns ss s.0.lines e.0 e.1;
+          ap ends_open (lines_some ns ss p.states q s.0 s.1) ∙ open_end ns ss s.0.transitions e.0 e.1;
       few_branches = λ q.
           ⊎_elim
           (λ none. let zero_branches : branch_count (machine_of p) q ≡ 0 = ap (λ ls. length (branches_of ls)) (lines_none ns ss p.states q none) in omega arith)
           (λ some.
-          let tree = tree_of_transitions (map (transition_spelled ns ss) some.0.lines) in
+          let tree = tree_of_transitions (map (transition_spelled ns ss) some.0.transitions) in
           let is : branch_count (machine_of p) q ≡ count_leaves tree = ap (λ ls. length (branches_of ls)) (lines_some ns ss p.states q some.0 some.1)
           ∙ length_leaves tree [] in
           let ltb-false : count_leaves tree ≤ 64 = at_most (count_leaves tree)
@@ -399,8 +403,8 @@ lead_on p k q h =
     let ss = state_names p.states in
     let s = element_at p.states q h in
     let e = state_ends p k q s.0 s.1 in
-    let l = element_at s.0.lines 0 (has_first s.0.lines e.0) in
+    let l = element_at s.0.transitions 0 (has_first s.0.transitions e.0) in
     let low = (keeps_each vs (length p.states) l.0.line (transition_spelled ns ss l.0) (lines_kept p k q s.0 s.1 0 l.0 l.1)).target in
     subst (λ ls. first_transition_target ls < length p.states) (sym (lines_some ns ss p.states q s.0 s.1))
-    (first_low (length p.states) (map (transition_spelled ns ss) s.0.lines) (transition_spelled ns ss l.0)
-    (slice_get-of_map (transition_spelled ns ss) s.0.lines 0 l.0 l.1) low)
+    (first_low (length p.states) (map (transition_spelled ns ss) s.0.transitions) (transition_spelled ns ss l.0)
+    (slice_get-of_map (transition_spelled ns ss) s.0.transitions 0 l.0 l.1) low)

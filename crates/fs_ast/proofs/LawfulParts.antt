@@ -6,19 +6,19 @@ use Rattle.std.proofs.lemmas.Bool.{lt-ltb, le-ltb}
 use Rattle.fs_model.proofs.Lists.{length_map, map_map}
 use Rattle.fs_model.specs.declared.parts.VarInfo.{VarInfo}
 use Rattle.fs_model.specs.Limits.{most_variables, most_states, most_branches}
-use Rattle.fs_model.specs.Terms.{Transition}
+use Rattle.fs_model.specs.Expressions.{Transition}
 use Rattle.fs_model.specs.Source.{SourceState, Source}
 use Rattle.fs_model.specs.Machines.{Fsmd, State, transitions_of}
 use Rattle.fs_model.specs.Trees.{tree_of_transitions, branches_of, count_leaves}
 use Rattle.fs_rules.specs.declared.check.CheckRule.TheVariants.{TwiceNamed, NoElse, AfterElse, TooManyBranches, UnknownState, TooMany}
 use Rattle.fs_rules.specs.MachineOfParts.{place_or_end, variables_of, names_of, state_names, transition_spelled, state_spelled, machine_of}
-use Rattle.fs_rules.specs.SoundParts.{IsSound, names_differ, ends_open, branch_count}
+use Rattle.fs_model.specs.SoundMachines.{IsSound, names_differ, ends_open, branch_count}
 use Rattle.fs_rules.specs.Rules.{at_lines, broken_where, declared_names, declared_states, repeated_lines, line_past_limit, transition_faults}
 use Rattle.fs_rules.specs.Rules.{transitions_faults, lacks_else, after_else}
 use Rattle.fs_rules.specs.Rules.{state_faults, plain_faults, branches_too_often, IsEndless, BreaksNoRule}
 use Rattle.fs_rules.proofs.Naming.{names_declared, names_of_declared}
 use Rattle.fs_rules.proofs.Unbroken.{none_past}
-use Rattle.fs_ast.proofs.Leaves.{length_leaves}
+use Rattle.fs_branches.proofs.Leaves.{length_leaves}
 use Rattle.fs_ast.proofs.Kept.{lines_some, not_endless}
 use Rattle.fs_ast.proofs.Repeats.{never_again}
 use Rattle.fs_ast.proofs.Faultless.{none_broken, nil_both, none_flat, IsFaultless, of_sound, none_at_line, has_else, else_last}
@@ -87,20 +87,20 @@ module _ (p : Source) (keeps : KeepsRules (machine_of p)) where
 
   -- ---- one state
   module _ (q : ℕ) (st : SourceState) (at : slice_get p.states q ≡ Some st) where
-    spelled_lines : transitions_of M q ≡ map (transition_spelled (names_of V) SS) st.lines
+    spelled_lines : transitions_of M q ≡ map (transition_spelled (names_of V) SS) st.transitions
     spelled_lines = lines_some (names_of V) SS p.states q st at
 
-    opens : ends_open (map (transition_spelled (names_of V) SS) st.lines) ≡ true
+    opens : ends_open (map (transition_spelled (names_of V) SS) st.transitions) ≡ true
     opens =
         let h = slice_get_within p.states q st at in
         ap ends_open (sym spelled_lines) ∙ keeps.open_last q (omega (arith, h, count))
 
-    lines_free : transitions_faults V SS st.lines ≡ []
+    lines_free : transitions_faults V SS st.transitions ≡ []
     lines_free =
-        none_flat (λ l. transition_faults V (length SS) l.line (transition_spelled (names_of V) SS l)) st.lines
+        none_flat (λ l. transition_faults V (length SS) l.line (transition_spelled (names_of V) SS l)) st.transitions
         (λ j l e.
         let there : slice_get (transitions_of M q) j ≡ Some (transition_spelled (names_of V) SS l) =
-        ap (λ ls. slice_get ls j) spelled_lines ∙ slice_get-map (transition_spelled (names_of V) SS) st.lines j
+        ap (λ ls. slice_get ls j) spelled_lines ∙ slice_get-map (transition_spelled (names_of V) SS) st.transitions j
         ∙ ap (option_map (transition_spelled (names_of V) SS)) e in
         let low = keeps.leads_in q j (transition_spelled (names_of V) SS l) there in
         let same = length_map (λ (s : SourceState). s.name) p.states in
@@ -109,14 +109,14 @@ module _ (p : Source) (keeps : KeepsRules (machine_of p)) where
 
     state_free : state_faults V SS st ≡ []
     state_free =
-        nil_both (broken_where (lacks_else st.lines) NoElse st.line) _
-        (none_broken (lacks_else st.lines) NoElse st.line (has_else (names_of V) SS st.lines opens))
-        (nil_both (at_lines AfterElse (after_else false st.lines)) (transitions_faults V SS st.lines)
-        (ap (at_lines AfterElse) (else_last (names_of V) SS st.lines opens)) lines_free)
+        nil_both (broken_where (lacks_else st.transitions) NoElse st.line) _
+        (none_broken (lacks_else st.transitions) NoElse st.line (has_else (names_of V) SS st.transitions opens))
+        (nil_both (at_lines AfterElse (after_else false st.transitions)) (transitions_faults V SS st.transitions)
+        (ap (at_lines AfterElse) (else_last (names_of V) SS st.transitions opens)) lines_free)
 
     branches_free : broken_where (branches_too_often (names_of V) SS st) TooManyBranches st.line ≡ []
     branches_free =
-        let tree = tree_of_transitions (map (transition_spelled (names_of V) SS) st.lines) in
+        let tree = tree_of_transitions (map (transition_spelled (names_of V) SS) st.transitions) in
         let is : branch_count M q ≡ count_leaves tree = ap (λ ls. length (branches_of ls)) spelled_lines ∙ length_leaves tree [] in
         let few = keeps.few_branches q in
         none_broken (nat_lt most_branches (count_leaves tree)) TooManyBranches st.line (le-ltb most_branches (count_leaves tree) (omega (arith, is, few)))

@@ -9,14 +9,15 @@ use Rattle.fs_model.proofs.Booleans.{and_first, and_second}
 use Rattle.fs_model.proofs.Quantifiers.{list_all_front, list_all_back, list_all_at}
 use Rattle.fs_model.specs.declared.parts.VarInfo.{VarInfo}
 use Rattle.fs_model.specs.Limits.{most_emits}
-use Rattle.fs_model.specs.Terms.{Literal, Guard, Test, Not, And, Or, Assignment, Transition}
+use Rattle.fs_model.specs.Expressions.{Literal, Guard, Test, Not, And, Or, Assignment, Transition}
 use Rattle.fs_model.specs.Machines.{Fsmd, transitions_of}
 use Rattle.fs_model.specs.Trees.{Branch, branches_of}
 use Rattle.fs_model.specs.PartFolds.{scalars, arrays, numbers, uses_in_literal, uses_in_condition, uses_in_assignments, guard_passes, condition_passes}
 use Rattle.fs_model.specs.PartFolds.{transition_passes, branch_passes}
 use Rattle.fs_model.proofs.Passing.{condition_uses, assignments_uses, branches_pass}
-use Rattle.fs_rules.specs.SoundParts.{scalar_at, array_at, port_at, input_at, is_text_number, scalars_in_assignment, arrays_in_assignment, port_in}
-use Rattle.fs_rules.specs.SoundParts.{ports_in_assignments, numbers_in_assignment, changed_by, assigned_in, all_differ, emit_count, IsSoundTransition, IsSound}
+use Rattle.fs_model.specs.SoundMachines.{scalar_at, array_at, port_at, input_at, is_text_number, scalars_in_assignment, arrays_in_assignment, port_in}
+use Rattle.fs_model.specs.SoundMachines.{ports_in_assignments, numbers_in_assignment, changed_by, assigned_in, all_differ, emit_count, IsSoundTransition}
+use Rattle.fs_model.specs.SoundMachines.{IsSound}
 use Rattle.fs_ast.specs.Branches.{is_sound_literal, is_sound_assignment, IsSoundBranch}
 
 -- ---- several tests together

@@ -5,9 +5,9 @@ use Rattle.std.specs.List.{list_all, slice_index_or}
 use Rattle.std.proofs.lemmas.List.Folds.{list_all-append}
 use Rattle.std.proofs.lemmas.Bool.{and_from}
 use Rattle.fs_model.proofs.Booleans.{and_first, and_second}
-use Rattle.fs_model.specs.Terms.{Assignment, Transition}
+use Rattle.fs_model.specs.Expressions.{Assignment, Transition}
 use Rattle.fs_model.specs.Machines.{State}
-use Rattle.fs_rules.specs.SoundParts.{numbers_in_condition, numbers_in_assignment, numbers_in_assignments, numbers_in_transitions, numbers_in_states}
+use Rattle.fs_model.specs.SoundMachines.{numbers_in_condition, numbers_in_assignment, numbers_in_assignments, numbers_in_transitions, numbers_in_states}
 use Rattle.fs_rules.proofs.Turns.{taken_map}
 
 pub assignments_push : (bs : List (Assignment ℕ)) (a : Assignment ℕ) → numbers_in_assignments (bs ++ a ∷ []) ≡ numbers_in_assignments bs
@@ -28,10 +28,10 @@ lines_push (k ∷ ls) l =
     (sym (append_assoc (numbers_in_assignments k.assignments) (numbers_in_transitions ls) (numbers_in_transition l)))
     ∙ sym (append_assoc (numbers_in_condition k.guard) (numbers_in_assignments k.assignments ++ numbers_in_transitions ls) (numbers_in_transition l))
 
-pub states_push : (ss : List State) (s : State) → numbers_in_states (ss ++ s ∷ []) ≡ numbers_in_states ss ++ numbers_in_transitions s.lines
-states_push [] s = append-nil (numbers_in_transitions s.lines)
-states_push (t ∷ ss) s = ap (λ r. numbers_in_transitions t.lines ++ r) (states_push ss s)
-    ∙ sym (append_assoc (numbers_in_transitions t.lines) (numbers_in_states ss) (numbers_in_transitions s.lines))
+pub states_push : (ss : List State) (s : State) → numbers_in_states (ss ++ s ∷ []) ≡ numbers_in_states ss ++ numbers_in_transitions s.transitions
+states_push [] s = append-nil (numbers_in_transitions s.transitions)
+states_push (t ∷ ss) s = ap (λ r. numbers_in_transitions t.transitions ++ r) (states_push ss s)
+    ∙ sym (append_assoc (numbers_in_transitions t.transitions) (numbers_in_states ss) (numbers_in_transitions s.transitions))
 
 -- numbers put at the end of those of what was done
 pub put_numbers : {A B : Type 0} (all : List B → List ℤ) (one : B → List ℤ) → ((bs : List B) (b : B) → all (bs ++ b ∷ []) ≡ all bs ++ one b)
@@ -67,10 +67,10 @@ all_back : (T : ℤ → Bool) (a b : List ℤ) → list_all T (a ++ b) ≡ true 
 all_back T a b h = and_second (list_all T a) (list_all T b) (sym (list_all-append T a b) ∙ h)
 
 pub state_numbers : (T : ℤ → Bool) (ss : List State) (q : ℕ) → list_all T (numbers_in_states ss) ≡ true
-    → list_all T (numbers_in_transitions (slice_index_or ss q (record { name = []; lines = [] })).lines) ≡ true
+    → list_all T (numbers_in_transitions (slice_index_or ss q (record { name = []; transitions = [] })).transitions) ≡ true
 state_numbers T [] q h = refl
-state_numbers T (s ∷ ss) zero h = all_front T (numbers_in_transitions s.lines) (numbers_in_states ss) h
-state_numbers T (s ∷ ss) (suc q) h = state_numbers T ss q (all_back T (numbers_in_transitions s.lines) (numbers_in_states ss) h)
+state_numbers T (s ∷ ss) zero h = all_front T (numbers_in_transitions s.transitions) (numbers_in_states ss) h
+state_numbers T (s ∷ ss) (suc q) h = state_numbers T ss q (all_back T (numbers_in_transitions s.transitions) (numbers_in_states ss) h)
 
 pub transition_numbers : (T : ℤ → Bool) (ls : List (Transition ℕ ℕ)) (k : ℕ) (l : Transition ℕ ℕ) → list_all T (numbers_in_transitions ls) ≡ true
     → slice_get ls k ≡ Some l → list_all T (numbers_in_transition l) ≡ true

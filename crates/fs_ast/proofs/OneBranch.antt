@@ -4,8 +4,8 @@ use Rattle.std.specs.Prelude.{not}
 use Rattle.std.specs.Option.{is_none}
 use Rattle.std.proofs.lemmas.Bool.{not-true}
 use Rattle.fs_model.proofs.Booleans.{and_first, and_second}
-use Rattle.fs_rules.specs.SoundParts.{ends_open}
-use Rattle.fs_model.specs.Terms.{Guard, Test, Not, And, Or, Transition}
+use Rattle.fs_model.specs.SoundMachines.{ends_open}
+use Rattle.fs_model.specs.Expressions.{Guard, Test, Not, And, Or, Transition}
 use Rattle.fs_model.specs.Trees.{Tree, Empty, Leaf, Branch, tree_of_guard, tree_of_condition, tree_of_transitions, leaves, branches_of, count_leaves}
 use Rattle.fs_branches.proofs.Leaves.{length_leaves}
 
@@ -34,11 +34,11 @@ count-lines (l ∷ k ∷ rest) h = count-condition l.guard (Leaf l.assignments l
 
 -- the one transition of a state with one branch
 pub record OnlyTransition (ls : List (Transition ℕ ℕ)) (b : Branch) : Type 0 where
-  pub line : Transition ℕ ℕ
-  pub alone : ls ≡ line ∷ []
-  pub unguarded : line.guard ≡ None
-  pub assignments : line.assignments ≡ b.assignments
-  pub target : line.target ≡ b.target
+  pub transition : Transition ℕ ℕ
+  pub alone : ls ≡ transition ∷ []
+  pub unguarded : transition.guard ≡ None
+  pub assignments : transition.assignments ≡ b.assignments
+  pub target : transition.target ≡ b.target
 
 pub only_transition : (ls : List (Transition ℕ ℕ)) (b : Branch) → ends_open ls ≡ true → branches_of ls ≡ b ∷ [] → OnlyTransition ls b
 only_transition [] b h e = absurd (cc)
@@ -47,7 +47,7 @@ only_transition (l ∷ []) b h e =
     let f : branches_of (l ∷ []) ≡ record { literals = []; assignments = l.assignments; target = l.target } ∷ [] =
     ap (λ o. leaves (tree_of_condition o (Leaf l.assignments l.target) Empty) []) g in
     let same : record { literals = []; assignments = l.assignments; target = l.target } ≡ b = cc (sym f ∙ e) in
-    record { line = l; alone = refl; unguarded = g; assignments = ap (λ x. x.assignments) same; target = ap (λ x. x.target) same }
+    record { transition = l; alone = refl; unguarded = g; assignments = ap (λ x. x.assignments) same; target = ap (λ x. x.target) same }
 only_transition (l ∷ k ∷ rest) b h e =
     absurd (omega (
       arith,

@@ -3,12 +3,12 @@ use Rattle.std.proofs.Common.{◌≡◌, ℕ, Bool, true, false, cond, List, [],
 use Rattle.std.specs.Prelude.{not, is_some, Option, Some, None, option_map, map, filter}
 use Rattle.std.specs.Option.{option_to_list}
 use Rattle.fs_model.proofs.Booleans.{and_second}
-use Rattle.fs_model.specs.Terms.{Guard, Transition}
+use Rattle.fs_model.specs.Expressions.{Guard, Transition}
 use Rattle.fs_model.specs.Stores.{Store}
 use Rattle.fs_model.specs.Meaning.{condition_holds, transition_taken}
 use Rattle.fs_model.specs.Trees.{Branch, branches_of, Effect}
 use Rattle.fs_model.proofs.Leaves.{one_leaf_open}
-use Rattle.fs_rules.specs.SoundParts.{ends_open, is_open}
+use Rattle.fs_model.specs.SoundMachines.{ends_open, is_open}
 use Rattle.fs_ast.specs.OpenBranches.{all_hold, TakesOneBranch}
 
 abbrev effect_of : Transition ℕ ℕ → Effect
@@ -42,4 +42,4 @@ takes_one ls s e =
     let t = one_taken ls s e in
     let o = only_one (filter (λ b. all_hold b.literals s) (branches_of ls)) (effect_of t.0)
     (one_leaf_open ls s ∙ ap (λ x. option_to_list (option_map effect_of x)) t.1) in
-    record { line = t.0; taken = t.1; branch = o.0; one = o.1.0; assignments = ap (λ x. x.0) o.1.1; target = ap (λ x. x.1) o.1.1 }
+    record { transition = t.0; taken = t.1; branch = o.0; one = o.1.0; assignments = ap (λ x. x.0) o.1.1; target = ap (λ x. x.1) o.1.1 }

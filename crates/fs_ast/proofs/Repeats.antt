@@ -6,7 +6,7 @@ use Rattle.std.specs.Str.{bytes_eq}
 use Rattle.std.proofs.lemmas.Slice.Eq.{bytes_eq-Decides}
 use Rattle.std.proofs.lemmas.Bool.{or_from, and_from, or_right, false_from_ne_true, not-true}
 use Rattle.fs_model.proofs.Booleans.{and_first, and_second, neither_first, neither_second}
-use Rattle.fs_rules.specs.SoundParts.{names_differ}
+use Rattle.fs_model.specs.SoundMachines.{names_differ}
 use Rattle.fs_rules.specs.Rules.{repeated_lines}
 use Rattle.fs_rules.specs.Places.{declared_name_list}
 

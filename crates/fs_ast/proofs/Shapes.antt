@@ -10,7 +10,7 @@ use Rattle.fs_model.specs.Trees.{tree_of_transitions, branches_of, count_leaves}
 use Rattle.fs_rules.specs.declared.check.CheckRule.TheVariants.{EndlessLine}
 use Rattle.fs_rules.specs.declared.check.CheckFault.{CheckFault}
 use Rattle.fs_branches.specs.declared.resolve.State.{State as NumberedState}
-use Rattle.fs_rules.specs.SoundParts.{first_transition_target, branch_count, is_cutpoint, reaches_cutpoint}
+use Rattle.fs_model.specs.SoundMachines.{first_transition_target, branch_count, is_cutpoint, reaches_cutpoint}
 use Rattle.fs_rules.specs.Rules.{at_lines, after_steps, IsEndless}
 use Rattle.fs_branches.specs.NumberedParts.{resolved_state, state_with_line}
 use Rattle.fs_rules.specs.TargetWalks.{state_after_walk, is_cut, walk_reaches_cut, IsRound, IsTargetList}
@@ -36,9 +36,9 @@ endless_one ss q o e = ap (λ l. at_lines EndlessLine (option_to_list l ++ [])) 
 
 -- the transitions of a state
 pub lines_there : (states : List NumberedState) (reset q : ℕ) (x : NumberedState) → q < length states → x ≡ get_or states q x
-    → transitions_of (skeleton (map state_with_line states) reset) q ≡ (resolved_state x).lines
+    → transitions_of (skeleton (map state_with_line states) reset) q ≡ (resolved_state x).transitions
 lines_there [] reset q x h e = absurd (omega arith)
-lines_there (y ∷ ys) reset zero x h e = ap (λ s. (resolved_state s).lines) (sym e)
+lines_there (y ∷ ys) reset zero x h e = ap (λ s. (resolved_state s).transitions) (sym e)
 lines_there (y ∷ ys) reset (suc q) x h e = lines_there ys reset q x (omega arith) e
 
 push_at : (bs : List Bool) (b : Bool) → is_cut (bs ++ b ∷ []) (length bs) ≡ b
@@ -54,14 +54,14 @@ push_before (c ∷ bs) b (suc q) h = push_before bs b q (omega arith)
 pub cut_more : (states : List NumberedState) (reset place : ℕ) (x : NumberedState) (old new : List Bool) (b : Bool) → place < length states
     → x ≡ get_or states place x → length old ≡ place
     → ((q : ℕ) → q < place → is_cut old q ≡ is_cutpoint (skeleton (map state_with_line states) reset) q) → new ≡ old ++ b ∷ []
-    → b ≡ (place == reset || nat_lt 1 (count_leaves (tree_of_transitions (resolved_state x).lines)))
+    → b ≡ (place == reset || nat_lt 1 (count_leaves (tree_of_transitions (resolved_state x).transitions)))
     → (q : ℕ) → q < place + 1 → is_cut new q ≡ is_cutpoint (skeleton (map state_with_line states) reset) q
 cut_more states reset place x old new b h e count before put is q inside =
     let m = skeleton (map state_with_line states) reset in
     ⊎_elim
     (λ at.
-    let branches : branch_count m place ≡ count_leaves (tree_of_transitions (resolved_state x).lines) =
-    ap (λ ls. length (branches_of ls)) (lines_there states reset place x h e) ∙ length_leaves (tree_of_transitions (resolved_state x).lines) [] in
+    let branches : branch_count m place ≡ count_leaves (tree_of_transitions (resolved_state x).transitions) =
+    ap (λ ls. length (branches_of ls)) (lines_there states reset place x h e) ∙ length_leaves (tree_of_transitions (resolved_state x).transitions) [] in
     ap₂ is_cut put at ∙ ap (is_cut (old ++ b ∷ [])) (sym count) ∙ push_at old b ∙ is ∙ ap (λ n. place == reset || nat_lt 1 n) (sym branches)
     ∙ ap (is_cutpoint m) (sym at))
     (λ apart. let low : q < length old = omega arith in ap (λ l. is_cut l q) put ∙ push_before old b q low ∙ before q (omega arith))
@@ -69,7 +69,7 @@ cut_more states reset place x old new b h e count before put is q inside =
 
 -- where first transitions lead
 next_at : (states : List NumberedState) (reset q : ℕ)
-    → slice_index (map (λ s. first_transition_target (resolved_state s).lines) states) q
+    → slice_index (map (λ s. first_transition_target (resolved_state s).transitions) states) q
     ≡ first_transition_target (transitions_of (skeleton (map state_with_line states) reset) q)
 next_at [] reset q = refl
 next_at (y ∷ ys) reset zero = refl
@@ -84,10 +84,10 @@ reach_same m next cut count leads cuts within (suc n) q h =
     ap₂ (λ (a b : Bool). a || b) (cuts q h)
     (reach_same m next cut count leads cuts within n (slice_index next q) (within q h) ∙ ap (reaches_cutpoint m n) (leads q))
 
-pub graph_of : (states : List NumberedState) (next : List ℕ) (cut : List Bool) → next ≡ map (λ s. first_transition_target (resolved_state s).lines) states
+pub graph_of : (states : List NumberedState) (next : List ℕ) (cut : List Bool) → next ≡ map (λ s. first_transition_target (resolved_state s).transitions) states
     → length cut ≡ length states → LeadOn (map state_with_line states) → IsTargetList next cut
 graph_of states next cut e count lead =
-    let same : length next ≡ length states = ap length e ∙ length_map (λ s. first_transition_target (resolved_state s).lines) states in
+    let same : length next ≡ length states = ap length e ∙ length_map (λ s. first_transition_target (resolved_state s).transitions) states in
     let placed : length (map state_with_line states) ≡ length states = length_map state_with_line states in
     record {
       same = count ∙ sym same;
@@ -99,7 +99,8 @@ graph_of states next cut e count lead =
           omega arith;
     }
 
-pub leads_of : (states : List NumberedState) (reset : ℕ) (next : List ℕ) → next ≡ map (λ s. first_transition_target (resolved_state s).lines) states → (q : ℕ)
+pub leads_of : (states : List NumberedState) (reset : ℕ) (next : List ℕ) → next ≡ map (λ s. first_transition_target (resolved_state s).transitions) states
+    → (q : ℕ)
     → slice_index next q ≡ first_transition_target (transitions_of (skeleton (map state_with_line states) reset) q)
 leads_of states reset next e q = ap (λ l. slice_index l q) e ∙ next_at states reset q
 
@@ -140,7 +141,7 @@ round_of m next cut count leads cuts within q low r = record {
 }
 
 pub shapes_of : (states : List NumberedState) (reset : ℕ) (next : List ℕ) (cut : List Bool) (endless : List ℕ) (first : Option CheckFault)
-    → next ≡ map (λ s. first_transition_target (resolved_state s).lines) states → length cut ≡ length states
+    → next ≡ map (λ s. first_transition_target (resolved_state s).transitions) states → length cut ≡ length states
     → ((q : ℕ) → q < length states → is_cut cut q ≡ is_cutpoint (skeleton (map state_with_line states) reset) q) → LeadOn (map state_with_line states)
     → list_all (λ q. nat_lt q (length next)) endless ≡ true → ((k q : ℕ) → slice_get endless k ≡ Some q → IsRound next cut q)
     → ((q : ℕ) → q < length next → IsRound next cut q → (k : ℕ) × (slice_get endless k ≡ Some q))
@@ -151,7 +152,7 @@ shapes_of states reset next cut endless first e count cuts lead inside rounds al
     let ss = map state_with_line states in
     let m = skeleton ss reset in
     let g = graph_of states next cut e count lead in
-    let same : length next ≡ length ss = ap length e ∙ length_map (λ s. first_transition_target (resolved_state s).lines) states
+    let same : length next ≡ length ss = ap length e ∙ length_map (λ s. first_transition_target (resolved_state s).transitions) states
     ∙ sym (length_map state_with_line states) in
     let placed : length ss ≡ length states = length_map state_with_line states in
     let to = leads_of states reset next e in

@@ -15,7 +15,7 @@ use Rattle.fs_rules.specs.declared.check.CheckRule.TheVariants.{EndlessLine}
 use Rattle.fs_rules.specs.declared.check.CheckFault.{CheckFault}
 use Rattle.fs_branches.specs.declared.resolve.State.{State as NumberedState}
 use Rattle.fs_rules.specs.MachineOfParts.{variables_of, names_of, state_names, place_or_end, machine_of}
-use Rattle.fs_rules.specs.SoundParts.{first_transition_target, is_cutpoint, reaches_cutpoint}
+use Rattle.fs_model.specs.SoundMachines.{first_transition_target, is_cutpoint, reaches_cutpoint}
 use Rattle.fs_rules.specs.Rules.{at_lines, branch_faults}
 use Rattle.fs_rules.specs.FirstFault.{sooner, earliest}
 use Rattle.fs_branches.specs.NumberedParts.{resolved_state, state_with_line, spelled_state_with_line, states_with_lines}
@@ -72,7 +72,7 @@ leads_placed p k q h =
     length_map (spelled_state_with_line (names_of (variables_of p.declarations)) (state_names p.states)) p.states in
     let low = lead_on p k q (omega arith) in
     let same : first_transition_target (transitions_of (skeleton (states_with_lines p) 0) q) ≡ first_transition_target (transitions_of (machine_of p) q) =
-    ap (λ st. first_transition_target (slice_index_or st q no_state).lines) (placed_states p) in
+    ap (λ st. first_transition_target (slice_index_or st q no_state).transitions) (placed_states p) in
     omega arith
 
 -- ---- branches and endless lines
@@ -92,14 +92,14 @@ none_endless ss (q ∷ qs) e f =
     absurd (cc)
 
 pub cut_same : (m n : Fsmd) → m.states ≡ n.states → m.reset ≡ n.reset → (q : ℕ) → is_cutpoint m q ≡ is_cutpoint n q
-cut_same m n e f q = ap₂ (λ (st : List State) (r : ℕ). (q == r) || nat_lt 1 (length (branches_of (slice_index_or st q no_state).lines))) e f
+cut_same m n e f q = ap₂ (λ (st : List State) (r : ℕ). (q == r) || nat_lt 1 (length (branches_of (slice_index_or st q no_state).transitions))) e f
 
 reach_same : (m n : Fsmd) → m.states ≡ n.states → m.reset ≡ n.reset → (k q : ℕ) → reaches_cutpoint m k q ≡ reaches_cutpoint n k q
 reach_same m n e f zero q = cut_same m n e f q
 reach_same m n e f (suc k) q =
     ap₂ (λ (a b : Bool). a || b) (cut_same m n e f q)
     (reach_same m n e f k (first_transition_target (transitions_of m q))
-    ∙ ap (λ st. reaches_cutpoint n k (first_transition_target (slice_index_or st q no_state).lines)) e)
+    ∙ ap (λ st. reaches_cutpoint n k (first_transition_target (slice_index_or st q no_state).transitions)) e)
 
 pub shapes_kept : (p : Source) (ss : List (ℕ × State)) (reset : ℕ) (first : Option CheckFault) → ss ≡ states_with_lines p
     → reset ≡ place_or_end (state_names p.states) p.reset

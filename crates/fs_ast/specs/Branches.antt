@@ -3,12 +3,13 @@ use Rattle.std.specs.Prelude.{ℕ, ◌<◌, ◌≤◌, Bool, not, ◌&&◌, IsTr
 use Rattle.std.specs.List.{list_all}
 use Rattle.fs_model.specs.declared.parts.VarInfo.{VarInfo}
 use Rattle.fs_model.specs.Limits.{most_emits}
-use Rattle.fs_model.specs.Terms.{Literal, Assignment}
+use Rattle.fs_model.specs.Expressions.{Literal, Assignment}
 use Rattle.fs_model.specs.Trees.{Branch}
 use Rattle.fs_model.specs.PartFolds.{scalars, arrays, numbers, uses_in_literal}
-use Rattle.fs_rules.specs.SoundParts.{scalar_at, array_at, port_at, input_at, is_text_number, scalars_in_assignment}
-use Rattle.fs_rules.specs.SoundParts.{arrays_in_assignment, port_in, numbers_in_assignment, changed_by, assigned_in, all_differ}
-use Rattle.fs_rules.specs.SoundParts.{emit_count}
+use Rattle.fs_model.specs.SoundMachines.{scalar_at, array_at, port_at, input_at, is_text_number, scalars_in_assignment}
+use Rattle.fs_model.specs.SoundMachines.{arrays_in_assignment, port_in, numbers_in_assignment, changed_by, assigned_in}
+use Rattle.fs_model.specs.SoundMachines.{all_differ}
+use Rattle.fs_model.specs.SoundMachines.{emit_count}
 
 -- a literal uses scalars as scalars and arrays, and has numbers that a text can have
 abbrev pub is_sound_literal : List VarInfo → Literal ℕ → Bool

@@ -7,14 +7,15 @@ use Rattle.fs_model.specs.Machines.{State, Fsmd, transitions_of}
 use Rattle.fs_model.specs.Trees.{tree_of_transitions, count_leaves}
 use Rattle.fs_rules.specs.declared.check.CheckRule.TheVariants.{TooManyBranches, EndlessLine}
 use Rattle.fs_rules.specs.declared.check.CheckFault.{CheckFault}
-use Rattle.fs_rules.specs.SoundParts.{first_transition_target, reaches_cutpoint}
+use Rattle.fs_model.specs.SoundMachines.{first_transition_target, reaches_cutpoint}
 use Rattle.fs_rules.specs.Rules.{at_lines, broken_where, IsEndless}
 use Rattle.fs_rules.specs.FirstFault.{earliest}
 
 -- the states of these, each with its line, that have too many branches
 abbrev pub forked_faults : List (ℕ × State) → List CheckFault
 forked_faults ss =
-    flat_map (λ s. broken_where (nat_lt most_branches (count_leaves (tree_of_transitions s.1.lines))) TooManyBranches s.0) ss
+    flat_map (λ s. broken_where (nat_lt most_branches (count_leaves (tree_of_transitions s.1.transitions))) TooManyBranches s.0)
+    ss
 
 -- endless lines at states by their places
 abbrev pub endless_faults : List (ℕ × State) → List ℕ → List CheckFault

@@ -2,9 +2,9 @@
 
 ghost use Rattle.std.specs.Prelude.{◌≡◌, ◌++◌, map, IfOk};
 ghost use Rattle.std.specs.Result.{OnOk};
-ghost use Rattle.fs_model.specs.View.{term_of, guard_of, assignment_of};
-ghost use Rattle.fs_rules.specs.SoundParts.{numbers_in, numbers_in_guard, numbers_in_condition, numbers_in_assignment};
-ghost use Rattle.fs_rules.specs.SoundParts.{numbers_in_assignments, numbers_in_transitions, numbers_in_states};
+ghost use Rattle.fs_model.specs.View.{expression_of, guard_of, assignment_of};
+ghost use Rattle.fs_model.specs.SoundMachines.{numbers_in, numbers_in_guard, numbers_in_condition, numbers_in_assignment};
+ghost use Rattle.fs_model.specs.SoundMachines.{numbers_in_assignments, numbers_in_transitions, numbers_in_states};
 ghost use Rattle.fs_branches.specs.NumberedParts.{resolved_transition, resolved_state};
 
 use fs_branches::resolve::{State, Transition};
@@ -19,21 +19,21 @@ pub fn constants_of(alloc: Global, states: &[State]) -> Result<Vec<i128>, NoMemo
 {
     let mut out = Vec::new(alloc);
     for state in states {
-        add_lines(&mut out, state.lines.as_slice())?;
+        add_transitions(&mut out, state.lines.as_slice())?;
     }
     Ok(out)
 }
 
-fn add_lines(out: &mut Vec<i128>, lines: &[Transition]) -> Result<(), NoMemory>
+fn add_transitions(out: &mut Vec<i128>, lines: &[Transition]) -> Result<(), NoMemory>
     ensures { OnOk result (out.new.items ≡ out.old.items ++ numbers_in_transitions (map resolved_transition lines.now)) }
 {
     for line in lines {
-        add_line(out, line)?;
+        add_transition(out, line)?;
     }
     Ok(())
 }
 
-fn add_line(out: &mut Vec<i128>, line: &Transition) -> Result<(), NoMemory>
+fn add_transition(out: &mut Vec<i128>, line: &Transition) -> Result<(), NoMemory>
     ensures { OnOk result
         (out.new.items ≡ out.old.items
         ++ (numbers_in_condition (resolved_transition line.now).guard
@@ -84,7 +84,7 @@ fn add_assign(out: &mut Vec<i128>, assign: &Assign<VarId>) -> Result<(), NoMemor
 }
 
 fn add_expr(out: &mut Vec<i128>, expr: &Expr<VarId>) -> Result<(), NoMemory>
-    ensures { OnOk result (out.new.items ≡ out.old.items ++ numbers_in (term_of expr.now)) }
+    ensures { OnOk result (out.new.items ≡ out.old.items ++ numbers_in (expression_of expr.now)) }
 {
     match expr {
         Expr::Num(n) => push_value(out, *n),

@@ -5,7 +5,7 @@ ghost use Rattle.fs_model.specs.View.{source_of};
 ghost use Rattle.fs_model.specs.WellFormed.{is_well_formed};
 ghost use Rattle.fs_rules.specs.MachineOfParts.{machine_of};
 ghost use Rattle.fs_rules.specs.Rules.{BreaksNoRule};
-ghost use Rattle.fs_rules.specs.SoundParts.{IsSound};
+ghost use Rattle.fs_model.specs.SoundMachines.{IsSound};
 
 use crate::build::BuildError;
 use crate::machine::Machine;

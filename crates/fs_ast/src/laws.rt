@@ -6,7 +6,7 @@ ghost use Rattle.fs_model.specs.Source.{Source};
 ghost use Rattle.fs_model.specs.Stores.{Store};
 ghost use Rattle.fs_rules.specs.MachineOfParts.{machine_of};
 ghost use Rattle.fs_rules.specs.Rules.{BreaksNoRule};
-ghost use Rattle.fs_rules.specs.SoundParts.{IsSound};
+ghost use Rattle.fs_model.specs.SoundMachines.{IsSound};
 ghost use Rattle.fs_model.specs.Trees.{Branch, branches_of};
 ghost use Rattle.fs_ast.specs.OpenBranches.{TakesOneBranch};
 ghost use Rattle.fs_ast.specs.Branches.{IsSoundBranch};

@@ -5,7 +5,7 @@ ghost use Rattle.std.specs.List.{list_all};
 ghost use Rattle.fs_model.specs.Machines.{transitions_of};
 ghost use Rattle.fs_model.specs.Trees.{branches_of};
 ghost use Rattle.fs_model.specs.View.{branch_of};
-ghost use Rattle.fs_rules.specs.SoundParts.{IsSound, numbers_in_states};
+ghost use Rattle.fs_model.specs.SoundMachines.{IsSound, numbers_in_states};
 ghost use Rattle.fs_branches.specs.NumberedParts.{resolved_state};
 ghost use Rattle.fs_ast.specs.StoredBranches.{state_name_of, KeepsTypes};
 ghost use Rattle.fs_model.specs.Words.{is_name};
@@ -156,7 +156,8 @@ impl Machine {
 // The branches of states.
 fn all_branches(alloc: Global, states: &[State]) -> Result<Vec<Vec<Branch>>, NoMemory>
     ensures { IfOk result
-        (λ out. map (λ b. map branch_of b.items) out.items ≡ map (λ s. branches_of s.lines) (map resolved_state states.now)) }
+        (λ out. map (λ b. map branch_of b.items) out.items
+        ≡ map (λ s. branches_of s.transitions) (map resolved_state states.now)) }
 {
     let mut out = Vec::new(alloc);
     for state in states {

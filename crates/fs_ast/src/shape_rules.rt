@@ -1,7 +1,7 @@
 //! The rules on branches and on endless lines, which are looked at where no other rule is broken.
 
 ghost use Rattle.std.specs.Prelude.{◌≡◌, ◌<◌, ◌||◌, ◌==◌, ℕ, [], ◌∷◌, length, map, nat_lt, IfOk};
-ghost use Rattle.fs_rules.specs.SoundParts.{first_transition_target, is_cutpoint};
+ghost use Rattle.fs_model.specs.SoundMachines.{first_transition_target, is_cutpoint};
 ghost use Rattle.fs_rules.specs.FirstFault.{earliest};
 ghost use Rattle.fs_branches.specs.NumberedParts.{resolved_transition, resolved_state, state_with_line};
 ghost use Rattle.fs_rules.specs.TargetWalks.{is_cut};
@@ -68,7 +68,7 @@ fn note_endless_at(states: &[State], place: usize, faults: &mut Faults)
 
 // Where the first transition of each state leads.
 fn first_targets(alloc: Global, states: &[State]) -> Result<Vec<usize>, NoMemory>
-    ensures { IfOk result (λ next. next.items ≡ map (λ s. first_transition_target (resolved_state s).lines) states.now) }
+    ensures { IfOk result (λ next. next.items ≡ map (λ s. first_transition_target (resolved_state s).transitions) states.now) }
 {
     let mut next = Vec::new(alloc);
     for state in states {
@@ -89,7 +89,7 @@ fn first_transition_target(lines: &[Transition]) -> usize
 
 // Whether a state at a place cuts paths.
 fn cuts(state: &State, place: usize, reset: usize) -> bool
-    ensures { result ≡ (place == reset || nat_lt 1 (count_leaves (tree_of_transitions (resolved_state state.now).lines))) }
+    ensures { result ≡ (place == reset || nat_lt 1 (count_leaves (tree_of_transitions (resolved_state state.now).transitions))) }
 {
     place == reset || count_leaves(state.lines.as_slice()) > 1
 }

@@ -1,7 +1,7 @@
 -- How many leaves a tree has.
 use Rattle.std.proofs.Common.{◌≡◌, ℕ, ◌+◌, List, [], ◌∷◌, ◌++◌, length, refl, sym, ◌∙◌, ap, ap₂, length-append, arith}
 use Rattle.std.specs.Prelude.{Option, Some, None}
-use Rattle.fs_model.specs.Terms.{Literal, Guard, Test, Not, And, Or, Transition}
+use Rattle.fs_model.specs.Expressions.{Literal, Guard, Test, Not, And, Or, Transition}
 use Rattle.fs_model.specs.Trees.{Tree, Empty, Leaf, Node, tree_of_guard, tree_of_condition, tree_of_transitions, leaves, count_leaves, negated_literal}
 use Rattle.fs_branches.specs.Forks.{leaves_by, leaves_by_condition, capped_leaves}
 

@@ -1,7 +1,7 @@
 -- Ways that grow and get back.
 use Rattle.std.proofs.Common.{◌≡◌, ℕ, List, [], ◌∷◌, ◌++◌, length, take, append_assoc, ap, sym, ◌∙◌}
 use Rattle.std.proofs.Math.Seq.{take-append_seam}
-use Rattle.fs_model.specs.Terms.{Literal}
+use Rattle.fs_model.specs.Expressions.{Literal}
 use Rattle.fs_model.specs.Trees.{Branch, Tree, Node, leaves, negated_literal}
 
 -- what stood before something was added

@@ -1,6 +1,6 @@
 -- Decision trees as the code has them, and how many leaves a guard gives.
 use Rattle.std.specs.Prelude.{ℕ, ◌+◌, min, Option, Some, None}
-use Rattle.fs_model.specs.Terms.{Guard, Test, Not, And, Or}
+use Rattle.fs_model.specs.Expressions.{Guard, Test, Not, And, Or}
 use Rattle.fs_model.specs.Trees.{Tree, Empty, Leaf, Node}
 use Rattle.fs_branches.specs.declared.trees.DecisionTree.{DecisionTree}
 use Rattle.fs_branches.specs.declared.trees.DecisionTree.TheVariants as trees

@@ -1,15 +1,15 @@
 -- Transitions and states over numbers, as the code has them.
 use Rattle.std.specs.Prelude.{ℕ, List, map, option_map}
-use Rattle.fs_model.specs.Terms.{Transition}
+use Rattle.fs_model.specs.Expressions.{Transition}
 use Rattle.fs_model.specs.Machines.{State}
 use Rattle.fs_model.specs.View.{guard_of, assignment_of}
 use Rattle.fs_model.specs.Source.{SourceState, Source}
 use Rattle.fs_rules.specs.MachineOfParts.{variables_of, names_of, state_names, state_spelled}
-use Rattle.fs_branches.specs.declared.resolve.Transition.{Transition as NumberedLine}
+use Rattle.fs_branches.specs.declared.resolve.Transition.{Transition as NumberedTransition}
 use Rattle.fs_branches.specs.declared.resolve.State.{State as NumberedState}
 
 -- what a transition says
-abbrev pub resolved_transition : NumberedLine → Transition ℕ ℕ
+abbrev pub resolved_transition : NumberedTransition → Transition ℕ ℕ
 resolved_transition l = record {
   guard = option_map guard_of l.guard;
   target = l.target.0;
@@ -18,7 +18,7 @@ resolved_transition l = record {
 
 -- what a state says
 abbrev pub resolved_state : NumberedState → State
-resolved_state s = record { name = s.name; lines = map resolved_transition s.lines.items }
+resolved_state s = record { name = s.name; transitions = map resolved_transition s.lines.items }
 
 -- a state and the line at which it stands
 abbrev pub state_with_line : NumberedState → ℕ × State

@@ -69,7 +69,7 @@ fn shared_assignments(
 }
 
 // A transition over numbers.
-fn numbered_line(alloc: Global, scope: &Scope, line: &RawLine) -> Result<Transition, NoMemory>
+fn numbered_transition(alloc: Global, scope: &Scope, line: &RawLine) -> Result<Transition, NoMemory>
     requires variables { length scope.now.vars.items ≤ most_variables }
     requires states { length scope.now.states.now ≤ most_states }
     ensures { IfOk result
@@ -86,7 +86,7 @@ fn numbered_line(alloc: Global, scope: &Scope, line: &RawLine) -> Result<Transit
 }
 
 // Transitions over numbers.
-fn numbered_lines(
+fn numbered_transitions(
     alloc: Global,
     scope: &Scope,
     lines: &[RawLine],
@@ -100,7 +100,7 @@ fn numbered_lines(
 {
     let mut out = Vec::new(alloc);
     for raw in lines {
-        push_value(&mut out, numbered_line(alloc, scope, raw)?)?;
+        push_value(&mut out, numbered_transition(alloc, scope, raw)?)?;
     }
     Ok(out)
 }
@@ -114,7 +114,7 @@ fn numbered_state(alloc: Global, scope: &Scope, state: &RawState) -> Result<Stat
         (source_state_of state.now)) }
 {
     let name = state.name.try_clone(alloc)?;
-    let lines = numbered_lines(alloc, scope, &state.lines)?;
+    let lines = numbered_transitions(alloc, scope, &state.lines)?;
     Ok(State {
         line: state.line,
         name,

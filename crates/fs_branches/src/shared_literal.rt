@@ -20,7 +20,7 @@ pub struct SharedLiteral {
 
 impl Model for SharedLiteral {
     ghost use Rattle.std.specs.Prelude.{◌≡◌, ℕ};
-    ghost use Rattle.fs_model.specs.Terms.{Literal};
+    ghost use Rattle.fs_model.specs.Expressions.{Literal};
     ghost use Rattle.fs_model.specs.Codes.{coded_literal};
     ghost use Rattle.fs_model.specs.Trees.{negated_literal};
     ghost use Rattle.fs_model.specs.View.{shared_literal_of};

@@ -31,13 +31,13 @@ pub fn count_leaves(lines: &[Transition]) -> u32
 {
     let mut count = 0;
     for k in 0..lines.len() {
-        count = count_line(&lines[lines.len() - 1 - k], count);
+        count = count_transition(&lines[lines.len() - 1 - k], count);
     }
     count
 }
 
 // How many leaves there are from one transition on.
-fn count_line(line: &Transition, rest: u32) -> u32
+fn count_transition(line: &Transition, rest: u32) -> u32
     ensures { result ≡ capped_leaves (leaves_by_condition (resolved_transition line.now).guard 1 rest) }
 {
     match &line.guard {
@@ -63,7 +63,7 @@ fn count_guard(guard: &Guard<VarId>, on_yes: u32, on_no: u32) -> u32
 pub fn branches(alloc: Global, lines: &[Transition]) -> Result<Vec<Branch>, NoMemory>
     ensures { IfOk result (λ out. map branch_of out.items ≡ branches_of (map resolved_transition lines.now)) }
 {
-    let tree = tree_of_lines(alloc, lines)?;
+    let tree = tree_of_transitions(alloc, lines)?;
     branches_of_tree(alloc, &tree)
 }
 
@@ -78,7 +78,7 @@ fn branches_of_tree(alloc: Global, tree: &DecisionTree) -> Result<Vec<Branch>, N
 }
 
 // The tree of transitions.
-fn tree_of_lines<'a>(
+fn tree_of_transitions<'a>(
     alloc: Global,
     lines: &'a [Transition],
 ) -> Result<Rc<DecisionTree<'a>>, NoMemory>
@@ -87,14 +87,14 @@ fn tree_of_lines<'a>(
     match lines {
         [] => share(alloc, DecisionTree::Fail),
         [first, rest @ ..] => {
-            let on_no = tree_of_lines(alloc, rest)?;
-            tree_of_line(alloc, first, &on_no)
+            let on_no = tree_of_transitions(alloc, rest)?;
+            tree_of_transition(alloc, first, &on_no)
         }
     }
 }
 
 // The tree of a transition over that of those behind it.
-fn tree_of_line<'a>(
+fn tree_of_transition<'a>(
     alloc: Global,
     line: &'a Transition,
     on_no: &Rc<DecisionTree<'a>>,

@@ -7,8 +7,8 @@ use Rattle.std.proofs.lemmas.List.Folds.{list_all-append}
 use Rattle.std.proofs.lemmas.Bool.{and_from, lt-ltb, ltb-true}
 use Rattle.fs_model.proofs.Booleans.{and_first, and_second}
 use Rattle.fs_model.proofs.Lists.{one_element}
-use Rattle.fs_ast.specs.SoundParts.{IsSound, branch_count, is_cutpoint, first_transition_target}
-use Rattle.fs_model.specs.Terms.{Literal, Guard, Test, Not, And, Or, Assignment, Transition}
+use Rattle.fs_model.specs.SoundMachines.{IsSound, branch_count, is_cutpoint, first_transition_target}
+use Rattle.fs_model.specs.Expressions.{Literal, Guard, Test, Not, And, Or, Assignment, Transition}
 use Rattle.fs_model.specs.Machines.{Fsmd, transitions_of}
 use Rattle.fs_model.specs.Stores.{Store}
 use Rattle.fs_model.specs.Meaning.{transition_taken, act_all}
@@ -121,10 +121,10 @@ first_is_open (w ∷ bs) s h = open_by w bs s (branch_holds s w) refl h (first_i
 -- the branch that a store takes is that of the transition
 pub record Takes (m : Fsmd) (q : ℕ) (s : Store) : Type 0 where
   pub within : branch_taken m q s < branch_count m q
-  pub line : Transition ℕ ℕ
-  pub taken : transition_taken (transitions_of m q) s ≡ Some line
-  pub assignments : (branch_at m q (branch_taken m q s)).assignments ≡ line.assignments
-  pub target : target_of m q (branch_taken m q s) ≡ line.target
+  pub transition : Transition ℕ ℕ
+  pub taken : transition_taken (transitions_of m q) s ≡ Some transition
+  pub assignments : (branch_at m q (branch_taken m q s)).assignments ≡ transition.assignments
+  pub target : target_of m q (branch_taken m q s) ≡ transition.target
 
 -- the step that a store takes
 abbrev pub step_at : Fsmd → ℕ → Store → BranchStep
@@ -158,7 +158,7 @@ module _ (m : Fsmd) (sound : IsSound m) where
       let f = finds (branches_of (transitions_of m q)) s o.branch o.one in
       record {
         within = f.within;
-        line = o.line;
+        transition = o.transition;
         taken = o.taken;
         assignments = ap (λ (b : Branch). b.assignments) f.is ∙ o.assignments;
         target = ap (λ (b : Branch). b.target) f.is ∙ o.target;
@@ -182,7 +182,7 @@ module _ (m : Fsmd) (sound : IsSound m) where
       → After (target_of m q (branch_taken m q s)) (store_after m (step_at m q s) s)
   step_down q s After h w =
       let o = takes_branch q s h in
-      let same : w.step.line ≡ o.line = cc (sym w.step.taken ∙ o.taken) in
+      let same : w.step.transition ≡ o.transition = cc (sym w.step.taken ∙ o.taken) in
       let at : w.state ≡ target_of m q (branch_taken m q s) = w.step.target ∙ ap (λ (l : Transition ℕ ℕ). l.target) same ∙ sym o.target in
       let holds : w.store ≡ store_after m (step_at m q s) s = w.step.store ∙ ap (λ (l : Transition ℕ ℕ). act_all l.assignments s s) same
       ∙ sym (ap (λ (a : List (Assignment ℕ)). act_all a s s) o.assignments) in
@@ -191,7 +191,7 @@ module _ (m : Fsmd) (sound : IsSound m) where
   pub step_taken : (q : ℕ) (s : Store) → q < length m.states → StepOf m q s (target_of m q (branch_taken m q s)) (store_after m (step_at m q s) s)
   step_taken q s h =
       let o = takes_branch q s h in
-      record { line = o.line; taken = o.taken; target = o.target; store = ap (λ (acts : List (Assignment ℕ)). act_all acts s s) o.assignments }
+      record { transition = o.transition; taken = o.taken; target = o.target; store = ap (λ (acts : List (Assignment ℕ)). act_all acts s s) o.assignments }
 
   pub step_up : (q : ℕ) (s : Store) (After : ℕ → Store → Type 0) → q < length m.states
       → After (target_of m q (branch_taken m q s)) (store_after m (step_at m q s) s) → AfterStep m q s After

@@ -7,7 +7,7 @@ use Rattle.std.proofs.lemmas.Bool.Decides.{nat_tests}
 use Rattle.std.proofs.lemmas.List.FromFn.{get_or-map-range_with_len, length-map-range_with_len, length-range_with_len}
 use Rattle.std.proofs.lemmas.Bool.{and_from, eqb-true}
 use Rattle.fs_model.proofs.Booleans.{and_first, and_second, or_other}
-use Rattle.fs_ast.specs.SoundParts.{IsSound, branch_count, is_cutpoint, first_transition_target, reaches_cutpoint}
+use Rattle.fs_model.specs.SoundMachines.{IsSound, branch_count, is_cutpoint, first_transition_target, reaches_cutpoint}
 use Rattle.fs_model.specs.Limits.{most_branches}
 use Rattle.fs_model.specs.Machines.{State, Fsmd, transitions_of}
 use Rattle.fs_model.specs.Trees.{branches_of}
@@ -19,7 +19,7 @@ use Rattle.fs_cut.specs.View.{listed_paths, ListsPoints}
 use Rattle.fs_cut.proofs.Branches.{target_in, some_branch, first_target}
 
 -- ---- points
-fork_in : (ss : List State) (q : ℕ) → 0 < length (branches_of (slice_index_or ss q (record { name = []; lines = [] })).lines) → q < length ss
+fork_in : (ss : List State) (q : ℕ) → 0 < length (branches_of (slice_index_or ss q (record { name = []; transitions = [] })).transitions) → q < length ss
 fork_in [] q h = absurd (omega arith)
 fork_in (s ∷ ss) zero h = omega arith
 fork_in (s ∷ ss) (suc q) h = omega (arith, fork_in ss q h)

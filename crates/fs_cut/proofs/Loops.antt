@@ -4,7 +4,7 @@ use Rattle.std.proofs.Common.{append-nil, Bool, true, false}
 use Rattle.std.specs.Prelude.{cond, filter}
 use Rattle.std.specs.List.{slice_index_or, range_with_len}
 use Rattle.std.proofs.lemmas.List.{get_or-map, length-map}
-use Rattle.fs_ast.specs.SoundParts.{IsSound, branch_count, is_cutpoint}
+use Rattle.fs_model.specs.SoundMachines.{IsSound, branch_count, is_cutpoint}
 use Rattle.fs_model.specs.declared.parts.Branch.{Branch as CodeBranch}
 use Rattle.fs_model.specs.Machines.{Fsmd, transitions_of}
 use Rattle.fs_model.specs.Trees.{Branch, branches_of}

@@ -1,7 +1,7 @@
 -- The points of a machine, each with its paths.
 use Rattle.std.specs.Prelude.{ℕ, zero, suc, ◌==◌, Bool, true, false, cond, List, [], ◌∷◌, ◌++◌, map, length, filter}
 use Rattle.std.specs.List.{range_with_len, list_any}
-use Rattle.fs_ast.specs.SoundParts.{branch_count, is_cutpoint}
+use Rattle.fs_model.specs.SoundMachines.{branch_count, is_cutpoint}
 use Rattle.fs_model.specs.Machines.{Fsmd}
 use Rattle.fs_cut.specs.Paths.{Point, Start, At, Done, Path, is_fork, end_at, target_of}
 

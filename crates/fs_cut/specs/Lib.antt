@@ -3,5 +3,4 @@ pub mod Paths
 pub mod Covers
 pub mod View
 pub mod Cuts
-pub use Rattle.fs_ast.specs.SoundParts
 pub use Rattle.fs_ast.specs.Branches

@@ -1,7 +1,7 @@
 -- Points of a machine, and the paths between them.
 use Rattle.std.specs.Prelude.{◌≡◌, ◌≢◌, ℕ, ◌<◌, ◌==◌, nat_lt, Bool, true, false, not, ◌&&◌, cond, List, [], ◌∷◌, map}
 use Rattle.std.specs.List.{slice_index_or}
-use Rattle.fs_ast.specs.SoundParts.{branch_count, is_cutpoint}
+use Rattle.fs_model.specs.SoundMachines.{branch_count, is_cutpoint}
 use Rattle.fs_model.specs.Machines.{Fsmd, transitions_of}
 use Rattle.fs_model.specs.Stores.{Store}
 use Rattle.fs_model.specs.Meaning.{act_all}

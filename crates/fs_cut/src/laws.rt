@@ -2,7 +2,7 @@
 
 ghost use Rattle.std.specs.Prelude.{◌≡◌, ◌≢◌, ℕ, ◌+◌, ◌<◌, ◌≤◌, true, false, List, [], length, map, Contains, IsTrue};
 ghost use Rattle.std.specs.List.{list_all, slice_index_or};
-ghost use Rattle.fs_ast.specs.SoundParts.{IsSound, branch_count};
+ghost use Rattle.fs_model.specs.SoundMachines.{IsSound, branch_count};
 ghost use Rattle.fs_model.specs.Limits.{most_branches};
 ghost use Rattle.fs_model.specs.Machines.{Fsmd};
 ghost use Rattle.fs_model.specs.Stores.{Store};

@@ -2,7 +2,7 @@
 
 ghost use Rattle.std.specs.Prelude.{◌≡◌, ◌<◌, ◌++◌, length, map, IfOk};
 ghost use Rattle.std.specs.Result.{OnOk};
-ghost use Rattle.fs_ast.specs.SoundParts.{branch_count, is_cutpoint};
+ghost use Rattle.fs_model.specs.SoundMachines.{branch_count, is_cutpoint};
 ghost use Rattle.fs_cut.specs.Paths.{is_fork, end_at, target_of};
 ghost use Rattle.fs_cut.specs.Covers.{passed_states, state_reached, path_by, paths_by};
 ghost use Rattle.fs_cut.specs.View.{point_of, path_of};

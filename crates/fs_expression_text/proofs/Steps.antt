@@ -1,8 +1,8 @@
 -- Readings that agree, and a token that is taken.
 use Rattle.std.proofs.Common.{◌≡◌, ℕ, Bool, true, false, cond, List, [], ◌∷◌, Option, Some, None, Ok, Err, refl, sym, ◌∙◌}
 use Rattle.fs_model.specs.declared.parts.Rel.{Rel}
-use Rattle.fs_model.specs.Terms.{Term, Guard, Variable, Negative, Test}
-use Rattle.fs_model.specs.Terms as terms
+use Rattle.fs_model.specs.Expressions.{Expression, Guard, Variable, Negative, Test}
+use Rattle.fs_model.specs.Expressions as expressions
 use Rattle.fs_grammar.specs.declared.fault.TextFault.{TextFault}
 use Rattle.fs_grammar.specs.declared.token.TokenKind.{TokenKind}
 use Rattle.fs_grammar.specs.declared.token.TokenKind.TheVariants.{OpenBracket, OpenBrace, Plus, Minus, Bang, AndAnd, OrOr}
@@ -11,8 +11,8 @@ use Rattle.fs_grammar.specs.Tokens.{kind_at, tokens_after}
 use Rattle.fs_grammar.specs.PartEnds.{IsNoSum, EndsSum, IsNoAnd, EndsConjunction, IsNoOr, EndsGuard, IsNoIndex, EndsName, IsNoBrace, IsLiteral}
 use Rattle.fs_expression_text.specs.declared.operators.ProductOperator.{ProductOperator}
 use Rattle.fs_expression_text.specs.declared.operators.SumOperator.{SumOperator}
-use Rattle.fs_expression_text.specs.TermOperators.{product_operator, sum_operator, sum_operator_in, product_operator_at, sum_operator_at, joins_units}
-use Rattle.fs_expression_text.specs.TermOperators.{joins_alternatives}
+use Rattle.fs_expression_text.specs.ExpressionOperators.{product_operator, sum_operator, sum_operator_in, product_operator_at, sum_operator_at, joins_units}
+use Rattle.fs_expression_text.specs.ExpressionOperators.{joins_alternatives}
 use Rattle.fs_expression_text.specs.Inside.{UnitContext, negates, first_of_all, and_after, ConjunctionContext, first_of_any, or_after, GuardContext}
 use Rattle.fs_expression_text.specs.Inside.{FactorContext, first_factor, next_factor, negative, ProductContext, first_product, next_product, SumContext, left}
 use Rattle.fs_expression_text.specs.Inside.{right, Inside, at_unit, at_factor, after_conjunction, after_guard, after_name, after_product, after_sum, at_sum}
@@ -29,23 +29,23 @@ same_parsed (t ∷ ts) a b h e = rw (h t.kind refl, e) refl
 -- ---- the ends of units and conjunctions
 
 done_steps : (t : TokenKind) (u : Guard (List ℕ)) (k : UnitContext) → expression_step (unit_done u k) t ≡ step_joined t (unit_done u k)
-done_steps t u (negates k) = done_steps t (terms.Not u) k
+done_steps t u (negates k) = done_steps t (expressions.Not u) k
 done_steps t u (first_of_all k) = refl
 done_steps t u (and_after c k) = refl
 
 done_stops : (u : Guard (List ℕ)) (k : UnitContext) → whole_at (unit_done u k) ≡ ends_joined (unit_done u k)
-done_stops u (negates k) = done_stops (terms.Not u) k
+done_stops u (negates k) = done_stops (expressions.Not u) k
 done_stops u (first_of_all k) = refl
 done_stops u (and_after c k) = refl
 
-right_steps : (t : TokenKind) (r : Rel) (l s : Term (List ℕ)) (k : UnitContext) → IsNoSum (Some t)
+right_steps : (t : TokenKind) (r : Rel) (l s : Expression (List ℕ)) (k : UnitContext) → IsNoSum (Some t)
     → step_sum t s (right r l k) ≡ step_joined t (literal_done r l s k)
 right_steps Plus r l s k h = absurd h
 right_steps Minus r l s k h = absurd h
 right_steps _ r l s k h = refl
 
 -- a literal ends where its second sum does
-pub sum_ends : (ts : List Token) (r : Rel) (l s : Term (List ℕ)) (k : UnitContext) → EndsSum ts
+pub sum_ends : (ts : List Token) (r : Rel) (l s : Expression (List ℕ)) (k : UnitContext) → EndsSum ts
     → parse_expression ts (after_sum s (right r l k)) ≡ parse_expression ts (literal_done r l s k)
 sum_ends ts r l s k h =
     let u : Guard (List ℕ) = Test (record { relation = r; left = l; right = s }) in
@@ -83,20 +83,20 @@ conjunction_ends ts c k h =
 
 -- ---- the ends of products and names
 
-summed_steps : (t : TokenKind) (p : Term (List ℕ)) (k : ProductContext) → expression_step (product_done p k) t ≡ step_summed t (product_done p k)
+summed_steps : (t : TokenKind) (p : Expression (List ℕ)) (k : ProductContext) → expression_step (product_done p k) t ≡ step_summed t (product_done p k)
 summed_steps t p (first_product k) = refl
 summed_steps t p (next_product o s k) = refl
 
-summed_stops : (p : Term (List ℕ)) (k : ProductContext) → whole_at (product_done p k) ≡ ends_summed (product_done p k)
+summed_stops : (p : Expression (List ℕ)) (k : ProductContext) → whole_at (product_done p k) ≡ ends_summed (product_done p k)
 summed_stops p (first_product k) = refl
 summed_stops p (next_product o s k) = refl
 
-product_steps : (o : Option ProductOperator) (t : TokenKind) (p : Term (List ℕ)) (k : ProductContext) → o ≡ None
+product_steps : (o : Option ProductOperator) (t : TokenKind) (p : Expression (List ℕ)) (k : ProductContext) → o ≡ None
     → step_product_on o t p k ≡ step_summed t (product_done p k)
 product_steps o t p k h = rw h refl
 
 -- a product ends where it does not go on
-pub product_ends : (ts : List Token) (p : Term (List ℕ)) (k : ProductContext) → product_operator_at ts ≡ None
+pub product_ends : (ts : List Token) (p : Expression (List ℕ)) (k : ProductContext) → product_operator_at ts ≡ None
     → parse_expression ts (after_product p k) ≡ parse_expression ts (product_done p k)
 product_ends ts p k h = same_parsed ts (after_product p k) (product_done p k)
     (λ t e. product_steps (product_operator t) t p k (rw e at h) ∙ sym (summed_steps t p k)) (sym (summed_stops p k))
@@ -105,12 +105,12 @@ name_steps : (t : TokenKind) (x : List ℕ) (k : FactorContext) → IsNoIndex (S
 name_steps OpenBracket x k h = absurd h
 name_steps _ x k h = refl
 
-multiplied_steps : (t : TokenKind) (f : Term (List ℕ)) (k : FactorContext) → expression_step (factor_done f k) t ≡ step_multiplied t (factor_done f k)
+multiplied_steps : (t : TokenKind) (f : Expression (List ℕ)) (k : FactorContext) → expression_step (factor_done f k) t ≡ step_multiplied t (factor_done f k)
 multiplied_steps t f (first_factor k) = refl
 multiplied_steps t f (next_factor o p k) = refl
 multiplied_steps t f (negative k) = multiplied_steps t (Negative f) k
 
-multiplied_stops : (f : Term (List ℕ)) (k : FactorContext) → whole_at (factor_done f k) ≡ ends_multiplied (factor_done f k)
+multiplied_stops : (f : Expression (List ℕ)) (k : FactorContext) → whole_at (factor_done f k) ≡ ends_multiplied (factor_done f k)
 multiplied_stops f (first_factor k) = refl
 multiplied_stops f (next_factor o p k) = refl
 multiplied_stops f (negative k) = multiplied_stops (Negative f) k
@@ -137,16 +137,16 @@ pub taken : (past_limit : Bool) (f : TextFault) (ts rest : List Token) → cond 
 taken true f ts rest e = absurd cc
 taken false f ts rest e = (refl, cc)
 
-product_goes_on : (o : Option ProductOperator) (operator : ProductOperator) (t : TokenKind) (p : Term (List ℕ)) (k : ProductContext) → o ≡ Some operator
+product_goes_on : (o : Option ProductOperator) (operator : ProductOperator) (t : TokenKind) (p : Expression (List ℕ)) (k : ProductContext) → o ≡ Some operator
     → step_product_on o t p k ≡ Some (at_factor (next_factor operator p k))
 product_goes_on o operator t p k h = rw h refl
 
-sum_goes_on : (o : Option SumOperator) (operator : SumOperator) (t : TokenKind) (s : Term (List ℕ)) (k : SumContext) → o ≡ Some operator
+sum_goes_on : (o : Option SumOperator) (operator : SumOperator) (t : TokenKind) (s : Expression (List ℕ)) (k : SumContext) → o ≡ Some operator
     → step_sum_on o t s k ≡ Some (at_factor (first_factor (next_product operator s k)))
 sum_goes_on o operator t s k h = rw h refl
 
 -- an operator that is taken goes on with a product
-pub takes_factor : (ts rest : List Token) (operator : ProductOperator) (p : Term (List ℕ)) (k : ProductContext) → product_operator_at ts ≡ Some operator
+pub takes_factor : (ts rest : List Token) (operator : ProductOperator) (p : Expression (List ℕ)) (k : ProductContext) → product_operator_at ts ≡ Some operator
     → tokens_after ts ≡ Ok rest → parse_expression ts (after_product p k) ≡ parse_expression rest (at_factor (next_factor operator p k))
 takes_factor [] rest operator p k h e = absurd cc
 takes_factor (t ∷ ts) rest operator p k h e =
@@ -154,7 +154,7 @@ takes_factor (t ∷ ts) rest operator p k h e =
     rw (product_goes_on (product_operator t.kind) operator t.kind p k h, i.0, i.1) refl
 
 -- an operator that is taken goes on with a sum
-pub takes_operand : (ts rest : List Token) (operator : SumOperator) (s : Term (List ℕ)) (k : SumContext) → sum_operator_at ts ≡ Some operator
+pub takes_operand : (ts rest : List Token) (operator : SumOperator) (s : Expression (List ℕ)) (k : SumContext) → sum_operator_at ts ≡ Some operator
     → tokens_after ts ≡ Ok rest → parse_expression ts (after_sum s k) ≡ parse_expression rest (at_factor (first_factor (next_product operator s k)))
 takes_operand [] rest operator s k h e = absurd cc
 takes_operand (t ∷ ts) rest operator s k h e =

@@ -1,8 +1,8 @@
 -- Reading a sum or a guard by itself, token by token. A state is what has been read and what is still owed.
 use Rattle.std.specs.Prelude.{ℕ, List, [], ◌∷◌, cond, Option, Some, None, Result, Ok, Err}
 use Rattle.fs_model.specs.declared.parts.Rel.{Rel}
-use Rattle.fs_model.specs.Terms.{Term, Variable, Read, Negative, Guard, Test, Not, And, Or}
-use Rattle.fs_model.specs.Terms as terms
+use Rattle.fs_model.specs.Expressions.{Expression, Variable, Read, Negative, Guard, Test, Not, And, Or}
+use Rattle.fs_model.specs.Expressions as expressions
 use Rattle.fs_grammar.specs.declared.fault.TextKind.TheVariants.{Operators}
 use Rattle.fs_grammar.specs.declared.fault.TextFault.{TextFault}
 use Rattle.fs_grammar.specs.declared.token.TokenKind.{TokenKind}
@@ -12,7 +12,7 @@ use Rattle.fs_grammar.specs.declared.token.Token.{Token}
 use Rattle.fs_grammar.specs.Tokens.{refusal, fault_at}
 use Rattle.fs_expression_text.specs.declared.operators.ProductOperator.{ProductOperator}
 use Rattle.fs_expression_text.specs.declared.operators.SumOperator.{SumOperator}
-use Rattle.fs_expression_text.specs.TermOperators.{product_operator, sum_operator, product_term, sum_term}
+use Rattle.fs_expression_text.specs.ExpressionOperators.{product_operator, sum_operator, product_expression, sum_expression}
 
 -- what a unit, a conjunction and a guard are read for
 mutual
@@ -33,18 +33,18 @@ mutual
 mutual
   pub data FactorContext : Type 0 where
     first_factor : ProductContext → FactorContext
-    next_factor : ProductOperator → Term (List ℕ) → ProductContext → FactorContext
+    next_factor : ProductOperator → Expression (List ℕ) → ProductContext → FactorContext
     negative : FactorContext → FactorContext
 
   pub data ProductContext : Type 0 where
     first_product : SumContext → ProductContext
-    next_product : SumOperator → Term (List ℕ) → SumContext → ProductContext
+    next_product : SumOperator → Expression (List ℕ) → SumContext → ProductContext
 
   pub data SumContext : Type 0 where
     parens : FactorContext → SumContext
     index : List ℕ → FactorContext → SumContext
     left : UnitContext → SumContext
-    right : Rel → Term (List ℕ) → UnitContext → SumContext
+    right : Rel → Expression (List ℕ) → UnitContext → SumContext
     sum_alone : SumContext
 
 -- a place between two tokens
@@ -54,8 +54,8 @@ pub data Inside : Type 0 where
   after_guard : Guard (List ℕ) → GuardContext → Inside
   at_factor : FactorContext → Inside
   after_name : List ℕ → FactorContext → Inside
-  after_product : Term (List ℕ) → ProductContext → Inside
-  after_sum : Term (List ℕ) → SumContext → Inside
+  after_product : Expression (List ℕ) → ProductContext → Inside
+  after_sum : Expression (List ℕ) → SumContext → Inside
 
 -- where a sum begins
 abbrev pub at_sum : SumContext → Inside
@@ -66,15 +66,15 @@ abbrev pub at_guard : GuardContext → Inside
 at_guard k = at_unit (first_of_all (first_of_any k))
 
 -- a factor has been read
-abbrev pub factor_done : Term (List ℕ) → FactorContext → Inside
+abbrev pub factor_done : Expression (List ℕ) → FactorContext → Inside
 factor_done f (first_factor k) = after_product f k
-factor_done f (next_factor o p k) = after_product (product_term o p f) k
+factor_done f (next_factor o p k) = after_product (product_expression o p f) k
 factor_done f (negative k) = factor_done (Negative f) k
 
 -- a product has been read, and does not go on
-abbrev pub product_done : Term (List ℕ) → ProductContext → Inside
+abbrev pub product_done : Expression (List ℕ) → ProductContext → Inside
 product_done p (first_product k) = after_sum p k
-product_done p (next_product o s k) = after_sum (sum_term o s p) k
+product_done p (next_product o s k) = after_sum (sum_expression o s p) k
 
 -- a unit has been read
 abbrev pub unit_done : Guard (List ℕ) → UnitContext → Inside
@@ -88,13 +88,13 @@ conjunction_done c (first_of_any k) = after_guard c k
 conjunction_done c (or_after g k) = after_guard (Or g c) k
 
 -- a literal has been read
-abbrev pub literal_done : Rel → Term (List ℕ) → Term (List ℕ) → UnitContext → Inside
+abbrev pub literal_done : Rel → Expression (List ℕ) → Expression (List ℕ) → UnitContext → Inside
 literal_done r a b k = unit_done (Test (record { relation = r; left = a; right = b })) k
 
 -- ---- which token can follow, and what it leads to
 
 abbrev pub step_factor : TokenKind → FactorContext → Option Inside
-step_factor (Number n) k = Some (factor_done (terms.Number n) k)
+step_factor (Number n) k = Some (factor_done (expressions.Number n) k)
 step_factor (Name x) k = Some (after_name x k)
 step_factor Minus k = Some (at_factor (negative k))
 step_factor OpenParen k = Some (at_sum (parens k))
@@ -125,18 +125,18 @@ step_joined t (after_conjunction c k) = step_conjunction t c k
 step_joined t _ = None
 
 -- after a sum that does not go on
-abbrev pub step_closed : TokenKind → Term (List ℕ) → SumContext → Option Inside
+abbrev pub step_closed : TokenKind → Expression (List ℕ) → SumContext → Option Inside
 step_closed CloseParen s (parens k) = Some (factor_done s k)
 step_closed CloseBracket s (index x k) = Some (factor_done (Read x s) k)
 step_closed (Relation r) s (left k) = Some (at_sum (right r s k))
 step_closed t s (right r l k) = step_joined t (literal_done r l s k)
 step_closed _ s k = None
 
-abbrev pub step_sum_on : Option SumOperator → TokenKind → Term (List ℕ) → SumContext → Option Inside
+abbrev pub step_sum_on : Option SumOperator → TokenKind → Expression (List ℕ) → SumContext → Option Inside
 step_sum_on (Some o) t s k = Some (at_factor (first_factor (next_product o s k)))
 step_sum_on None t s k = step_closed t s k
 
-abbrev pub step_sum : TokenKind → Term (List ℕ) → SumContext → Option Inside
+abbrev pub step_sum : TokenKind → Expression (List ℕ) → SumContext → Option Inside
 step_sum t s k = step_sum_on (sum_operator t) t s k
 
 -- after a sum that may go on
@@ -144,11 +144,11 @@ abbrev pub step_summed : TokenKind → Inside → Option Inside
 step_summed t (after_sum s k) = step_sum t s k
 step_summed t _ = None
 
-abbrev pub step_product_on : Option ProductOperator → TokenKind → Term (List ℕ) → ProductContext → Option Inside
+abbrev pub step_product_on : Option ProductOperator → TokenKind → Expression (List ℕ) → ProductContext → Option Inside
 step_product_on (Some o) t p k = Some (at_factor (next_factor o p k))
 step_product_on None t p k = step_summed t (product_done p k)
 
-abbrev pub step_product : TokenKind → Term (List ℕ) → ProductContext → Option Inside
+abbrev pub step_product : TokenKind → Expression (List ℕ) → ProductContext → Option Inside
 step_product t p k = step_product_on (product_operator t) t p k
 
 -- after a product that may go on
@@ -174,7 +174,7 @@ expression_step (after_sum s k) t = step_sum t s k
 
 -- a whole sum, or a whole guard
 pub data Whole : Type 0 where
-  whole_sum : Term (List ℕ) → Whole
+  whole_sum : Expression (List ℕ) → Whole
   whole_guard : Guard (List ℕ) → Whole
 
 abbrev pub ends_guard : Guard (List ℕ) → GuardContext → Option Whole
@@ -192,7 +192,7 @@ abbrev pub ends_joined : Inside → Option Whole
 ends_joined (after_conjunction c k) = ends_conjunction c k
 ends_joined _ = None
 
-abbrev pub ends_sum : Term (List ℕ) → SumContext → Option Whole
+abbrev pub ends_sum : Expression (List ℕ) → SumContext → Option Whole
 ends_sum s sum_alone = Some (whole_sum s)
 ends_sum s (right r l k) = ends_joined (literal_done r l s k)
 ends_sum s _ = None
@@ -201,7 +201,7 @@ abbrev pub ends_summed : Inside → Option Whole
 ends_summed (after_sum s k) = ends_sum s k
 ends_summed _ = None
 
-abbrev pub ends_product : Term (List ℕ) → ProductContext → Option Whole
+abbrev pub ends_product : Expression (List ℕ) → ProductContext → Option Whole
 ends_product p k = ends_summed (product_done p k)
 
 abbrev pub ends_multiplied : Inside → Option Whole

@@ -1,3 +1,3 @@
-pub mod TermOperators
+pub mod ExpressionOperators
 pub mod Inside
 pub mod Hosts

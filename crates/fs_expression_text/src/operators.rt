@@ -1,9 +1,10 @@
 //! Operators between two operands of a sum or a product.
 
 ghost use Rattle.std.specs.Prelude.{◌≡◌};
-ghost use Rattle.fs_model.specs.View.{named_term};
+ghost use Rattle.fs_model.specs.View.{named_expression};
 ghost use Rattle.fs_grammar.specs.Tokens.{MadeAs};
-ghost use Rattle.fs_expression_text.specs.TermOperators.{product_operator_at, sum_operator_at, product_term, sum_term};
+ghost use Rattle.fs_expression_text.specs.ExpressionOperators.{product_operator_at, sum_operator_at, product_expression};
+ghost use Rattle.fs_expression_text.specs.ExpressionOperators.{sum_expression};
 
 use fs_grammar::fault::ReadError;
 use fs_grammar::token::{Token, TokenKind, front};
@@ -56,7 +57,8 @@ pub fn make_product(
     left: Expr<Name>,
     right: Expr<Name>,
 ) -> Result<Expr<Name>, ReadError>
-    ensures { MadeAs result (λ e. named_term e ≡ product_term operator (named_term left) (named_term right)) }
+    ensures { MadeAs result (λ e. named_expression e
+        ≡ product_expression operator (named_expression left) (named_expression right)) }
 {
     let left = Box::new(alloc, left)?;
     let right = Box::new(alloc, right)?;
@@ -74,7 +76,7 @@ pub fn make_sum(
     left: Expr<Name>,
     right: Expr<Name>,
 ) -> Result<Expr<Name>, ReadError>
-    ensures { MadeAs result (λ e. named_term e ≡ sum_term operator (named_term left) (named_term right)) }
+    ensures { MadeAs result (λ e. named_expression e ≡ sum_expression operator (named_expression left) (named_expression right)) }
 {
     let left = Box::new(alloc, left)?;
     let right = Box::new(alloc, right)?;

@@ -1,12 +1,13 @@
 //! Sums, products and factors, by descent.
 
 ghost use Rattle.std.specs.Prelude.{◌≡◌, ◌<◌, ◌≤◌, ℕ, List, Some, None, length, IfOk};
-ghost use Rattle.fs_model.specs.Terms.{Term, Read, Negative};
-ghost use Rattle.fs_model.specs.View.{named_term};
+ghost use Rattle.fs_model.specs.Expressions.{Expression, Read, Negative};
+ghost use Rattle.fs_model.specs.View.{named_expression};
 ghost use Rattle.fs_grammar.specs.Tokens.{ParsesOn, MadeAs, kind_at};
 ghost use Rattle.fs_grammar.specs.declared.token.TokenKind.TheVariants.{Minus, OpenParen};
 ghost use Rattle.fs_grammar.specs.PartEnds.{EndsSum};
-ghost use Rattle.fs_expression_text.specs.TermOperators.{product_operator_at, sum_operator_at, product_term, sum_term};
+ghost use Rattle.fs_expression_text.specs.ExpressionOperators.{product_operator_at, sum_operator_at, product_expression};
+ghost use Rattle.fs_expression_text.specs.ExpressionOperators.{sum_expression};
 ghost use Rattle.fs_expression_text.specs.Inside.{FactorContext, ProductContext, SumContext, parse_expression, factor_done};
 ghost use Rattle.fs_expression_text.specs.Inside.{product_done, at_factor, after_name, after_product, at_sum, after_sum};
 ghost use Rattle.fs_expression_text.specs.Inside.{first_factor, parens, index};
@@ -23,7 +24,7 @@ use std::alloc::Global;
 // The parenthesis that closes a sum.
 fn close_paren(tokens: &[Token]) -> Result<&[Token], ReadError>
     requires { EndsSum tokens.now }
-    ensures goes { (s : Term (List ℕ)) (k : FactorContext)
+    ensures goes { (s : Expression (List ℕ)) (k : FactorContext)
         → ParsesOn result (parse_expression tokens.now (after_sum s (parens k))) (λ r. parse_expression r.now (factor_done s k)) }
     ensures shorter { IfOk result (λ r. length r.now < length tokens.now) }
 {
@@ -36,7 +37,7 @@ fn close_paren(tokens: &[Token]) -> Result<&[Token], ReadError>
 // The bracket that closes an index.
 fn close_bracket(tokens: &[Token]) -> Result<&[Token], ReadError>
     requires { EndsSum tokens.now }
-    ensures goes { (s : Term (List ℕ)) (x : List ℕ) (k : FactorContext)
+    ensures goes { (s : Expression (List ℕ)) (x : List ℕ) (k : FactorContext)
         → ParsesOn result (parse_expression tokens.now (after_sum s (index x k)))
         (λ r. parse_expression r.now (factor_done (Read x s) k)) }
     ensures shorter { IfOk result (λ r. length r.now < length tokens.now) }
@@ -48,13 +49,13 @@ fn close_bracket(tokens: &[Token]) -> Result<&[Token], ReadError>
 }
 
 fn element(alloc: Global, name: Name, index: Expr<Name>) -> Result<Expr<Name>, ReadError>
-    ensures { MadeAs result (λ e. named_term e ≡ Read name (named_term index)) }
+    ensures { MadeAs result (λ e. named_expression e ≡ Read name (named_expression index)) }
 {
     Ok(Expr::Read(name, Box::new(alloc, index)?))
 }
 
 fn negative(alloc: Global, value: Expr<Name>) -> Result<Expr<Name>, ReadError>
-    ensures { MadeAs result (λ e. named_term e ≡ Negative (named_term value)) }
+    ensures { MadeAs result (λ e. named_expression e ≡ Negative (named_expression value)) }
 {
     Ok(Expr::Neg(Box::new(alloc, value)?))
 }
@@ -62,7 +63,7 @@ fn negative(alloc: Global, value: Expr<Name>) -> Result<Expr<Name>, ReadError>
 #[cycle(sums)]
 fn factor(alloc: Global, tokens: &[Token]) -> Result<(Expr<Name>, &[Token]), ReadError>
     ensures goes { (k : FactorContext) → ParsesOn result (parse_expression tokens.now (at_factor k))
-        (λ x. parse_expression x.1.now (factor_done (named_term x.0) k)) }
+        (λ x. parse_expression x.1.now (factor_done (named_expression x.0) k)) }
     ensures shorter { IfOk result (λ x. length x.1.now < length tokens.now) }
 {
     match front(tokens) {
@@ -87,7 +88,7 @@ fn factor(alloc: Global, tokens: &[Token]) -> Result<(Expr<Name>, &[Token]), Rea
 fn factor_after_minus(alloc: Global, tokens: &[Token]) -> Result<(Expr<Name>, &[Token]), ReadError>
     requires { kind_at tokens.now ≡ Some Minus }
     ensures goes { (k : FactorContext) → ParsesOn result (parse_expression tokens.now (at_factor k))
-        (λ x. parse_expression x.1.now (factor_done (named_term x.0) k)) }
+        (λ x. parse_expression x.1.now (factor_done (named_expression x.0) k)) }
     ensures shorter { IfOk result (λ x. length x.1.now < length tokens.now) }
 {
     let rest = accept(tokens)?;
@@ -101,7 +102,7 @@ fn factor_after_minus(alloc: Global, tokens: &[Token]) -> Result<(Expr<Name>, &[
 fn sum_in_parentheses(alloc: Global, tokens: &[Token]) -> Result<(Expr<Name>, &[Token]), ReadError>
     requires { kind_at tokens.now ≡ Some OpenParen }
     ensures goes { (k : FactorContext) → ParsesOn result (parse_expression tokens.now (at_factor k))
-        (λ x. parse_expression x.1.now (factor_done (named_term x.0) k)) }
+        (λ x. parse_expression x.1.now (factor_done (named_expression x.0) k)) }
     ensures shorter { IfOk result (λ x. length x.1.now < length tokens.now) }
 {
     let rest = accept(tokens)?;
@@ -119,7 +120,7 @@ fn variable(
     tokens: &[Token],
 ) -> Result<(Expr<Name>, &[Token]), ReadError>
     ensures goes { (k : FactorContext) → ParsesOn result (parse_expression tokens.now (after_name name k))
-        (λ x. parse_expression x.1.now (factor_done (named_term x.0) k)) }
+        (λ x. parse_expression x.1.now (factor_done (named_expression x.0) k)) }
     ensures shorter { IfOk result (λ x. length x.1.now ≤ length tokens.now) }
 {
     match front(tokens) {
@@ -139,7 +140,7 @@ fn element_after_bracket(
     tokens: &[Token],
 ) -> Result<(Expr<Name>, &[Token]), ReadError>
     ensures goes { (k : FactorContext) → ParsesOn result (parse_expression tokens.now (at_sum (index name k)))
-        (λ x. parse_expression x.1.now (factor_done (named_term x.0) k)) }
+        (λ x. parse_expression x.1.now (factor_done (named_expression x.0) k)) }
     ensures shorter { IfOk result (λ x. length x.1.now < length tokens.now) }
 {
     let (index, rest) = sum(alloc, tokens)?;
@@ -151,7 +152,7 @@ fn element_after_bracket(
 #[cycle(sums)]
 fn product(alloc: Global, tokens: &[Token]) -> Result<(Expr<Name>, &[Token]), ReadError>
     ensures goes { (k : ProductContext) → ParsesOn result (parse_expression tokens.now (at_factor (first_factor k)))
-        (λ x. parse_expression x.1.now (after_product (named_term x.0) k)) }
+        (λ x. parse_expression x.1.now (after_product (named_expression x.0) k)) }
     ensures shorter { IfOk result (λ x. length x.1.now < length tokens.now) }
     ensures ends { IfOk result (λ x. product_operator_at x.1.now ≡ None) }
 {
@@ -173,9 +174,9 @@ fn further_factor(
     tokens: &[Token],
 ) -> Result<(Expr<Name>, &[Token]), ReadError>
     requires { product_operator_at tokens.now ≡ Some operator }
-    ensures goes { (p : Term (List ℕ)) (k : ProductContext)
+    ensures goes { (p : Expression (List ℕ)) (k : ProductContext)
         → ParsesOn result (parse_expression tokens.now (after_product p k))
-        (λ x. parse_expression x.1.now (after_product (product_term operator p (named_term x.0)) k)) }
+        (λ x. parse_expression x.1.now (after_product (product_expression operator p (named_expression x.0)) k)) }
     ensures shorter { IfOk result (λ x. length x.1.now < length tokens.now) }
 {
     let rest = accept(tokens)?;
@@ -187,7 +188,7 @@ fn further_factor(
 #[tactic(auto, using(crate::proofs::Steps::product_ends))]
 fn operand(alloc: Global, tokens: &[Token]) -> Result<(Expr<Name>, &[Token]), ReadError>
     ensures goes { (k : ProductContext) → ParsesOn result (parse_expression tokens.now (at_factor (first_factor k)))
-        (λ x. parse_expression x.1.now (product_done (named_term x.0) k)) }
+        (λ x. parse_expression x.1.now (product_done (named_expression x.0) k)) }
     ensures shorter { IfOk result (λ x. length x.1.now < length tokens.now) }
 {
     let (value, rest) = product(alloc, tokens)?;
@@ -199,7 +200,7 @@ fn operand(alloc: Global, tokens: &[Token]) -> Result<(Expr<Name>, &[Token]), Re
 #[tactic(auto, using(crate::proofs::Steps::ends_sum))]
 pub fn sum(alloc: Global, tokens: &[Token]) -> Result<(Expr<Name>, &[Token]), ReadError>
     ensures goes { (k : SumContext) → ParsesOn result (parse_expression tokens.now (at_sum k))
-        (λ x. parse_expression x.1.now (after_sum (named_term x.0) k)) }
+        (λ x. parse_expression x.1.now (after_sum (named_expression x.0) k)) }
     ensures shorter { IfOk result (λ x. length x.1.now < length tokens.now) }
     ensures ends { IfOk result (λ x. EndsSum x.1.now) }
 {
@@ -221,9 +222,9 @@ fn further_operand(
     tokens: &[Token],
 ) -> Result<(Expr<Name>, &[Token]), ReadError>
     requires { sum_operator_at tokens.now ≡ Some operator }
-    ensures goes { (s : Term (List ℕ)) (k : SumContext)
+    ensures goes { (s : Expression (List ℕ)) (k : SumContext)
         → ParsesOn result (parse_expression tokens.now (after_sum s k))
-        (λ x. parse_expression x.1.now (after_sum (sum_term operator s (named_term x.0)) k)) }
+        (λ x. parse_expression x.1.now (after_sum (sum_expression operator s (named_expression x.0)) k)) }
     ensures shorter { IfOk result (λ x. length x.1.now < length tokens.now) }
 {
     let rest = accept(tokens)?;

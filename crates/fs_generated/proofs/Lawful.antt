@@ -16,7 +16,7 @@ use Rattle.fs_model.specs.Trees.{branches_of}
 use Rattle.fs_rules.specs.declared.check.CheckRule.TheVariants.{TooManyBranches}
 use Rattle.fs_rules.specs.declared.check.CheckFault.{CheckFault}
 use Rattle.fs_rules.specs.MachineOfParts.{variables_of, names_of, state_names, state_spelled, place_or_end, machine_of}
-use Rattle.fs_rules.specs.SoundParts.{branch_count, is_cutpoint, reaches_cutpoint, first_transition_target}
+use Rattle.fs_model.specs.SoundMachines.{branch_count, is_cutpoint, reaches_cutpoint, first_transition_target}
 use Rattle.fs_rules.specs.Rules.{repeated_lines, line_past_limit, declared_names, declared_states, state_faults, branches_too_often, broken_where, plain_faults}
 use Rattle.fs_rules.specs.Rules.{branch_faults}
 use Rattle.fs_rules.specs.Rules.{BreaksNoRule}
@@ -123,9 +123,9 @@ cut_next m (suc n) q some h = ap (λ b. is_cutpoint m q || b) (cut_here m n (fir
 lines_at : (round : ℕ → List SourceState) (n q : ℕ) (s : SourceState) → slice_get (generated_states round n) q ≡ Some s
     → transitions_of (machine_of (source round n)) q ≡ spelled (state_names (generated_states round n)) s
 lines_at round n q s e =
-    ap (λ t. t.lines)
+    ap (λ t. t.transitions)
     (index_map (state_spelled (names_of variables) (state_names (generated_states round n)))
-    (generated_states round n) q s (record { name = []; lines = [] }) e)
+    (generated_states round n) q s (record { name = []; transitions = [] }) e)
 
 forked : (round : ℕ → List SourceState) (n q : ℕ) (s : SourceState) → slice_get (generated_states round n) q ≡ Some s
     → forks (state_names (generated_states round n)) s ≡ true → is_cutpoint (machine_of (source round n)) q ≡ true

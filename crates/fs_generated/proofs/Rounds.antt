@@ -4,12 +4,12 @@ use Rattle.std.specs.Prelude.{map, not, ◌||◌, nat_lt, pos, int_lt}
 use Rattle.std.specs.List.{AllByRecursion}
 use Rattle.std.proofs.lemmas.Bool.Decides.{nat_tests}
 use Rattle.fs_model.specs.declared.parts.VarInfo.{VarInfo}
-use Rattle.fs_model.specs.Terms.{Transition}
+use Rattle.fs_model.specs.Expressions.{Transition}
 use Rattle.fs_model.specs.Source.{SourceState}
 use Rattle.fs_model.specs.Trees.{branches_of}
 use Rattle.fs_model.specs.WellFormed.{is_well_formed_state}
 use Rattle.fs_rules.specs.MachineOfParts.{variables_of, names_of, transition_spelled, place_or_end}
-use Rattle.fs_rules.specs.SoundParts.{first_transition_target}
+use Rattle.fs_model.specs.SoundMachines.{first_transition_target}
 use Rattle.fs_rules.specs.Rules.{state_faults, branches_too_often, declared_states}
 use Rattle.fs_generated.specs.declared.states.Side.{Side}
 use Rattle.fs_generated.specs.declared.states.Side.TheVariants.{Left, Right}
@@ -24,7 +24,7 @@ variables = variables_of declarations
 
 -- the transitions of a state over the places of names
 abbrev pub spelled : List (List ℕ) → SourceState → List (Transition ℕ ℕ)
-spelled names s = map (transition_spelled (names_of variables) names) s.lines
+spelled names s = map (transition_spelled (names_of variables) names) s.transitions
 
 -- whether a state has more than one branch
 abbrev pub forks : List (List ℕ) → SourceState → Bool

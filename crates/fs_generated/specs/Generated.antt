@@ -5,7 +5,7 @@ use Rattle.fs_model.specs.declared.parts.Role.{Role}
 use Rattle.fs_model.specs.declared.parts.Role.TheVariants.{Input, Output, Local}
 use Rattle.fs_model.specs.declared.parts.Sort.TheVariants.{Scalar}
 use Rattle.fs_model.specs.declared.parts.Rel.TheVariants.{Gt}
-use Rattle.fs_model.specs.Terms.{Term, Number, Variable, Sum, Difference, Guard, Test, Assignment, Assign}
+use Rattle.fs_model.specs.Expressions.{Expression, Number, Variable, Sum, Difference, Guard, Test, Assignment, Assign}
 use Rattle.fs_model.specs.Source.{Declaration, SourceTransition, SourceState, Source}
 
 -- the last three decimal digits of a number
@@ -38,10 +38,10 @@ transition guard target assignments = record {
 }
 
 abbrev pub state : List ℕ → List SourceTransition → SourceState
-state name lines = record { line = 1; name = name; lines = lines }
+state name lines = record { line = 1; name = name; transitions = lines }
 
 -- a variable of one letter gets a value
-abbrev pub letter_assignment : ℕ → Term (List ℕ) → Assignment (List ℕ)
+abbrev pub letter_assignment : ℕ → Expression (List ℕ) → Assignment (List ℕ)
 letter_assignment letter value = Assign (letter ∷ []) value
 
 -- i > 0
@@ -49,12 +49,12 @@ abbrev pub turns_are_left : Guard (List ℕ)
 turns_are_left = Test (record { relation = Gt; left = Variable (codes "i"); right = Number (pos 0) })
 
 -- b + k
-abbrev pub summand : ℕ → Term (List ℕ)
+abbrev pub summand : ℕ → Expression (List ℕ)
 summand k = Sum (Variable (codes "b")) (Number (pos k))
 
--- s = s + term
-abbrev pub add_to_sum : Term (List ℕ) → Assignment (List ℕ)
-add_to_sum term = Assign (codes "s") (Sum (Variable (codes "s")) term)
+-- s = s + expression
+abbrev pub add_to_sum : Expression (List ℕ) → Assignment (List ℕ)
+add_to_sum expression = Assign (codes "s") (Sum (Variable (codes "s")) expression)
 
 -- i = i - 1
 abbrev pub count_down : Assignment (List ℕ)

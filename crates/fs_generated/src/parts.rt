@@ -2,8 +2,8 @@
 
 ghost use Rattle.std.specs.Prelude.{◌≡◌, ◌∷◌, ◌++◌, [], true, map, IfOk, Some, None};
 ghost use Rattle.fs_model.specs.Words.{is_name};
-ghost use Rattle.fs_model.specs.Terms.{Variable, Sum};
-ghost use Rattle.fs_model.specs.View.{named_term, named_guard, named_assignment, source_transition_of};
+ghost use Rattle.fs_model.specs.Expressions.{Variable, Sum};
+ghost use Rattle.fs_model.specs.View.{named_expression, named_guard, named_assignment, source_transition_of};
 ghost use Rattle.fs_generated.specs.Generated.{letter_assignment, transition, turns_are_left, summand, add_to_sum, count_down};
 ghost use Rattle.fs_generated.specs.Generated.{take_summand};
 
@@ -15,7 +15,7 @@ use std::alloc::Global;
 
 pub fn variable(alloc: Global, letter: u8) -> Result<Expr<Name>, NoMemory>
     requires { is_name (letter ∷ []) ≡ true }
-    ensures { IfOk result (λ e. named_term e ≡ Variable (letter ∷ [])) }
+    ensures { IfOk result (λ e. named_expression e ≡ Variable (letter ∷ [])) }
 {
     Ok(Expr::Var(short_name(alloc, letter)?))
 }
@@ -23,7 +23,7 @@ pub fn variable(alloc: Global, letter: u8) -> Result<Expr<Name>, NoMemory>
 // A variable and an expression, added.
 fn sum(alloc: Global, letter: u8, value: Expr<Name>) -> Result<Expr<Name>, NoMemory>
     requires { is_name (letter ∷ []) ≡ true }
-    ensures { IfOk result (λ e. named_term e ≡ Sum (Variable (letter ∷ [])) (named_term value)) }
+    ensures { IfOk result (λ e. named_expression e ≡ Sum (Variable (letter ∷ [])) (named_expression value)) }
 {
     let (own, value) = both_boxed(alloc, variable(alloc, letter)?, value)?;
     Ok(Expr::Add(own, value))
@@ -31,14 +31,14 @@ fn sum(alloc: Global, letter: u8, value: Expr<Name>) -> Result<Expr<Name>, NoMem
 
 // `b + k`
 pub fn summand(alloc: Global, k: u32) -> Result<Expr<Name>, NoMemory>
-    ensures { IfOk result (λ e. named_term e ≡ summand k) }
+    ensures { IfOk result (λ e. named_expression e ≡ summand k) }
 {
     sum(alloc, b'b', Expr::Num(i128::from(k)))
 }
 
 pub fn assign(alloc: Global, letter: u8, value: Expr<Name>) -> Result<Assign<Name>, NoMemory>
     requires { is_name (letter ∷ []) ≡ true }
-    ensures { IfOk result (λ a. named_assignment a ≡ letter_assignment letter (named_term value)) }
+    ensures { IfOk result (λ a. named_assignment a ≡ letter_assignment letter (named_expression value)) }
 {
     Ok(Assign::Set(short_name(alloc, letter)?, value))
 }
@@ -52,7 +52,7 @@ pub fn take_summand(alloc: Global, k: u32) -> Result<Assign<Name>, NoMemory>
 
 // `s = s + value`
 pub fn add_to_sum(alloc: Global, value: Expr<Name>) -> Result<Assign<Name>, NoMemory>
-    ensures { IfOk result (λ a. named_assignment a ≡ add_to_sum (named_term value)) }
+    ensures { IfOk result (λ a. named_assignment a ≡ add_to_sum (named_expression value)) }
 {
     assign(alloc, b's', sum(alloc, b's', value)?)
 }

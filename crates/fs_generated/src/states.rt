@@ -2,7 +2,7 @@
 
 ghost use Rattle.std.specs.Prelude.{◌≡◌, ◌<◌, ◌≤◌, ◌+◌, ◌∷◌, ◌++◌, [], true, map, codes, None, IfOk};
 ghost use Rattle.fs_model.specs.Words.{is_name};
-ghost use Rattle.fs_model.specs.Terms.{Variable};
+ghost use Rattle.fs_model.specs.Expressions.{Variable};
 ghost use Rattle.fs_model.specs.View.{named_assignment, source_transition_of, source_state_of};
 ghost use Rattle.fs_generated.specs.Generated.{state, entry_name, head_name, body_name, summand, take_summand, add_to_sum};
 ghost use Rattle.fs_generated.specs.Generated.{count_down, entry_state, head, body_state, last_state, generated_states};

@@ -6,8 +6,8 @@ use Rattle.fs_model.specs.declared.parts.Role.{Role}
 use Rattle.fs_model.specs.declared.parts.Role.TheVariants.{Local}
 use Rattle.fs_model.specs.declared.parts.Sort.{Sort}
 use Rattle.fs_model.specs.declared.parts.Sort.TheVariants as sorts
-use Rattle.fs_model.specs.Terms.{Term, Guard, Test, Assignment, Assign}
-use Rattle.fs_model.specs.Terms as terms
+use Rattle.fs_model.specs.Expressions.{Expression, Guard, Test, Assignment, Assign}
+use Rattle.fs_model.specs.Expressions as expressions
 use Rattle.fs_model.specs.Source.{Declaration, SourceTransition, SourceState, Source}
 use Rattle.fs_grammar.specs.Formats.{format_number}
 use Rattle.fs_grammar.specs.Grammar.{Destination}
@@ -114,7 +114,7 @@ between : (r q : Rule) (n : ℕ) (t : TokenKind) (a b : List Word) → Tree r a 
 between r q n t a b s u = rule_tree r s (token_tree n t (end_tree q b u))
 
 mutual
-  factor_tree : (f : Term (List ℕ)) (a : List Word) → IsFactor f a → Tree rules.factor a
+  factor_tree : (f : Expression (List ℕ)) (a : List Word) → IsFactor f a → Tree rules.factor a
   factor_tree _ _ (spelling.number n i) = node rules.factor (rules.number i) (token_tree n (Number i) no_tree)
   factor_tree _ _ (spelling.variable n x) = node rules.factor (rules.variable x) (token_tree n (Name x) no_tree)
   factor_tree _ _ (spelling.read n m k x {s} {a} d) = node rules.factor (rules.read x)
@@ -123,7 +123,7 @@ mutual
   factor_tree _ _ (spelling.group n m {s} {a} d) = node rules.factor rules.group
       (token_tree n OpenParen (rule_tree rules.sum (sum_tree s a d) (token_tree m CloseParen no_tree)))
 
-  product_tree : (p : Term (List ℕ)) (a : List Word) → IsProduct p a → Tree rules.product a
+  product_tree : (p : Expression (List ℕ)) (a : List Word) → IsProduct p a → Tree rules.product a
   product_tree _ _ (spelling.factor {f} {a} d) = node rules.product rules.one_factor (end_tree rules.factor a (factor_tree f a d))
   product_tree _ _ (spelling.times n {p} {f} {a} {b} d e) =
       node rules.product rules.times (between rules.product rules.factor n Star a b (product_tree p a d) (factor_tree f b e))
@@ -132,7 +132,7 @@ mutual
   product_tree _ _ (spelling.remainder_of n {p} {f} {a} {b} d e) =
       node rules.product rules.remainder_of (between rules.product rules.factor n Percent a b (product_tree p a d) (factor_tree f b e))
 
-  sum_tree : (s : Term (List ℕ)) (a : List Word) → IsSum s a → Tree rules.sum a
+  sum_tree : (s : Expression (List ℕ)) (a : List Word) → IsSum s a → Tree rules.sum a
   sum_tree _ _ (spelling.product {p} {a} d) = node rules.sum rules.one_product (end_tree rules.product a (product_tree p a d))
   sum_tree _ _ (spelling.plus n {s} {p} {a} {b} d e) = node rules.sum rules.plus
       (between rules.sum rules.product n Plus a b (sum_tree s a d) (product_tree p b e))
@@ -332,14 +332,14 @@ front_begins r a b h = tree_front r (a ++ b) (tree r (a ++ b) h) a b refl
 abbrev zero_word : Word
 zero_word = at 0 (Number (pos 0))
 
-zero_sum : IsSum (terms.Number (pos 0)) (zero_word ∷ [])
+zero_sum : IsSum (expressions.Number (pos 0)) (zero_word ∷ [])
 zero_sum = spelling.product (spelling.factor (spelling.number 0 (pos 0)))
 
-zero_unit : IsUnit (Test (record { relation = Eq; left = terms.Number (pos 0); right = terms.Number (pos 0) }))
+zero_unit : IsUnit (Test (record { relation = Eq; left = expressions.Number (pos 0); right = expressions.Number (pos 0) }))
     (zero_word ∷ at 0 (Relation Eq) ∷ zero_word ∷ [])
 zero_unit = spelling.literal 0 Eq zero_sum zero_sum
 
-zero_assignment : (f : Format) → IsAssignment f (Assign [] (terms.Number (pos 0))) (at 0 (Name []) ∷ at 0 Equals ∷ zero_word ∷ [])
+zero_assignment : (f : Format) → IsAssignment f (Assign [] (expressions.Number (pos 0))) (at 0 (Name []) ∷ at 0 Equals ∷ zero_word ∷ [])
 zero_assignment f = spelling.assign f 0 (spelling.scalar_name 0 []) zero_sum
 
 -- some spelling of each rule

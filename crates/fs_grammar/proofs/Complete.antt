@@ -6,7 +6,7 @@ use Rattle.fs_model.specs.declared.parts.Role.{Role}
 use Rattle.fs_model.specs.declared.parts.Role.TheVariants.{Output}
 use Rattle.fs_model.specs.declared.parts.Sort.{Sort}
 use Rattle.fs_model.specs.declared.parts.Sort.TheVariants as sorts
-use Rattle.fs_model.specs.Terms.{Term, Variable, Guard, Assignment}
+use Rattle.fs_model.specs.Expressions.{Expression, Variable, Guard, Assignment}
 use Rattle.fs_model.specs.Source.{Declaration, SourceTransition, SourceState, Source}
 use Rattle.fs_grammar.specs.declared.format.Format.{Format}
 use Rattle.fs_grammar.specs.declared.format.Format.TheVariants.{One, Two}
@@ -43,11 +43,11 @@ name_ends : (n : ℕ) (t : TokenKind) (rest : List Word) (x : List ℕ) (k : Fac
     → walk (at n t ∷ rest) (after_name x k) ≡ walk (at n t ∷ rest) (factor_done (Variable x) k)
 name_ends n t rest x k h = alike n t rest (after_name x k) (factor_done (Variable x) k) (name_steps n t x k h)
 
-product_ends : (n : ℕ) (t : TokenKind) (rest : List Word) (p : Term (List ℕ)) (k : ProductContext) → IsNoProduct (Some t)
+product_ends : (n : ℕ) (t : TokenKind) (rest : List Word) (p : Expression (List ℕ)) (k : ProductContext) → IsNoProduct (Some t)
     → walk (at n t ∷ rest) (after_product p k) ≡ walk (at n t ∷ rest) (product_done p k)
 product_ends n t rest p k h = alike n t rest (after_product p k) (product_done p k) (product_steps n t p k h)
 
-literal_ends : (n : ℕ) (t : TokenKind) (rest : List Word) (r : Rel) (l s : Term (List ℕ)) (k : UnitContext) → IsNoSum (Some t)
+literal_ends : (n : ℕ) (t : TokenKind) (rest : List Word) (r : Rel) (l s : Expression (List ℕ)) (k : UnitContext) → IsNoSum (Some t)
     → walk (at n t ∷ rest) (after_sum s (right r l k)) ≡ walk (at n t ∷ rest) (literal_done r l s k)
 literal_ends n t rest r l s k h = alike n t rest (after_sum s (right r l k)) (literal_done r l s k) (literal_steps n t r l s k h)
 
@@ -58,7 +58,8 @@ conjunction_ends n t rest c k h = alike n t rest (after_conjunction c k) (conjun
 -- ---- sums
 
 mutual
-  pub factor_walks : (f : Term (List ℕ)) (a : List Word) → IsFactor f a → (n : ℕ) (t : TokenKind) (rest : List Word) (k : FactorContext) → IsNoIndex (Some t)
+  pub factor_walks : (f : Expression (List ℕ)) (a : List Word) → IsFactor f a → (n : ℕ) (t : TokenKind) (rest : List Word) (k : FactorContext)
+      → IsNoIndex (Some t)
       → walk (a ++ (at n t ∷ rest)) (at_factor k) ≡ walk (at n t ∷ rest) (factor_done f k)
   factor_walks _ _ (number i v) n t rest k h = refl
   factor_walks _ _ (variable i x) n t rest k h = name_ends n t rest x k h
@@ -68,7 +69,8 @@ mutual
   factor_walks _ _ (group i m {s} {a} d) n t rest k h = regroup a (at m CloseParen ∷ []) (at n t ∷ rest) (at_sum (parens k))
       ∙ sum_walks s a d m CloseParen (at n t ∷ rest) (parens k) tt tt
 
-  pub product_walks : (p : Term (List ℕ)) (a : List Word) → IsProduct p a → (n : ℕ) (t : TokenKind) (rest : List Word) (k : ProductContext) → IsNoIndex (Some t)
+  pub product_walks : (p : Expression (List ℕ)) (a : List Word) → IsProduct p a → (n : ℕ) (t : TokenKind) (rest : List Word) (k : ProductContext)
+      → IsNoIndex (Some t)
       → walk (a ++ (at n t ∷ rest)) (at_factor (first_factor k)) ≡ walk (at n t ∷ rest) (after_product p k)
   product_walks _ _ (factor {f} {a} d) n t rest k h = factor_walks f a d n t rest (first_factor k) h
   product_walks _ _ (times m {p} {f} {a} {b} d e) n t rest k h = regroup a (at m Star ∷ b) (at n t ∷ rest) (at_factor (first_factor k))
@@ -78,7 +80,7 @@ mutual
   product_walks _ _ (remainder_of m {p} {f} {a} {b} d e) n t rest k h = regroup a (at m Percent ∷ b) (at n t ∷ rest) (at_factor (first_factor k))
       ∙ product_walks p a d m Percent (b ++ (at n t ∷ rest)) k tt ∙ factor_walks f b e n t rest (machine.remainder_of p k) h
 
-  pub sum_walks : (s : Term (List ℕ)) (a : List Word) → IsSum s a → (n : ℕ) (t : TokenKind) (rest : List Word) (k : SumContext) → IsNoIndex (Some t)
+  pub sum_walks : (s : Expression (List ℕ)) (a : List Word) → IsSum s a → (n : ℕ) (t : TokenKind) (rest : List Word) (k : SumContext) → IsNoIndex (Some t)
       → IsNoProduct (Some t) → walk (a ++ (at n t ∷ rest)) (at_sum k) ≡ walk (at n t ∷ rest) (after_sum s k)
   sum_walks _ _ (product {p} {a} d) n t rest k h i = product_walks p a d n t rest (first_product k) h ∙ product_ends n t rest p (first_product k) i
   sum_walks _ _ (plus m {s} {p} {a} {b} d e) n t rest k h i = regroup a (at m Plus ∷ b) (at n t ∷ rest) (at_sum k)
@@ -89,7 +91,7 @@ mutual
 
 -- ---- a sum begins a unit as it begins a literal
 
-factor_opens : (f : Term (List ℕ)) (a : List Word) → IsFactor f a → (rest : List Word) (k : UnitContext)
+factor_opens : (f : Expression (List ℕ)) (a : List Word) → IsFactor f a → (rest : List Word) (k : UnitContext)
     → walk (a ++ rest) (at_unit k) ≡ walk (a ++ rest) (at_sum (left k))
 factor_opens _ _ (number n i) rest k = refl
 factor_opens _ _ (variable n x) rest k = refl
@@ -101,14 +103,14 @@ opens_longer : (a b rest : List Word) (k : UnitContext) → walk (a ++ (b ++ res
     → walk ((a ++ b) ++ rest) (at_unit k) ≡ walk ((a ++ b) ++ rest) (at_sum (left k))
 opens_longer a b rest k e = regroup a b rest (at_unit k) ∙ e ∙ sym (regroup a b rest (at_sum (left k)))
 
-product_opens : (p : Term (List ℕ)) (a : List Word) → IsProduct p a → (rest : List Word) (k : UnitContext)
+product_opens : (p : Expression (List ℕ)) (a : List Word) → IsProduct p a → (rest : List Word) (k : UnitContext)
     → walk (a ++ rest) (at_unit k) ≡ walk (a ++ rest) (at_sum (left k))
 product_opens _ _ (factor {f} {a} d) rest k = factor_opens f a d rest k
 product_opens _ _ (times m {p} {f} {a} {b} d e) rest k = opens_longer a (at m Star ∷ b) rest k (product_opens p a d (at m Star ∷ (b ++ rest)) k)
 product_opens _ _ (divides m {p} {f} {a} {b} d e) rest k = opens_longer a (at m Slash ∷ b) rest k (product_opens p a d (at m Slash ∷ (b ++ rest)) k)
 product_opens _ _ (remainder_of m {p} {f} {a} {b} d e) rest k = opens_longer a (at m Percent ∷ b) rest k (product_opens p a d (at m Percent ∷ (b ++ rest)) k)
 
-sum_opens : (s : Term (List ℕ)) (a : List Word) → IsSum s a → (rest : List Word) (k : UnitContext)
+sum_opens : (s : Expression (List ℕ)) (a : List Word) → IsSum s a → (rest : List Word) (k : UnitContext)
     → walk (a ++ rest) (at_unit k) ≡ walk (a ++ rest) (at_sum (left k))
 sum_opens _ _ (product {p} {a} d) rest k = product_opens p a d rest k
 sum_opens _ _ (plus m {s} {p} {a} {b} d e) rest k = opens_longer a (at m Plus ∷ b) rest k (sum_opens s a d (at m Plus ∷ (b ++ rest)) k)
@@ -116,12 +118,12 @@ sum_opens _ _ (minus m {s} {p} {a} {b} d e) rest k = opens_longer a (at m Minus 
 
 -- ---- guards
 
--- a token with which no term goes on
-abbrev EndsTerms : TokenKind → Type 0
-EndsTerms t = IsNoIndex (Some t) × IsNoProduct (Some t) × IsNoSum (Some t)
+-- a token with which no expression goes on
+abbrev EndsExpressions : TokenKind → Type 0
+EndsExpressions t = IsNoIndex (Some t) × IsNoProduct (Some t) × IsNoSum (Some t)
 
 mutual
-  pub unit_walks : (u : Guard (List ℕ)) (a : List Word) → IsUnit u a → (n : ℕ) (t : TokenKind) (rest : List Word) (k : UnitContext) → EndsTerms t
+  pub unit_walks : (u : Guard (List ℕ)) (a : List Word) → IsUnit u a → (n : ℕ) (t : TokenKind) (rest : List Word) (k : UnitContext) → EndsExpressions t
       → walk (a ++ (at n t ∷ rest)) (at_unit k) ≡ walk (at n t ∷ rest) (unit_done u k)
   unit_walks _ _ (not i {u} {a} d) n t rest k h = unit_walks u a d n t rest (machine.negates k) h
   unit_walks _ _ (braces i m {g} {a} d) n t rest k h = regroup a (at m CloseBrace ∷ []) (at n t ∷ rest) (at_guard (machine.braces k))
@@ -132,12 +134,12 @@ mutual
       ∙ sum_walks s b e n t rest (right r l k) h.0 h.1 ∙ literal_ends n t rest r l s k h.2
 
   pub conjunction_walks : (c : Guard (List ℕ)) (a : List Word) → IsConjunction c a → (n : ℕ) (t : TokenKind) (rest : List Word) (k : ConjunctionContext)
-      → EndsTerms t → walk (a ++ (at n t ∷ rest)) (at_unit (first_of_all k)) ≡ walk (at n t ∷ rest) (after_conjunction c k)
+      → EndsExpressions t → walk (a ++ (at n t ∷ rest)) (at_unit (first_of_all k)) ≡ walk (at n t ∷ rest) (after_conjunction c k)
   conjunction_walks _ _ (unit {u} {a} d) n t rest k h = unit_walks u a d n t rest (first_of_all k) h
   conjunction_walks _ _ (and m {c} {u} {a} {b} d e) n t rest k h = regroup a (at m AndAnd ∷ b) (at n t ∷ rest) (at_unit (first_of_all k))
       ∙ conjunction_walks c a d m AndAnd (b ++ (at n t ∷ rest)) k (tt, tt, tt) ∙ unit_walks u b e n t rest (machine.and_after c k) h
 
-  pub guard_walks : (g : Guard (List ℕ)) (a : List Word) → IsGuard g a → (n : ℕ) (t : TokenKind) (rest : List Word) (k : GuardContext) → EndsTerms t
+  pub guard_walks : (g : Guard (List ℕ)) (a : List Word) → IsGuard g a → (n : ℕ) (t : TokenKind) (rest : List Word) (k : GuardContext) → EndsExpressions t
       → IsNoAnd (Some t) → walk (a ++ (at n t ∷ rest)) (at_guard k) ≡ walk (at n t ∷ rest) (after_guard g k)
   guard_walks _ _ (conjunction {c} {a} d) n t rest k h i = conjunction_walks c a d n t rest (first_of_any k) h ∙ conjunction_ends n t rest c (first_of_any k) i
   guard_walks _ _ (or m {g} {c} {a} {b} d e) n t rest k h i =
@@ -149,7 +151,7 @@ mutual
 -- what follows a value is read as after the assignment, whether a comma or a semicolon
 assignment_walks : (f : Format) (x : Assignment (List ℕ)) (a : List Word) → IsAssignment f x a
     → (n : ℕ) (t : TokenKind) (rest : List Word) (o : OpenTransition) (r : Option ParseState) → f ≡ o.state.format → IsNoIndex (Some t) → IsNoProduct (Some t)
-    → ((d : Destination) (e : Term (List ℕ)) → destination_assignment d e ≡ x → walk (at n t ∷ rest) (after_sum e (value o d)) ≡ r)
+    → ((d : Destination) (e : Expression (List ℕ)) → destination_assignment d e ≡ x → walk (at n t ∷ rest) (after_sum e (value o d)) ≡ r)
     → walk (a ++ (at n t ∷ rest)) (at_assignment o) ≡ r
 assignment_walks _ _ _ (assign f m {e = e} {b = b} (scalar_name i x) q) n t rest o r g h k go = sum_walks e b q n t rest (value o (scalar x)) h k
     ∙ go (scalar x) e refl
@@ -175,7 +177,7 @@ semicolon_walks x a o h n rest = assignment_walks o.state.format x a h n Semicol
 
 -- a state of a format that is being read
 abbrev open_state : Format → Source → ℕ → List ℕ → List SourceTransition → OpenState
-open_state f s n x ls = record { format = f; source = s; state = record { line = n; name = x; lines = ls } }
+open_state f s n x ls = record { format = f; source = s; state = record { line = n; name = x; transitions = ls } }
 
 abbrev open_transition : OpenState → ℕ → Option (Guard (List ℕ)) → List ℕ → List (Assignment (List ℕ)) → OpenTransition
 open_transition d n g x xs = record { state = d; line = n; guard = g; target = x; assignments = xs }
@@ -232,7 +234,7 @@ transitions_walk : (f : Format) (ls : List SourceTransition) (a : List Word) →
 transitions_walk _ _ _ (no_transitions f) rest s n x = refl
 transitions_walk _ _ _ (more_transitions f {ls} {l} {a} {b} p q) rest s n x =
     regroup a b rest (at_transition (open_state f s n x [])) ∙ transitions_walk f ls a p (b ++ rest) s n x
-    ∙ transition_walks f l b q rest s (record { line = n; name = x; lines = ls })
+    ∙ transition_walks f l b q rest s (record { line = n; name = x; transitions = ls })
 
 abbrev stated : List Declaration → ℕ → List ℕ → List SourceState → Source
 stated ds n x ss = record { declarations = ds; reset_line = n; reset = x; states = ss }

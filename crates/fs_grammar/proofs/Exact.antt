@@ -3,7 +3,7 @@ use Rattle.std.proofs.Common.{◌≡◌, ℕ, Bool, true, false, cond, List, [],
 use Rattle.std.proofs.Common.{append_assoc, inl, inr}
 use Rattle.std.specs.Prelude.{◌⊎◌}
 use Rattle.std.proofs.lemmas.List.{append-nil}
-use Rattle.fs_model.specs.Terms.{Term, Variable, Sum, Difference, Product, Quotient, Remainder, Negative, Guard, Test, Not, And, Or}
+use Rattle.fs_model.specs.Expressions.{Expression, Variable, Sum, Difference, Product, Quotient, Remainder, Negative, Guard, Test, Not, And, Or}
 use Rattle.fs_model.specs.Source.{Source}
 use Rattle.fs_grammar.specs.declared.fault.TextPlace.{TextPlace}
 use Rattle.fs_grammar.specs.declared.fault.TextKind.{TextKind}
@@ -42,13 +42,13 @@ joined_none w h u (machine.negates k) = joined_none w h (Not u) k
 joined_none w h u (machine.first_of_all k) = h u k
 joined_none w h u (machine.and_after c k) = h (And c u) k
 
-summed_none : (w : TokenKind) → ((s : Term (List ℕ)) (k : SumContext) → step_sum w s k ≡ None) → (p : Term (List ℕ)) (k : ProductContext)
+summed_none : (w : TokenKind) → ((s : Expression (List ℕ)) (k : SumContext) → step_sum w s k ≡ None) → (p : Expression (List ℕ)) (k : ProductContext)
     → step_summed w (product_done p k) ≡ None
 summed_none w h p (machine.first_product k) = h p k
 summed_none w h p (machine.plus s k) = h (Sum s p) k
 summed_none w h p (machine.minus s k) = h (Difference s p) k
 
-multiplied_none : (w : TokenKind) → ((p : Term (List ℕ)) (k : ProductContext) → step_product w p k ≡ None) → (f : Term (List ℕ)) (k : FactorContext)
+multiplied_none : (w : TokenKind) → ((p : Expression (List ℕ)) (k : ProductContext) → step_product w p k ≡ None) → (f : Expression (List ℕ)) (k : FactorContext)
     → step_multiplied w (factor_done f k) ≡ None
 multiplied_none w h f (machine.first_factor k) = h f k
 multiplied_none w h f (machine.times p k) = h (Product p f) k
@@ -62,18 +62,18 @@ conjunction_bad j c k = guarded_none (Bad j) (λ g m. refl) c k
 conjunction_end : (c : Guard (List ℕ)) (k : ConjunctionContext) → step_conjunction End c k ≡ None
 conjunction_end c k = guarded_none End (λ g m. refl) c k
 
-sum_bad : (j : Flaw) (s : Term (List ℕ)) (k : SumContext) → step_sum (Bad j) s k ≡ None
+sum_bad : (j : Flaw) (s : Expression (List ℕ)) (k : SumContext) → step_sum (Bad j) s k ≡ None
 sum_bad j s (right r l k) = joined_none (Bad j) (conjunction_bad j) (Test (record { relation = r; left = l; right = s })) k
 sum_bad j s _ = refl
 
-sum_end : (s : Term (List ℕ)) (k : SumContext) → step_sum End s k ≡ None
+sum_end : (s : Expression (List ℕ)) (k : SumContext) → step_sum End s k ≡ None
 sum_end s (right r l k) = joined_none End conjunction_end (Test (record { relation = r; left = l; right = s })) k
 sum_end s _ = refl
 
-product_bad : (j : Flaw) (p : Term (List ℕ)) (k : ProductContext) → step_product (Bad j) p k ≡ None
+product_bad : (j : Flaw) (p : Expression (List ℕ)) (k : ProductContext) → step_product (Bad j) p k ≡ None
 product_bad j p k = summed_none (Bad j) (sum_bad j) p k
 
-product_end : (p : Term (List ℕ)) (k : ProductContext) → step_product End p k ≡ None
+product_end : (p : Expression (List ℕ)) (k : ProductContext) → step_product End p k ≡ None
 product_end p k = summed_none End sum_end p k
 
 bad_steps : (j : Flaw) (s : ParseState) (n : ℕ) → step s n (Bad j) ≡ None

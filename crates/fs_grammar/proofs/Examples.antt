@@ -1,7 +1,7 @@
 -- Examples of what is spelled.
 use Rattle.std.specs.Prelude.{ℕ, List, [], ◌∷◌}
 use Rattle.fs_model.specs.declared.parts.Rel.{Rel}
-use Rattle.fs_model.specs.Terms.{Variable, Difference, Test, Not, And}
+use Rattle.fs_model.specs.Expressions.{Variable, Difference, Test, Not, And}
 use Rattle.fs_grammar.specs.declared.token.TokenKind.TheVariants.{Name, Minus, Bang, AndAnd, Relation}
 use Rattle.fs_grammar.specs.Spelling.{at, IsProduct, factor, variable, IsSum, product, minus, IsUnit, not, literal, unit, and, IsGuard, conjunction}
 

@@ -4,7 +4,7 @@ use Rattle.std.specs.Prelude.{IsTrue}
 use Rattle.std.specs.List.{AllByRecursion}
 use Rattle.fs_model.specs.declared.parts.Role.{Role}
 use Rattle.fs_model.specs.declared.parts.Sort.{Sort}
-use Rattle.fs_model.specs.Terms.{Guard, Assignment}
+use Rattle.fs_model.specs.Expressions.{Guard, Assignment}
 use Rattle.fs_model.specs.Source.{Declaration, SourceTransition, SourceState, Source}
 use Rattle.fs_grammar.specs.declared.format.Format.{Format}
 use Rattle.fs_grammar.specs.declared.format.Format.TheVariants.{One, Two}

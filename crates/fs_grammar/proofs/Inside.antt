@@ -1,7 +1,7 @@
 -- The words of sums, guards and destinations.
 use Rattle.std.proofs.Common.{◌≡◌, ℕ, Bool, true, List, [], ◌∷◌, ◌++◌, refl}
 use Rattle.std.specs.List.{AllByRecursion}
-use Rattle.fs_model.specs.Terms.{Term, Guard}
+use Rattle.fs_model.specs.Expressions.{Expression, Guard}
 use Rattle.fs_grammar.specs.declared.token.TokenKind.{TokenKind}
 use Rattle.fs_grammar.specs.declared.token.TokenKind.TheVariants.{Name, Number, CloseParen, CloseBracket, CloseBrace, Plus, Minus, Star, Slash, Percent, AndAnd}
 use Rattle.fs_grammar.specs.declared.token.TokenKind.TheVariants.{OrOr, Relation}
@@ -39,20 +39,20 @@ each P Q go [] h = tt
 each P Q go (w ∷ ws) h = (go w h.0, each P Q go ws h.1)
 
 mutual
-  factor_inside : (f : Term (List ℕ)) (a : List Word) → IsFactor f a → AreInside a
+  factor_inside : (f : Expression (List ℕ)) (a : List Word) → IsFactor f a → AreInside a
   factor_inside _ _ (number n i) = (refl, tt)
   factor_inside _ _ (variable n x) = (refl, tt)
   factor_inside _ _ (read n m k x {s} {a} d) = (refl, (refl, joined IsInside a (at k CloseBracket ∷ []) (sum_inside s a d) (refl, tt)))
   factor_inside _ _ (negative n {f} {a} d) = (refl, factor_inside f a d)
   factor_inside _ _ (group n m {s} {a} d) = (refl, joined IsInside a (at m CloseParen ∷ []) (sum_inside s a d) (refl, tt))
 
-  product_inside : (p : Term (List ℕ)) (a : List Word) → IsProduct p a → AreInside a
+  product_inside : (p : Expression (List ℕ)) (a : List Word) → IsProduct p a → AreInside a
   product_inside _ _ (factor {f} {a} d) = factor_inside f a d
   product_inside _ _ (times n {p} {f} {a} {b} d e) = joined IsInside a (at n Star ∷ b) (product_inside p a d) (refl, factor_inside f b e)
   product_inside _ _ (divides n {p} {f} {a} {b} d e) = joined IsInside a (at n Slash ∷ b) (product_inside p a d) (refl, factor_inside f b e)
   product_inside _ _ (remainder_of n {p} {f} {a} {b} d e) = joined IsInside a (at n Percent ∷ b) (product_inside p a d) (refl, factor_inside f b e)
 
-  pub sum_inside : (s : Term (List ℕ)) (a : List Word) → IsSum s a → AreInside a
+  pub sum_inside : (s : Expression (List ℕ)) (a : List Word) → IsSum s a → AreInside a
   sum_inside _ _ (product {p} {a} d) = product_inside p a d
   sum_inside _ _ (plus n {s} {p} {a} {b} d e) = joined IsInside a (at n Plus ∷ b) (sum_inside s a d) (refl, product_inside p b e)
   sum_inside _ _ (minus n {s} {p} {a} {b} d e) = joined IsInside a (at n Minus ∷ b) (sum_inside s a d) (refl, product_inside p b e)

@@ -1,6 +1,6 @@
 -- Words spell one part at most.
 use Rattle.std.proofs.Common.{◌≡◌, ℕ, List, [], Some, sym, ◌∙◌}
-use Rattle.fs_model.specs.Terms.{Term, Guard}
+use Rattle.fs_model.specs.Expressions.{Expression, Guard}
 use Rattle.fs_model.specs.Source.{Source}
 use Rattle.fs_grammar.specs.declared.format.Format.{Format}
 use Rattle.fs_grammar.specs.declared.format.Format.TheVariants.{One}
@@ -33,13 +33,13 @@ some_conjunction =
     (record {
       format = One;
       source = record { declarations = []; reset_line = 0; reset = []; states = [] };
-      state = record { line = 0; name = []; lines = [] };
+      state = record { line = 0; name = []; transitions = [] };
     }) 0)
 
 abbrev some_product : ProductContext
 some_product = first_product (left (first_of_all some_conjunction))
 
-pub one_sum : (s r : Term (List ℕ)) (ws : List Word) → IsSum s ws → IsSum r ws → s ≡ r
+pub one_sum : (s r : Expression (List ℕ)) (ws : List Word) → IsSum s ws → IsSum r ws → s ≡ r
 one_sum s r ws h k =
     let same : Some (after_product s some_product) ≡ Some (after_product r some_product) =
     sym (sum_walks s ws h 0 CloseParen [] (parens (first_factor some_product)) tt tt)

@@ -1,8 +1,8 @@
 -- A part that ends without a token of its own goes on as what it is a part of, where the next token is none with which it goes on.
 use Rattle.std.proofs.Common.{◌≡◌, ℕ, List, Some, None, refl, sym, ◌∙◌}
 use Rattle.fs_model.specs.declared.parts.Rel.{Rel}
-use Rattle.fs_model.specs.Terms.{Term, Guard, Variable, Negative, Test}
-use Rattle.fs_model.specs.Terms as terms
+use Rattle.fs_model.specs.Expressions.{Expression, Guard, Variable, Negative, Test}
+use Rattle.fs_model.specs.Expressions as expressions
 use Rattle.fs_grammar.specs.declared.token.TokenKind.{TokenKind}
 use Rattle.fs_grammar.specs.declared.token.TokenKind.TheVariants.{OpenBracket, OpenBrace, Plus, Minus, Star, Slash, Percent, Bang, AndAnd}
 use Rattle.fs_grammar.specs.PartEnds.{IsNoSum, IsNoProduct, IsNoAnd, IsNoIndex, IsNoBrace}
@@ -15,7 +15,7 @@ use Rattle.fs_grammar.specs.Grammar.{step_sum, step_summed, step_product, step_m
 -- ---- a text may not end where a part has been read
 
 pub unit_stops : (u : Guard (List ℕ)) (k : UnitContext) → finish_source (unit_done u k) ≡ None
-unit_stops u (negates k) = unit_stops (terms.Not u) k
+unit_stops u (negates k) = unit_stops (expressions.Not u) k
 unit_stops u (first_of_all k) = refl
 unit_stops u (and_after c k) = refl
 
@@ -23,12 +23,12 @@ pub conjunction_stops : (c : Guard (List ℕ)) (k : ConjunctionContext) → fini
 conjunction_stops c (first_of_any k) = refl
 conjunction_stops c (or_after g k) = refl
 
-pub product_stops : (p : Term (List ℕ)) (k : ProductContext) → finish_source (product_done p k) ≡ None
+pub product_stops : (p : Expression (List ℕ)) (k : ProductContext) → finish_source (product_done p k) ≡ None
 product_stops p (first_product k) = refl
 product_stops p (plus s k) = refl
 product_stops p (minus s k) = refl
 
-pub factor_stops : (f : Term (List ℕ)) (k : FactorContext) → finish_source (factor_done f k) ≡ None
+pub factor_stops : (f : Expression (List ℕ)) (k : FactorContext) → finish_source (factor_done f k) ≡ None
 factor_stops f (first_factor k) = refl
 factor_stops f (times p k) = refl
 factor_stops f (divides p k) = refl
@@ -38,18 +38,18 @@ factor_stops f (negative k) = factor_stops (Negative f) k
 -- ---- units and conjunctions
 
 unit_joins : (n : ℕ) (t : TokenKind) (u : Guard (List ℕ)) (k : UnitContext) → step (unit_done u k) n t ≡ step_joined t (unit_done u k)
-unit_joins n t u (negates k) = unit_joins n t (terms.Not u) k
+unit_joins n t u (negates k) = unit_joins n t (expressions.Not u) k
 unit_joins n t u (first_of_all k) = refl
 unit_joins n t u (and_after c k) = refl
 
-sum_joins : (t : TokenKind) (r : Rel) (l s : Term (List ℕ)) (k : UnitContext) → IsNoSum (Some t)
+sum_joins : (t : TokenKind) (r : Rel) (l s : Expression (List ℕ)) (k : UnitContext) → IsNoSum (Some t)
     → step_sum t s (right r l k) ≡ step_joined t (literal_done r l s k)
 sum_joins Plus r l s k h = absurd h
 sum_joins Minus r l s k h = absurd h
 sum_joins _ r l s k h = refl
 
 -- a literal ends where its second sum does
-pub literal_steps : (n : ℕ) (t : TokenKind) (r : Rel) (l s : Term (List ℕ)) (k : UnitContext) → IsNoSum (Some t)
+pub literal_steps : (n : ℕ) (t : TokenKind) (r : Rel) (l s : Expression (List ℕ)) (k : UnitContext) → IsNoSum (Some t)
     → step (after_sum s (right r l k)) n t ≡ step (literal_done r l s k) n t
 literal_steps n t r l s k h = sum_joins t r l s k h ∙ sym (unit_joins n t (Test (record { relation = r; left = l; right = s })) k)
 
@@ -69,23 +69,23 @@ conjunction_steps n t c k h = and_ends t c k h ∙ sym (conjunction_joins n t c 
 
 -- ---- products and names
 
-product_joins : (n : ℕ) (t : TokenKind) (p : Term (List ℕ)) (k : ProductContext) → step (product_done p k) n t ≡ step_summed t (product_done p k)
+product_joins : (n : ℕ) (t : TokenKind) (p : Expression (List ℕ)) (k : ProductContext) → step (product_done p k) n t ≡ step_summed t (product_done p k)
 product_joins n t p (first_product k) = refl
 product_joins n t p (plus s k) = refl
 product_joins n t p (minus s k) = refl
 
-product_ends : (t : TokenKind) (p : Term (List ℕ)) (k : ProductContext) → IsNoProduct (Some t) → step_product t p k ≡ step_summed t (product_done p k)
+product_ends : (t : TokenKind) (p : Expression (List ℕ)) (k : ProductContext) → IsNoProduct (Some t) → step_product t p k ≡ step_summed t (product_done p k)
 product_ends Star p k h = absurd h
 product_ends Slash p k h = absurd h
 product_ends Percent p k h = absurd h
 product_ends _ p k h = refl
 
 -- a product ends where it does not go on
-pub product_steps : (n : ℕ) (t : TokenKind) (p : Term (List ℕ)) (k : ProductContext) → IsNoProduct (Some t)
+pub product_steps : (n : ℕ) (t : TokenKind) (p : Expression (List ℕ)) (k : ProductContext) → IsNoProduct (Some t)
     → step (after_product p k) n t ≡ step (product_done p k) n t
 product_steps n t p k h = product_ends t p k h ∙ sym (product_joins n t p k)
 
-factor_joins : (n : ℕ) (t : TokenKind) (f : Term (List ℕ)) (k : FactorContext) → step (factor_done f k) n t ≡ step_multiplied t (factor_done f k)
+factor_joins : (n : ℕ) (t : TokenKind) (f : Expression (List ℕ)) (k : FactorContext) → step (factor_done f k) n t ≡ step_multiplied t (factor_done f k)
 factor_joins n t f (first_factor k) = refl
 factor_joins n t f (times p k) = refl
 factor_joins n t f (divides p k) = refl

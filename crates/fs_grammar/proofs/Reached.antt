@@ -1,7 +1,7 @@
 -- What has been read at each place of the reading.
 use Rattle.std.specs.Prelude.{◌≡◌, ℕ, List, [], ◌∷◌, ◌++◌, Option}
 use Rattle.fs_model.specs.declared.parts.Rel.{Rel}
-use Rattle.fs_model.specs.Terms.{Term, Guard, Assignment}
+use Rattle.fs_model.specs.Expressions.{Expression, Guard, Assignment}
 use Rattle.fs_model.specs.Source.{Declaration, Source}
 use Rattle.fs_grammar.specs.declared.format.Format.{Format}
 use Rattle.fs_grammar.specs.declared.format.Format.TheVariants.{Two}
@@ -63,7 +63,7 @@ pub data AfterReset : Format → Source → List Word → Type 0 where
 
 pub data AfterState : OpenState → List Word → Type 0 where
   named : (f : Format) (n m : ℕ) (s : Source) (x : List ℕ) (a : List Word) → IsFile f s a
-      → AfterState (record { format = f; source = s; state = record { line = n; name = x; lines = [] } }) (a ++ (at n State ∷ at m (Name x) ∷ []))
+      → AfterState (record { format = f; source = s; state = record { line = n; name = x; transitions = [] } }) (a ++ (at n State ∷ at m (Name x) ∷ []))
 
 abbrev pub IsOpenState : OpenState → List Word → Type 0
 IsOpenState d ws = Cut (IsFile d.format d.source) (IsState d.format d.state) ws
@@ -110,19 +110,19 @@ mutual
 mutual
   pub data BeforeFactor : FactorContext → List Word → Type 0 where
     first_factor : (k : ProductContext) (a : List Word) → BeforeProduct k a → BeforeFactor (machine.first_factor k) a
-    times : (n : ℕ) (p : Term (List ℕ)) (k : ProductContext) (a b : List Word) → BeforeProduct k a → IsProduct p b
+    times : (n : ℕ) (p : Expression (List ℕ)) (k : ProductContext) (a b : List Word) → BeforeProduct k a → IsProduct p b
         → BeforeFactor (machine.times p k) (a ++ (b ++ at n Star ∷ []))
-    divides : (n : ℕ) (p : Term (List ℕ)) (k : ProductContext) (a b : List Word) → BeforeProduct k a → IsProduct p b
+    divides : (n : ℕ) (p : Expression (List ℕ)) (k : ProductContext) (a b : List Word) → BeforeProduct k a → IsProduct p b
         → BeforeFactor (machine.divides p k) (a ++ (b ++ at n Slash ∷ []))
-    remainder_of : (n : ℕ) (p : Term (List ℕ)) (k : ProductContext) (a b : List Word) → BeforeProduct k a → IsProduct p b
+    remainder_of : (n : ℕ) (p : Expression (List ℕ)) (k : ProductContext) (a b : List Word) → BeforeProduct k a → IsProduct p b
         → BeforeFactor (machine.remainder_of p k) (a ++ (b ++ at n Percent ∷ []))
     negative : (n : ℕ) (k : FactorContext) (a : List Word) → BeforeFactor k a → BeforeFactor (machine.negative k) (a ++ at n Minus ∷ [])
 
   pub data BeforeProduct : ProductContext → List Word → Type 0 where
     first_product : (k : SumContext) (a : List Word) → BeforeSum k a → BeforeProduct (machine.first_product k) a
-    plus : (n : ℕ) (s : Term (List ℕ)) (k : SumContext) (a b : List Word) → BeforeSum k a → IsSum s b
+    plus : (n : ℕ) (s : Expression (List ℕ)) (k : SumContext) (a b : List Word) → BeforeSum k a → IsSum s b
         → BeforeProduct (machine.plus s k) (a ++ (b ++ at n Plus ∷ []))
-    minus : (n : ℕ) (s : Term (List ℕ)) (k : SumContext) (a b : List Word) → BeforeSum k a → IsSum s b
+    minus : (n : ℕ) (s : Expression (List ℕ)) (k : SumContext) (a b : List Word) → BeforeSum k a → IsSum s b
         → BeforeProduct (machine.minus s k) (a ++ (b ++ at n Minus ∷ []))
 
   pub data BeforeSum : SumContext → List Word → Type 0 where
@@ -130,7 +130,7 @@ mutual
     index : (n m : ℕ) (x : List ℕ) (k : FactorContext) (a : List Word) → BeforeFactor k a
         → BeforeSum (machine.index x k) (a ++ (at n (Name x) ∷ at m OpenBracket ∷ []))
     left : (k : UnitContext) (a : List Word) → BeforeUnit k a → BeforeSum (machine.left k) a
-    right : (n : ℕ) (r : Rel) (l : Term (List ℕ)) (k : UnitContext) (a b : List Word) → BeforeUnit k a → IsSum l b
+    right : (n : ℕ) (r : Rel) (l : Expression (List ℕ)) (k : UnitContext) (a b : List Word) → BeforeUnit k a → IsSum l b
         → BeforeSum (machine.right r l k) (a ++ (b ++ at n (Relation r) ∷ []))
     write_index : (n m : ℕ) (o : OpenTransition) (x : List ℕ) (a : List Word) → IsOpenTransition o a
         → BeforeSum (machine.write_index o x) (a ++ (at n (Name x) ∷ at m OpenBracket ∷ []))

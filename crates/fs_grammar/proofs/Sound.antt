@@ -5,8 +5,9 @@ use Rattle.std.proofs.lemmas.List.{append-nil}
 use Rattle.fs_model.specs.declared.parts.Role.{Role}
 use Rattle.fs_model.specs.declared.parts.Role.TheVariants.{Output}
 use Rattle.fs_model.specs.declared.parts.Sort.TheVariants as sorts
-use Rattle.fs_model.specs.Terms.{Term, Variable, Read, Sum, Difference, Product, Quotient, Remainder, Negative, Guard, Test, Not, And, Or, Assignment}
-use Rattle.fs_model.specs.Terms as terms
+use Rattle.fs_model.specs.Expressions.{Expression, Variable, Read, Sum, Difference, Product, Quotient, Remainder, Negative, Guard, Test, Not, And, Or}
+use Rattle.fs_model.specs.Expressions.{Assignment}
+use Rattle.fs_model.specs.Expressions as expressions
 use Rattle.fs_model.specs.Source.{Declaration, SourceTransition, SourceState, Source}
 use Rattle.fs_grammar.specs.declared.format.Format.{Format}
 use Rattle.fs_grammar.specs.declared.format.Format.TheVariants.{One, Two}
@@ -58,7 +59,7 @@ file_more _ _ _ (grammar.file f i j k n m l ds x ss {a} {b = c} p q) t b h =
     (sym (append_assoc a (at n Reset ∷ at m (Name x) ∷ at l Semicolon ∷ c) b)) (grammar.file f i j k n m l ds x (ss ++ t ∷ []) p (grammar.more_states f q h))
 
 state_more : (f : Format) (s : SourceState) (a : List Word) → IsState f s a → (l : SourceTransition) (b : List Word) → IsTransition f l b
-    → IsState f (record s { lines = s.lines ++ l ∷ [] }) (a ++ b)
+    → IsState f (record s { transitions = s.transitions ++ l ∷ [] }) (a ++ b)
 state_more _ _ _ (grammar.state f n m k x ls p) l b h = grammar.state f n m k x (ls ++ l ∷ []) (grammar.more_transitions f p h)
 
 pub open_state_file : (d : OpenState) (ws : List Word) → IsOpenState d ws → IsFile d.format (with_open_state d) ws
@@ -143,7 +144,8 @@ semicolon_read o n ws h = transition_closed o n h.m h.a h.b (at h.n Colon ∷ h.
 
 -- ---- parts that are done
 
-factor_reached : (k : FactorContext) (a : List Word) → BeforeFactor k a → (f : Term (List ℕ)) (b : List Word) → IsFactor f b → (ws : List Word) → ws ≡ a ++ b
+factor_reached : (k : FactorContext) (a : List Word) → BeforeFactor k a → (f : Expression (List ℕ)) (b : List Word) → IsFactor f b → (ws : List Word)
+    → ws ≡ a ++ b
     → Reached (factor_done f k) ws
 factor_reached _ _ (before.first_factor k a h) f b d ws e = record { a = a; b = b; front = h; back = grammar.factor d; is = e }
 factor_reached _ _ (before.times n p k a c h q) f b d ws e = record {
@@ -179,7 +181,7 @@ unit_reached _ _ (before.and_after n c k a p h q) u b d ws e = record {
 -- ---- one more word
 
 factor_keeps : (n : ℕ) (t : TokenKind) (k : FactorContext) (ws : List Word) → BeforeFactor k ws → IfSome (step_factor t k) (λ m. Reached m (ws ++ at n t ∷ []))
-factor_keeps n (Number i) k ws h = factor_reached k ws h (terms.Number i) (at n (Number i) ∷ []) (grammar.number n i) (ws ++ at n (Number i) ∷ []) refl
+factor_keeps n (Number i) k ws h = factor_reached k ws h (expressions.Number i) (at n (Number i) ∷ []) (grammar.number n i) (ws ++ at n (Number i) ∷ []) refl
 factor_keeps n (Name x) k ws h = (n, record { a = ws; b = at n (Name x) ∷ []; front = h; back = refl; is = refl })
 factor_keeps n Minus k ws h = before.negative n k ws h
 factor_keeps n OpenParen k ws h = sum_at (parens k) (ws ++ at n OpenParen ∷ []) (before.parens n k ws h)
@@ -219,11 +221,11 @@ joined_keeps n t _ _ (before.first_of_all k a h) u b d ws e = conjunction_keeps 
 joined_keeps n t _ _ (before.and_after m c k a p h q) u b d ws e =
     conjunction_keeps n t k a h (And c u) (p ++ (at m AndAnd ∷ b)) (grammar.and m q d) ws (e ∙ simp append_assoc)
 
-emit_read : (f : Format) (m l : ℕ) (x : List ℕ) (s : Term (List ℕ)) (b : List Word) → f ≡ Two → IsSum s b
-    → IsAssignment f (terms.Emit x s) (at m Emit ∷ at l (Name x) ∷ b)
-emit_read f m l x s b v d = subst (λ (f : Format). IsAssignment f (terms.Emit x s) (at m Emit ∷ at l (Name x) ∷ b)) (sym v) (grammar.emit m l x d)
+emit_read : (f : Format) (m l : ℕ) (x : List ℕ) (s : Expression (List ℕ)) (b : List Word) → f ≡ Two → IsSum s b
+    → IsAssignment f (expressions.Emit x s) (at m Emit ∷ at l (Name x) ∷ b)
+emit_read f m l x s b v d = subst (λ (f : Format). IsAssignment f (expressions.Emit x s) (at m Emit ∷ at l (Name x) ∷ b)) (sym v) (grammar.emit m l x d)
 
-sum_keeps : (n : ℕ) (t : TokenKind) (k : SumContext) (a : List Word) → BeforeSum k a → (s : Term (List ℕ)) (b : List Word) → IsSum s b → (ws : List Word)
+sum_keeps : (n : ℕ) (t : TokenKind) (k : SumContext) (a : List Word) → BeforeSum k a → (s : Expression (List ℕ)) (b : List Word) → IsSum s b → (ws : List Word)
     → ws ≡ a ++ b → IfSome (step_sum t s k) (λ m. Reached m (ws ++ at n t ∷ []))
 sum_keeps n Plus k a h s b d ws e = subst (λ (l : List Word). BeforeFactor (first_factor (machine.plus s k)) l) (sym (snoc ws a b (at n Plus) e))
     (before.first_factor (machine.plus s k) (a ++ (b ++ at n Plus ∷ [])) (before.plus n s k a b h d))
@@ -252,17 +254,17 @@ sum_keeps n Semicolon _ _ (before.value m o t a c h p) s b d ws e =
     semicolon_read (with_assignments o (destination_assignment t s ∷ [])) n ws
     (assignment_read o a h (destination_assignment t s) (c ++ (at m Equals ∷ b)) (grammar.assign o.state.format m p d) ws (e ∙ simp append_assoc))
 sum_keeps n Comma _ _ (before.emitted m l o x a v h) s b d ws e =
-    comma_read (with_assignments o (terms.Emit x s ∷ [])) n ws
-    (assignment_read o a h (terms.Emit x s) (at m Emit ∷ at l (Name x) ∷ b) (emit_read o.state.format m l x s b v d) ws (e ∙ simp append_assoc))
+    comma_read (with_assignments o (expressions.Emit x s ∷ [])) n ws
+    (assignment_read o a h (expressions.Emit x s) (at m Emit ∷ at l (Name x) ∷ b) (emit_read o.state.format m l x s b v d) ws (e ∙ simp append_assoc))
 sum_keeps n Semicolon _ _ (before.emitted m l o x a v h) s b d ws e =
-    semicolon_read (with_assignments o (terms.Emit x s ∷ [])) n ws
-    (assignment_read o a h (terms.Emit x s) (at m Emit ∷ at l (Name x) ∷ b) (emit_read o.state.format m l x s b v d) ws (e ∙ simp append_assoc))
+    semicolon_read (with_assignments o (expressions.Emit x s ∷ [])) n ws
+    (assignment_read o a h (expressions.Emit x s) (at m Emit ∷ at l (Name x) ∷ b) (emit_read o.state.format m l x s b v d) ws (e ∙ simp append_assoc))
 sum_keeps n t _ _ (before.right m r l k a c h p) s b d ws e =
     joined_keeps n t k a h (Test (record { relation = r; left = l; right = s })) (c ++ (at m (Relation r) ∷ b))
     (grammar.literal m r p d) ws (e ∙ simp append_assoc)
 sum_keeps n _ k a h s b d ws e = tt
 
-summed_keeps : (n : ℕ) (t : TokenKind) (k : ProductContext) (a : List Word) → BeforeProduct k a → (p : Term (List ℕ)) (b : List Word) → IsProduct p b
+summed_keeps : (n : ℕ) (t : TokenKind) (k : ProductContext) (a : List Word) → BeforeProduct k a → (p : Expression (List ℕ)) (b : List Word) → IsProduct p b
     → (ws : List Word) → ws ≡ a ++ b → IfSome (step_summed t (product_done p k)) (λ m. Reached m (ws ++ at n t ∷ []))
 summed_keeps n t _ _ (before.first_product k a h) p b d ws e = sum_keeps n t k a h p b (grammar.product d) ws e
 summed_keeps n t _ _ (before.plus m s k a c h q) p b d ws e =
@@ -270,7 +272,7 @@ summed_keeps n t _ _ (before.plus m s k a c h q) p b d ws e =
 summed_keeps n t _ _ (before.minus m s k a c h q) p b d ws e =
     sum_keeps n t k a h (Difference s p) (c ++ (at m Minus ∷ b)) (grammar.minus m q d) ws (e ∙ simp append_assoc)
 
-product_keeps : (n : ℕ) (t : TokenKind) (k : ProductContext) (a : List Word) → BeforeProduct k a → (p : Term (List ℕ)) (b : List Word) → IsProduct p b
+product_keeps : (n : ℕ) (t : TokenKind) (k : ProductContext) (a : List Word) → BeforeProduct k a → (p : Expression (List ℕ)) (b : List Word) → IsProduct p b
     → (ws : List Word) → ws ≡ a ++ b → IfSome (step_product t p k) (λ m. Reached m (ws ++ at n t ∷ []))
 product_keeps n Star k a h p b d ws e = subst (λ (l : List Word). BeforeFactor (machine.times p k) l) (sym (snoc ws a b (at n Star) e))
     (before.times n p k a b h d)
@@ -280,7 +282,7 @@ product_keeps n Percent k a h p b d ws e = subst (λ (l : List Word). BeforeFact
     (before.remainder_of n p k a b h d)
 product_keeps n t k a h p b d ws e = summed_keeps n t k a h p b d ws e
 
-multiplied_keeps : (n : ℕ) (t : TokenKind) (k : FactorContext) (a : List Word) → BeforeFactor k a → (f : Term (List ℕ)) (b : List Word) → IsFactor f b
+multiplied_keeps : (n : ℕ) (t : TokenKind) (k : FactorContext) (a : List Word) → BeforeFactor k a → (f : Expression (List ℕ)) (b : List Word) → IsFactor f b
     → (ws : List Word) → ws ≡ a ++ b → IfSome (step_multiplied t (factor_done f k)) (λ m. Reached m (ws ++ at n t ∷ []))
 multiplied_keeps n t _ _ (before.first_factor k a h) f b d ws e = product_keeps n t k a h f b (grammar.factor d) ws e
 multiplied_keeps n t _ _ (before.times m p k a c h q) f b d ws e =
@@ -405,9 +407,9 @@ file_kept _ _ _ (before.reset f n m ds x a h) l =
     (rw h.is (simp append_assoc)) (grammar.file f h.i h.j h.k n m l ds x [] h.declarations (grammar.no_states f))
 
 state_kept : (f : Format) (s : Source) (n m : ℕ) (x : List ℕ) (ws : List Word) → Cut (IsFile f s) (Is (at n State ∷ [])) ws
-    → AfterState (record { format = f; source = s; state = record { line = n; name = x; lines = [] } }) (ws ++ at m (Name x) ∷ [])
+    → AfterState (record { format = f; source = s; state = record { line = n; name = x; transitions = [] } }) (ws ++ at m (Name x) ∷ [])
 state_kept f s n m x ws h =
-    subst (λ (l : List Word). AfterState (record { format = f; source = s; state = record { line = n; name = x; lines = [] } }) l)
+    subst (λ (l : List Word). AfterState (record { format = f; source = s; state = record { line = n; name = x; transitions = [] } }) l)
     (sym (one_more (at n State ∷ []) ws (at m (Name x)) h)) (before.named f n m s x h.a h.front)
 
 open_state_kept : (d : OpenState) (ws : List Word) → AfterState d ws → (k : ℕ) → IsOpenState d (ws ++ at k Colon ∷ [])

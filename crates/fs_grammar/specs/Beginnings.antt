@@ -3,7 +3,7 @@ use Rattle.std.specs.Prelude.{ℕ, ℤ, List, [], ◌∷◌, ◌++◌, Option}
 use Rattle.fs_model.specs.declared.parts.Rel.{Rel}
 use Rattle.fs_model.specs.declared.parts.Role.{Role}
 use Rattle.fs_model.specs.declared.parts.Sort.{Sort}
-use Rattle.fs_model.specs.Terms.{Term, Guard, Assignment}
+use Rattle.fs_model.specs.Expressions.{Expression, Guard, Assignment}
 use Rattle.fs_model.specs.Source.{Declaration, SourceTransition, SourceState, Source}
 use Rattle.fs_grammar.specs.declared.format.Format.{Format}
 use Rattle.fs_grammar.specs.declared.format.Format.TheVariants.{Two}
@@ -120,9 +120,9 @@ pub data IsAlternative : Rule → List Part → Type 0 where
 
 -- words that a rule spells whole
 abbrev pub SpellsWhole : Rule → List Word → Type 0
-SpellsWhole factor ws = (f : Term (List ℕ)) × IsFactor f ws
-SpellsWhole product ws = (p : Term (List ℕ)) × IsProduct p ws
-SpellsWhole sum ws = (s : Term (List ℕ)) × IsSum s ws
+SpellsWhole factor ws = (f : Expression (List ℕ)) × IsFactor f ws
+SpellsWhole product ws = (p : Expression (List ℕ)) × IsProduct p ws
+SpellsWhole sum ws = (s : Expression (List ℕ)) × IsSum s ws
 SpellsWhole unit ws = (u : Guard (List ℕ)) × IsUnit u ws
 SpellsWhole conjunction ws = (c : Guard (List ℕ)) × IsConjunction c ws
 SpellsWhole guard ws = (g : Guard (List ℕ)) × IsGuard g ws

@@ -1,7 +1,7 @@
 -- The guard or the assignment that words end in.
 use Rattle.std.specs.Prelude.{◌≡◌, ℕ, Bool, true, false, List, ◌∷◌, ◌++◌}
 use Rattle.std.specs.List.{AllByRecursion}
-use Rattle.fs_model.specs.Terms.{Assignment}
+use Rattle.fs_model.specs.Expressions.{Assignment}
 use Rattle.fs_grammar.specs.declared.format.Format.{Format}
 use Rattle.fs_grammar.specs.declared.token.TokenKind.TheVariants.{When, Goto, Name, Colon, Comma}
 use Rattle.fs_grammar.specs.declared.token.Token.{Token}

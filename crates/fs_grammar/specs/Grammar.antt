@@ -4,9 +4,10 @@ use Rattle.fs_model.specs.declared.parts.Rel.{Rel}
 use Rattle.fs_model.specs.declared.parts.Role.{Role}
 use Rattle.fs_model.specs.declared.parts.Role.TheVariants.{Output}
 use Rattle.fs_model.specs.declared.parts.Sort.TheVariants as sorts
-use Rattle.fs_model.specs.Terms.{Term, Variable, Read, Sum, Difference, Product, Quotient, Remainder, Negative, Guard, Test, Not}
-use Rattle.fs_model.specs.Terms.{And, Or, Assignment, Assign, ArrayWrite}
-use Rattle.fs_model.specs.Terms as terms
+use Rattle.fs_model.specs.Expressions.{Expression, Variable, Read, Sum, Difference, Product, Quotient, Remainder, Negative, Guard}
+use Rattle.fs_model.specs.Expressions.{Test, Not}
+use Rattle.fs_model.specs.Expressions.{And, Or, Assignment, Assign, ArrayWrite}
+use Rattle.fs_model.specs.Expressions as expressions
 use Rattle.fs_model.specs.Source.{Declaration, SourceTransition, SourceState, Source}
 use Rattle.fs_grammar.specs.declared.fault.TextKind.TheVariants.{Operators}
 use Rattle.fs_grammar.specs.declared.fault.TextFault.{TextFault}
@@ -40,7 +41,7 @@ pub record OpenState : Type 0 where
 
 -- more transitions of the state that is being read
 abbrev pub with_transitions : OpenState → List SourceTransition → OpenState
-with_transitions d ls = record d { state = record d.state { lines = d.state.lines ++ ls } }
+with_transitions d ls = record d { state = record d.state { transitions = d.state.transitions ++ ls } }
 
 -- the source with the state that is being read
 abbrev pub with_open_state : OpenState → Source
@@ -69,14 +70,14 @@ close_transition o = with_transitions o.state (transition_read o ∷ [])
 -- where a value goes: to a scalar, to an array at an index, or to a port
 pub data Destination : Type 0 where
   scalar : List ℕ → Destination
-  element : List ℕ → (at : Term (List ℕ)) → Destination
+  element : List ℕ → (at : Expression (List ℕ)) → Destination
   port : List ℕ → Destination
 
 -- a value is assigned or emitted
-abbrev pub destination_assignment : Destination → Term (List ℕ) → Assignment (List ℕ)
+abbrev pub destination_assignment : Destination → Expression (List ℕ) → Assignment (List ℕ)
 destination_assignment (scalar x) e = Assign x e
 destination_assignment (element x i) e = ArrayWrite x i e
-destination_assignment (port x) e = terms.Emit x e
+destination_assignment (port x) e = expressions.Emit x e
 
 -- ---- what is still expected
 
@@ -99,21 +100,21 @@ mutual
 mutual
   pub data FactorContext : Type 0 where
     first_factor : ProductContext → FactorContext
-    times : Term (List ℕ) → ProductContext → FactorContext
-    divides : Term (List ℕ) → ProductContext → FactorContext
-    remainder_of : Term (List ℕ) → ProductContext → FactorContext
+    times : Expression (List ℕ) → ProductContext → FactorContext
+    divides : Expression (List ℕ) → ProductContext → FactorContext
+    remainder_of : Expression (List ℕ) → ProductContext → FactorContext
     negative : FactorContext → FactorContext
 
   pub data ProductContext : Type 0 where
     first_product : SumContext → ProductContext
-    plus : Term (List ℕ) → SumContext → ProductContext
-    minus : Term (List ℕ) → SumContext → ProductContext
+    plus : Expression (List ℕ) → SumContext → ProductContext
+    minus : Expression (List ℕ) → SumContext → ProductContext
 
   pub data SumContext : Type 0 where
     parens : FactorContext → SumContext
     index : List ℕ → FactorContext → SumContext
     left : UnitContext → SumContext
-    right : Rel → Term (List ℕ) → UnitContext → SumContext
+    right : Rel → Expression (List ℕ) → UnitContext → SumContext
     write_index : OpenTransition → List ℕ → SumContext
     value : OpenTransition → Destination → SumContext
 
@@ -143,8 +144,8 @@ pub data ParseState : Type 0 where
   after_guard : Guard (List ℕ) → GuardContext → ParseState
   at_factor : FactorContext → ParseState
   after_name : List ℕ → FactorContext → ParseState
-  after_product : Term (List ℕ) → ProductContext → ParseState
-  after_sum : Term (List ℕ) → SumContext → ParseState
+  after_product : Expression (List ℕ) → ProductContext → ParseState
+  after_sum : Expression (List ℕ) → SumContext → ParseState
 
 -- where a sum begins
 abbrev pub at_sum : SumContext → ParseState
@@ -155,7 +156,7 @@ abbrev pub at_guard : GuardContext → ParseState
 at_guard k = at_unit (first_of_all (first_of_any k))
 
 -- a factor has been read
-abbrev pub factor_done : Term (List ℕ) → FactorContext → ParseState
+abbrev pub factor_done : Expression (List ℕ) → FactorContext → ParseState
 factor_done f (first_factor k) = after_product f k
 factor_done f (times p k) = after_product (Product p f) k
 factor_done f (divides p k) = after_product (Quotient p f) k
@@ -163,7 +164,7 @@ factor_done f (remainder_of p k) = after_product (Remainder p f) k
 factor_done f (negative k) = factor_done (Negative f) k
 
 -- a product has been read, and does not go on
-abbrev pub product_done : Term (List ℕ) → ProductContext → ParseState
+abbrev pub product_done : Expression (List ℕ) → ProductContext → ParseState
 product_done p (first_product k) = after_sum p k
 product_done p (plus s k) = after_sum (Sum s p) k
 product_done p (minus s k) = after_sum (Difference s p) k
@@ -180,13 +181,13 @@ conjunction_done c (first_of_any k) = after_guard c k
 conjunction_done c (or_after g k) = after_guard (Or g c) k
 
 -- a literal has been read
-abbrev pub literal_done : Rel → Term (List ℕ) → Term (List ℕ) → UnitContext → ParseState
+abbrev pub literal_done : Rel → Expression (List ℕ) → Expression (List ℕ) → UnitContext → ParseState
 literal_done r a b k = unit_done (Test (record { relation = r; left = a; right = b })) k
 
 -- ---- which token can follow, and what it leads to
 
 abbrev pub step_factor : TokenKind → FactorContext → Option ParseState
-step_factor (Number n) k = Some (factor_done (terms.Number n) k)
+step_factor (Number n) k = Some (factor_done (expressions.Number n) k)
 step_factor (Name x) k = Some (after_name x k)
 step_factor Minus k = Some (at_factor (negative k))
 step_factor OpenParen k = Some (at_sum (parens k))
@@ -217,7 +218,7 @@ abbrev pub step_joined : TokenKind → ParseState → Option ParseState
 step_joined t (after_conjunction c k) = step_conjunction t c k
 step_joined t _ = None
 
-abbrev pub step_sum : TokenKind → Term (List ℕ) → SumContext → Option ParseState
+abbrev pub step_sum : TokenKind → Expression (List ℕ) → SumContext → Option ParseState
 step_sum Plus s k = Some (at_factor (first_factor (plus s k)))
 step_sum Minus s k = Some (at_factor (first_factor (minus s k)))
 step_sum CloseParen s (parens k) = Some (factor_done s k)
@@ -234,7 +235,7 @@ abbrev pub step_summed : TokenKind → ParseState → Option ParseState
 step_summed t (after_sum s k) = step_sum t s k
 step_summed t _ = None
 
-abbrev pub step_product : TokenKind → Term (List ℕ) → ProductContext → Option ParseState
+abbrev pub step_product : TokenKind → Expression (List ℕ) → ProductContext → Option ParseState
 step_product Star p k = Some (at_factor (times p k))
 step_product Slash p k = Some (at_factor (divides p k))
 step_product Percent p k = Some (at_factor (remainder_of p k))
@@ -295,7 +296,7 @@ step (after_reset f s) n _ = None
 step (at_state f s) n State = Some (at_state_name f s n)
 step (at_state f s) n _ = None
 step (at_state_name f s m) n (Name x) =
-    Some (after_state_name (record { format = f; source = s; state = record { line = m; name = x; lines = [] } }))
+    Some (after_state_name (record { format = f; source = s; state = record { line = m; name = x; transitions = [] } }))
 step (at_state_name f s m) n _ = None
 step (after_state_name d) n Colon = Some (at_transition d)
 step (after_state_name d) n _ = None

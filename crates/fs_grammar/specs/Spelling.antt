@@ -5,9 +5,10 @@ use Rattle.fs_model.specs.declared.parts.Role.{Role}
 use Rattle.fs_model.specs.declared.parts.Role.TheVariants.{Output}
 use Rattle.fs_model.specs.declared.parts.Sort.{Sort}
 use Rattle.fs_model.specs.declared.parts.Sort.TheVariants as sorts
-use Rattle.fs_model.specs.Terms.{Term, Variable, Read, Sum, Difference, Product, Quotient, Remainder, Negative, Guard, Test, Not}
-use Rattle.fs_model.specs.Terms.{And, Or, Assignment}
-use Rattle.fs_model.specs.Terms as terms
+use Rattle.fs_model.specs.Expressions.{Expression, Variable, Read, Sum, Difference, Product, Quotient, Remainder, Negative, Guard}
+use Rattle.fs_model.specs.Expressions.{Test, Not}
+use Rattle.fs_model.specs.Expressions.{And, Or, Assignment}
+use Rattle.fs_model.specs.Expressions as expressions
 use Rattle.fs_model.specs.Source.{Declaration, SourceTransition, SourceState, Source}
 use Rattle.fs_grammar.specs.declared.format.Format.{Format}
 use Rattle.fs_grammar.specs.declared.format.Format.TheVariants.{Two}
@@ -27,27 +28,29 @@ pub data Word : Type 0 where
 -- product = factor { ( "*" | "/" | "%" ) factor }
 -- sum = product { ( "+" | "-" ) product }
 mutual
-  pub data IsFactor : Term (List ℕ) → List Word → Type 0 where
-    number : (n : ℕ) (i : ℤ) → IsFactor (terms.Number i) (at n (Number i) ∷ [])
+  pub data IsFactor : Expression (List ℕ) → List Word → Type 0 where
+    number : (n : ℕ) (i : ℤ) → IsFactor (expressions.Number i) (at n (Number i) ∷ [])
     variable : (n : ℕ) (x : List ℕ) → IsFactor (Variable x) (at n (Name x) ∷ [])
-    read : (n m k : ℕ) (x : List ℕ) {s : Term (List ℕ)} {a : List Word} → IsSum s a
+    read : (n m k : ℕ) (x : List ℕ) {s : Expression (List ℕ)} {a : List Word} → IsSum s a
         → IsFactor (Read x s) (at n (Name x) ∷ at m OpenBracket ∷ (a ++ at k CloseBracket ∷ []))
-    negative : (n : ℕ) {f : Term (List ℕ)} {a : List Word} → IsFactor f a → IsFactor (Negative f) (at n Minus ∷ a)
-    group : (n m : ℕ) {s : Term (List ℕ)} {a : List Word} → IsSum s a → IsFactor s (at n OpenParen ∷ (a ++ at m CloseParen ∷ []))
+    negative : (n : ℕ) {f : Expression (List ℕ)} {a : List Word} → IsFactor f a → IsFactor (Negative f) (at n Minus ∷ a)
+    group : (n m : ℕ) {s : Expression (List ℕ)} {a : List Word} → IsSum s a
+        → IsFactor s (at n OpenParen ∷ (a ++ at m CloseParen ∷ []))
 
-  pub data IsProduct : Term (List ℕ) → List Word → Type 0 where
-    factor : {f : Term (List ℕ)} {a : List Word} → IsFactor f a → IsProduct f a
-    times : (n : ℕ) {p f : Term (List ℕ)} {a b : List Word} → IsProduct p a → IsFactor f b
+  pub data IsProduct : Expression (List ℕ) → List Word → Type 0 where
+    factor : {f : Expression (List ℕ)} {a : List Word} → IsFactor f a → IsProduct f a
+    times : (n : ℕ) {p f : Expression (List ℕ)} {a b : List Word} → IsProduct p a → IsFactor f b
         → IsProduct (Product p f) (a ++ (at n Star ∷ b))
-    divides : (n : ℕ) {p f : Term (List ℕ)} {a b : List Word} → IsProduct p a → IsFactor f b
+    divides : (n : ℕ) {p f : Expression (List ℕ)} {a b : List Word} → IsProduct p a → IsFactor f b
         → IsProduct (Quotient p f) (a ++ (at n Slash ∷ b))
-    remainder_of : (n : ℕ) {p f : Term (List ℕ)} {a b : List Word} → IsProduct p a → IsFactor f b
+    remainder_of : (n : ℕ) {p f : Expression (List ℕ)} {a b : List Word} → IsProduct p a → IsFactor f b
         → IsProduct (Remainder p f) (a ++ (at n Percent ∷ b))
 
-  pub data IsSum : Term (List ℕ) → List Word → Type 0 where
-    product : {p : Term (List ℕ)} {a : List Word} → IsProduct p a → IsSum p a
-    plus : (n : ℕ) {s p : Term (List ℕ)} {a b : List Word} → IsSum s a → IsProduct p b → IsSum (Sum s p) (a ++ (at n Plus ∷ b))
-    minus : (n : ℕ) {s p : Term (List ℕ)} {a b : List Word} → IsSum s a → IsProduct p b
+  pub data IsSum : Expression (List ℕ) → List Word → Type 0 where
+    product : {p : Expression (List ℕ)} {a : List Word} → IsProduct p a → IsSum p a
+    plus : (n : ℕ) {s p : Expression (List ℕ)} {a b : List Word} → IsSum s a → IsProduct p b
+        → IsSum (Sum s p) (a ++ (at n Plus ∷ b))
+    minus : (n : ℕ) {s p : Expression (List ℕ)} {a b : List Word} → IsSum s a → IsProduct p b
         → IsSum (Difference s p) (a ++ (at n Minus ∷ b))
 
 -- unit = "!" unit | "{" guard "}" | sum relation sum
@@ -58,7 +61,7 @@ mutual
     not : (n : ℕ) {u : Guard (List ℕ)} {a : List Word} → IsUnit u a → IsUnit (Not u) (at n Bang ∷ a)
     braces : (n m : ℕ) {g : Guard (List ℕ)} {a : List Word} → IsGuard g a
         → IsUnit g (at n OpenBrace ∷ (a ++ at m CloseBrace ∷ []))
-    literal : (n : ℕ) (r : Rel) {l s : Term (List ℕ)} {a b : List Word} → IsSum l a → IsSum s b
+    literal : (n : ℕ) (r : Rel) {l s : Expression (List ℕ)} {a b : List Word} → IsSum l a → IsSum s b
         → IsUnit (Test (record { relation = r; left = l; right = s })) (a ++ (at n (Relation r) ∷ b))
 
   pub data IsConjunction : Guard (List ℕ) → List Word → Type 0 where
@@ -74,15 +77,15 @@ mutual
 -- destination = name [ "[" sum "]" ]
 pub data IsDestination : Destination → List Word → Type 0 where
   scalar_name : (n : ℕ) (x : List ℕ) → IsDestination (scalar x) (at n (Name x) ∷ [])
-  element_at : (n m k : ℕ) (x : List ℕ) {s : Term (List ℕ)} {a : List Word} → IsSum s a
+  element_at : (n m k : ℕ) (x : List ℕ) {s : Expression (List ℕ)} {a : List Word} → IsSum s a
       → IsDestination (element x s) (at n (Name x) ∷ at m OpenBracket ∷ (a ++ at k CloseBracket ∷ []))
 
 -- assignment = destination "=" sum, in format 2 also "emit" name sum
 pub data IsAssignment : Format → Assignment (List ℕ) → List Word → Type 0 where
-  assign : (f : Format) (n : ℕ) {d : Destination} {e : Term (List ℕ)} {a b : List Word} → IsDestination d a → IsSum e b
+  assign : (f : Format) (n : ℕ) {d : Destination} {e : Expression (List ℕ)} {a b : List Word} → IsDestination d a → IsSum e b
       → IsAssignment f (destination_assignment d e) (a ++ (at n Equals ∷ b))
-  emit : (n m : ℕ) (x : List ℕ) {e : Term (List ℕ)} {a : List Word} → IsSum e a
-      → IsAssignment Two (terms.Emit x e) (at n Emit ∷ at m (Name x) ∷ a)
+  emit : (n m : ℕ) (x : List ℕ) {e : Expression (List ℕ)} {a : List Word} → IsSum e a
+      → IsAssignment Two (expressions.Emit x e) (at n Emit ∷ at m (Name x) ∷ a)
 
 -- assignments = assignment { "," assignment }
 pub data AreAssignments : Format → List (Assignment (List ℕ)) → List Word → Type 0 where
@@ -117,7 +120,7 @@ pub data AreTransitions : Format → List SourceTransition → List Word → Typ
 -- state = "state" name ":" transitions
 pub data IsState : Format → SourceState → List Word → Type 0 where
   state : (f : Format) (n m k : ℕ) (x : List ℕ) (ls : List SourceTransition) {a : List Word} → AreTransitions f ls a
-      → IsState f (record { line = n; name = x; lines = ls }) (at n State ∷ at m (Name x) ∷ at k Colon ∷ a)
+      → IsState f (record { line = n; name = x; transitions = ls }) (at n State ∷ at m (Name x) ∷ at k Colon ∷ a)
 
 -- states = { state }
 pub data AreStates : Format → List SourceState → List Word → Type 0 where

@@ -2,7 +2,7 @@
 
 ghost use Rattle.std.specs.Prelude.{◌≡◌, ℕ, IsTrue, List, [], ◌∷◌, ◌++◌, Some, None, Ok, Err};
 ghost use Rattle.fs_model.specs.declared.parts.Rel.{Rel};
-ghost use Rattle.fs_model.specs.Terms.{Term, Variable, Difference, Guard, Test, Not, And};
+ghost use Rattle.fs_model.specs.Expressions.{Expression, Variable, Difference, Guard, Test, Not, And};
 ghost use Rattle.fs_model.specs.Source.{Source};
 ghost use Rattle.fs_grammar.specs.declared.fault.TextFault.{TextFault};
 ghost use Rattle.fs_grammar.specs.declared.format.Format.{Format};
@@ -54,7 +54,7 @@ pub fn a_text_spells_one_source()
     ensures tokens { (s r : Source) (ts : List Token) → Spells s ts → Spells r ts → s ≡ r }
     ensures words { (f g : Format) (s r : Source) (ws : List Word) → IsFile f s ws → IsFile g r ws → s ≡ r }
     ensures formats { (f g : Format) (s r : Source) (ws : List Word) → IsFile f s ws → IsFile g r ws → f ≡ g }
-    ensures sums { (s r : Term (List ℕ)) (ws : List Word) → IsSum s ws → IsSum r ws → s ≡ r }
+    ensures sums { (s r : Expression (List ℕ)) (ws : List Word) → IsSum s ws → IsSum r ws → s ≡ r }
     ensures guards { (g h : Guard (List ℕ)) (ws : List Word) → IsGuard g ws → IsGuard h ws → g ≡ h }
 {}
 

@@ -12,9 +12,9 @@ use Rattle.fs_model.specs.Source.{Declaration}
 use Rattle.fs_grammar.specs.declared.format.Format.{Format}
 use Rattle.fs_grammar.specs.declared.format.Format.TheVariants.{One, Two}
 use Rattle.fs_grammar.specs.Formats.{format_of}
-use Rattle.fs_model.specs.Terms.{Term, Variable, Read, Negative, Guard, Test, Not}
-use Rattle.fs_model.specs.Terms as terms
-use Rattle.fs_model.specs.WellFormed.{is_natural_term, is_natural_guard, operators_of_term, operators_of_guard, is_well_formed_condition}
+use Rattle.fs_model.specs.Expressions.{Expression, Variable, Read, Negative, Guard, Test, Not}
+use Rattle.fs_model.specs.Expressions as expressions
+use Rattle.fs_model.specs.WellFormed.{is_natural_expression, is_natural_guard, operators_of_expression, operators_of_guard, is_well_formed_condition}
 use Rattle.fs_model.specs.WellFormed.{is_well_formed_assignment, is_well_formed_transition, is_well_formed_state, is_well_formed_declaration, is_well_formed}
 use Rattle.fs_grammar.specs.declared.token.TokenKind.{TokenKind}
 use Rattle.fs_grammar.specs.declared.token.TokenKind.TheVariants.{Fsmd, Declare, Array, Reset, State, When, Goto, Emit, Port, Name, Number, Semicolon, Colon}
@@ -37,8 +37,8 @@ use Rattle.fs_lex.proofs.Operators.{product_ends, conjunction_ends, literal_ends
 
 -- ---- what is so of a part that has been read
 
-abbrev pub IsNatural : Term (List ℕ) → Type 0
-IsNatural e = IsTrue (is_natural_term e)
+abbrev pub IsNatural : Expression (List ℕ) → Type 0
+IsNatural e = IsTrue (is_natural_expression e)
 
 abbrev pub IsNaturalGuard : Guard (List ℕ) → Type 0
 IsNaturalGuard g = IsTrue (is_natural_guard g)
@@ -50,7 +50,7 @@ IsFitDestination (port x) = Unit {0}
 
 pub record IsFitState (d : OpenState) : Type 0 where
   pub source : IsTrue (is_well_formed d.source)
-  pub lines : IsTrue (list_all is_well_formed_transition d.state.lines)
+  pub transitions : IsTrue (list_all is_well_formed_transition d.state.transitions)
 
 pub record IsFitTransition (o : OpenTransition) : Type 0 where
   pub state : IsFitState o.state
@@ -137,27 +137,29 @@ state_ends d h =
     and_from (list_all is_well_formed_declaration d.source.declarations) (list_all is_well_formed_state (d.source.states ++ d.state ∷ []))
     (and_first (list_all is_well_formed_declaration d.source.declarations) (list_all is_well_formed_state d.source.states) h.source)
     (one_more is_well_formed_state d.source.states d.state
-    (and_second (list_all is_well_formed_declaration d.source.declarations) (list_all is_well_formed_state d.source.states) h.source) h.lines)
+    (and_second (list_all is_well_formed_declaration d.source.declarations) (list_all is_well_formed_state d.source.states) h.source) h.transitions)
 
 transition_ends : (o : OpenTransition) → IsFitTransition o → IsFitState (close_transition o)
 transition_ends o h =
     record {
       source = h.state.source;
-      lines = one_more is_well_formed_transition o.state.state.lines (transition_read o) h.state.lines
+      transitions = one_more is_well_formed_transition o.state.state.transitions (transition_read o) h.state.transitions
           (and_from (is_well_formed_condition o.guard) (list_all is_well_formed_assignment o.assignments) h.guard h.assignments);
     }
 
-assignment_fits : (d : Destination) (e : Term (List ℕ)) → IsFitDestination d → IsNatural e → operators_of_term e + operators_of_destination d ≤ 128
+assignment_fits : (d : Destination) (e : Expression (List ℕ)) → IsFitDestination d → IsNatural e → operators_of_expression e + operators_of_destination d ≤ 128
     → IsTrue (is_well_formed_assignment (destination_assignment d e))
-assignment_fits (scalar x) e h j b = and_from (is_natural_term e) (nat_le (operators_of_term e) 128) j (le-leb (operators_of_term e) 128 (omega arith))
-assignment_fits (port x) e h j b = and_from (is_natural_term e) (nat_le (operators_of_term e) 128) j (le-leb (operators_of_term e) 128 (omega arith))
+assignment_fits (scalar x) e h j b =
+    and_from (is_natural_expression e) (nat_le (operators_of_expression e) 128) j (le-leb (operators_of_expression e) 128 (omega arith))
+assignment_fits (port x) e h j b =
+    and_from (is_natural_expression e) (nat_le (operators_of_expression e) 128) j (le-leb (operators_of_expression e) 128 (omega arith))
 assignment_fits (element x i) e h j b =
-    and_from (is_natural_term i && is_natural_term e) (nat_le (1 + (operators_of_term i + operators_of_term e)) 128)
-    (and_from (is_natural_term i) (is_natural_term e) h j)
-    (le-leb (1 + (operators_of_term i + operators_of_term e)) 128 (omega arith))
+    and_from (is_natural_expression i && is_natural_expression e) (nat_le (1 + (operators_of_expression i + operators_of_expression e)) 128)
+    (and_from (is_natural_expression i) (is_natural_expression e) h j)
+    (le-leb (1 + (operators_of_expression i + operators_of_expression e)) 128 (omega arith))
 
-assignment_read : (o : OpenTransition) (d : Destination) (e : Term (List ℕ)) → IsFitTransition o → IsFitDestination d → IsNatural e
-    → operators_of_term e + operators_of_destination d ≤ 128
+assignment_read : (o : OpenTransition) (d : Destination) (e : Expression (List ℕ)) → IsFitTransition o → IsFitDestination d → IsNatural e
+    → operators_of_expression e + operators_of_destination d ≤ 128
     → IsFitTransition (with_assignments o (destination_assignment d e ∷ []))
 assignment_read o d e h j n b = record {
   state = h.state;
@@ -170,17 +172,17 @@ guard_fits g h b = and_from (is_natural_guard g) (nat_le (operators_of_guard g) 
 
 -- ---- a part that ends
 
-factor_fits : (k : FactorContext) (f : Term (List ℕ)) → IsFitForFactor k → IsNatural f → IsFit (factor_done f k)
+factor_fits : (k : FactorContext) (f : Expression (List ℕ)) → IsFitForFactor k → IsNatural f → IsFit (factor_done f k)
 factor_fits (first_factor k) f h j = (j, h)
-factor_fits (times p k) f h j = (and_from (is_natural_term p) (is_natural_term f) h.0 j, h.1)
-factor_fits (divides p k) f h j = (and_from (is_natural_term p) (is_natural_term f) h.0 j, h.1)
-factor_fits (remainder_of p k) f h j = (and_from (is_natural_term p) (is_natural_term f) h.0 j, h.1)
+factor_fits (times p k) f h j = (and_from (is_natural_expression p) (is_natural_expression f) h.0 j, h.1)
+factor_fits (divides p k) f h j = (and_from (is_natural_expression p) (is_natural_expression f) h.0 j, h.1)
+factor_fits (remainder_of p k) f h j = (and_from (is_natural_expression p) (is_natural_expression f) h.0 j, h.1)
 factor_fits (negative k) f h j = factor_fits k (Negative f) h j
 
-product_fits : (k : ProductContext) (p : Term (List ℕ)) → IsFitForProduct k → IsNatural p → IsFit (product_done p k)
+product_fits : (k : ProductContext) (p : Expression (List ℕ)) → IsFitForProduct k → IsNatural p → IsFit (product_done p k)
 product_fits (first_product k) p h j = (j, h)
-product_fits (plus s k) p h j = (and_from (is_natural_term s) (is_natural_term p) h.0 j, h.1)
-product_fits (minus s k) p h j = (and_from (is_natural_term s) (is_natural_term p) h.0 j, h.1)
+product_fits (plus s k) p h j = (and_from (is_natural_expression s) (is_natural_expression p) h.0 j, h.1)
+product_fits (minus s k) p h j = (and_from (is_natural_expression s) (is_natural_expression p) h.0 j, h.1)
 
 unit_fits : (k : UnitContext) (u : Guard (List ℕ)) → IsFitForUnit k → IsNaturalGuard u → IsFit (unit_done u k)
 unit_fits (negates k) u h j = unit_fits k (Not u) h j
@@ -194,7 +196,7 @@ conjunction_fits (or_after g k) c h j = (and_from (is_natural_guard g) (is_natur
 -- ---- a token that can follow
 
 factor_keeps : (t : TokenKind) (k : FactorContext) → IsProper t → IsFitForFactor k → IfSome (step_factor t k) IsFit
-factor_keeps (Number n) k p h = factor_fits k (terms.Number n) h (grind (arith, p.0))
+factor_keeps (Number n) k p h = factor_fits k (expressions.Number n) h (grind (arith, p.0))
 factor_keeps (Name x) k p h = h
 factor_keeps Minus k p h = h
 factor_keeps OpenParen k p h = h
@@ -226,7 +228,7 @@ joined_keeps : (t : TokenKind) (s : ParseState) → IsFit s → operators_owed s
 joined_keeps t (after_conjunction c k) h b = conjunction_keeps t c k h.0 h.1 b
 joined_keeps t _ h b = tt
 
-sum_keeps : (t : TokenKind) (e : Term (List ℕ)) (k : SumContext) → IsNatural e → IsFitForSum k → operators_of_term e + operators_for_sum k ≤ 128
+sum_keeps : (t : TokenKind) (e : Expression (List ℕ)) (k : SumContext) → IsNatural e → IsFitForSum k → operators_of_expression e + operators_for_sum k ≤ 128
     → IfSome (step_sum t e k) IsFit
 sum_keeps Plus e k j h b = (j, h)
 sum_keeps Minus e k j h b = (j, h)
@@ -238,7 +240,7 @@ sum_keeps Comma e (value o d) j h b = assignment_read o d e h.0 h.1 j b
 sum_keeps Semicolon e (value o d) j h b = transition_ends (with_assignments o (destination_assignment d e ∷ [])) (assignment_read o d e h.0 h.1 j b)
 sum_keeps t e (right r l k) j h b =
     joined_keeps t (literal_done r l e k)
-    (unit_fits k (Test (record { relation = r; left = l; right = e })) h.1 (and_from (is_natural_term l) (is_natural_term e) h.0 j))
+    (unit_fits k (Test (record { relation = r; left = l; right = e })) h.1 (and_from (is_natural_expression l) (is_natural_expression e) h.0 j))
     (omega (arith, literal_ends r l e k))
 sum_keeps _ e k j h b = tt
 
@@ -246,7 +248,7 @@ summed_keeps : (t : TokenKind) (s : ParseState) → IsFit s → operators_owed s
 summed_keeps t (after_sum e k) h b = sum_keeps t e k h.0 h.1 b
 summed_keeps t _ h b = tt
 
-product_keeps : (t : TokenKind) (p : Term (List ℕ)) (k : ProductContext) → IsNatural p → IsFitForProduct k
+product_keeps : (t : TokenKind) (p : Expression (List ℕ)) (k : ProductContext) → IsNatural p → IsFitForProduct k
     → operators_of_product p + operators_for_product k ≤ 128 → IfSome (step_product t p k) IsFit
 product_keeps Star p k j h b = (j, h)
 product_keeps Slash p k j h b = (j, h)
@@ -300,7 +302,7 @@ step_keeps (after_reset f s) n Semicolon p h b = h
 step_keeps (after_reset f s) n _ p h b = tt
 step_keeps (at_state f s) n State p h b = h
 step_keeps (at_state f s) n _ p h b = tt
-step_keeps (at_state_name f s m) n (Name x) p h b = record { source = h; lines = refl }
+step_keeps (at_state_name f s m) n (Name x) p h b = record { source = h; transitions = refl }
 step_keeps (at_state_name f s m) n _ p h b = tt
 step_keeps (after_state_name d) n Colon p h b = h
 step_keeps (after_state_name d) n _ p h b = tt

@@ -7,9 +7,9 @@ use Rattle.fs_model.specs.declared.parts.Sort.TheVariants as sorts
 use Rattle.fs_grammar.specs.declared.format.Format.{Format}
 use Rattle.fs_grammar.specs.declared.format.Format.TheVariants.{One, Two}
 use Rattle.fs_grammar.specs.Formats.{format_of}
-use Rattle.fs_model.specs.Terms.{Term, Variable, Read, Negative, Guard, Test, Not}
-use Rattle.fs_model.specs.Terms as terms
-use Rattle.fs_model.specs.WellFormed.{is_sum, is_product, is_and, is_or, bracket, operators_of_term, operators_of_guard}
+use Rattle.fs_model.specs.Expressions.{Expression, Variable, Read, Negative, Guard, Test, Not}
+use Rattle.fs_model.specs.Expressions as expressions
+use Rattle.fs_model.specs.WellFormed.{is_sum, is_product, is_and, is_or, bracket, operators_of_expression, operators_of_guard}
 use Rattle.fs_grammar.specs.declared.token.TokenKind.{TokenKind}
 use Rattle.fs_grammar.specs.declared.token.TokenKind.TheVariants.{Fsmd, Declare, Array, Reset, State, When, Goto, Emit, Port, Name, Number, Semicolon, Colon}
 use Rattle.fs_grammar.specs.declared.token.TokenKind.TheVariants.{Comma, Equals, OpenParen, CloseParen, OpenBracket, CloseBracket, OpenBrace, CloseBrace, Plus}
@@ -33,15 +33,15 @@ operators_of_unit u = bracket (is_and u || is_or u) + operators_of_guard u
 abbrev pub operators_of_conjunction : Guard (List ℕ) → ℕ
 operators_of_conjunction c = bracket (is_or c) + operators_of_guard c
 
-abbrev pub operators_of_factor : Term (List ℕ) → ℕ
-operators_of_factor f = bracket (is_sum f || is_product f) + operators_of_term f
+abbrev pub operators_of_factor : Expression (List ℕ) → ℕ
+operators_of_factor f = bracket (is_sum f || is_product f) + operators_of_expression f
 
-abbrev pub operators_of_product : Term (List ℕ) → ℕ
-operators_of_product p = bracket (is_sum p) + operators_of_term p
+abbrev pub operators_of_product : Expression (List ℕ) → ℕ
+operators_of_product p = bracket (is_sum p) + operators_of_expression p
 
 abbrev pub operators_of_destination : Destination → ℕ
 operators_of_destination (scalar x) = 0
-operators_of_destination (element x i) = 1 + operators_of_term i
+operators_of_destination (element x i) = 1 + operators_of_expression i
 operators_of_destination (port x) = 0
 
 -- ---- the operators of what a part is read for
@@ -70,14 +70,14 @@ abbrev mutual
 
   pub operators_for_product : ProductContext → ℕ
   operators_for_product (first_product k) = operators_for_sum k
-  operators_for_product (plus s k) = 1 + (operators_of_term s + operators_for_sum k)
-  operators_for_product (minus s k) = 1 + (operators_of_term s + operators_for_sum k)
+  operators_for_product (plus s k) = 1 + (operators_of_expression s + operators_for_sum k)
+  operators_for_product (minus s k) = 1 + (operators_of_expression s + operators_for_sum k)
 
   pub operators_for_sum : SumContext → ℕ
   operators_for_sum (parens k) = 1 + operators_for_factor k
   operators_for_sum (index x k) = 1 + operators_for_factor k
   operators_for_sum (left k) = operators_for_unit k
-  operators_for_sum (right r l k) = 1 + (operators_of_term l + operators_for_unit k)
+  operators_for_sum (right r l k) = 1 + (operators_of_expression l + operators_for_unit k)
   operators_for_sum (write_index o x) = 1
   operators_for_sum (value o d) = operators_of_destination d
 
@@ -90,7 +90,7 @@ operators_owed (after_guard g k) = operators_of_guard g + operators_for_guard k
 operators_owed (at_factor k) = operators_for_factor k
 operators_owed (after_name x k) = operators_for_factor k
 operators_owed (after_product p k) = operators_of_product p + operators_for_product k
-operators_owed (after_sum s k) = operators_of_term s + operators_for_sum k
+operators_owed (after_sum s k) = operators_of_expression s + operators_for_sum k
 operators_owed _ = 0
 
 -- ---- a part that ends gives its operators on
@@ -107,14 +107,14 @@ pub bracket_less-left : (a b : Bool) → bracket a ≤ bracket (a || b)
 bracket_less-left true b = omega arith
 bracket_less-left false b = grind arith
 
-pub factor_ends : (k : FactorContext) (f : Term (List ℕ)) → operators_owed (factor_done f k) ≤ operators_of_factor f + operators_for_factor k
+pub factor_ends : (k : FactorContext) (f : Expression (List ℕ)) → operators_owed (factor_done f k) ≤ operators_of_factor f + operators_for_factor k
 factor_ends (first_factor k) f = omega (arith, bracket_less-left (is_sum f) (is_product f))
 factor_ends (times p k) f = omega arith
 factor_ends (divides p k) f = omega arith
 factor_ends (remainder_of p k) f = omega arith
 factor_ends (negative k) f = omega (arith, factor_ends k (Negative f))
 
-pub product_ends : (k : ProductContext) (p : Term (List ℕ)) → operators_owed (product_done p k) ≤ operators_of_product p + operators_for_product k
+pub product_ends : (k : ProductContext) (p : Expression (List ℕ)) → operators_owed (product_done p k) ≤ operators_of_product p + operators_for_product k
 product_ends (first_product k) p = omega arith
 product_ends (plus s k) p = omega arith
 product_ends (minus s k) p = omega arith
@@ -133,7 +133,7 @@ conjunction_ends (or_after g k) c = omega arith
 
 factor_costs : (t : TokenKind) (k : FactorContext) (c : ℕ) → operators_for_factor k ≤ c
     → IfSome (step_factor t k) (λ s. operators_owed s ≤ operators_up_to_token t c)
-factor_costs (Number n) k c h = omega (arith, factor_ends k (terms.Number n))
+factor_costs (Number n) k c h = omega (arith, factor_ends k (expressions.Number n))
 factor_costs (Name x) k c h = h
 factor_costs Minus k c h = omega arith
 factor_costs OpenParen k c h = omega arith
@@ -167,14 +167,14 @@ joined_costs : (t : TokenKind) (s : ParseState) (c : ℕ) → operators_owed s �
 joined_costs t (after_conjunction f k) c h = conjunction_costs t f k c h
 joined_costs t _ c h = tt
 
-pub literal_ends : (r : Rel) (a b : Term (List ℕ)) (k : UnitContext)
-    → operators_owed (literal_done r a b k) ≤ 1 + (operators_of_term a + operators_of_term b) + operators_for_unit k
+pub literal_ends : (r : Rel) (a b : Expression (List ℕ)) (k : UnitContext)
+    → operators_owed (literal_done r a b k) ≤ 1 + (operators_of_expression a + operators_of_expression b) + operators_for_unit k
 literal_ends r a b k = omega (arith, unit_ends k (Test (record { relation = r; left = a; right = b })))
 
-bracketed : (e : Term (List ℕ)) → operators_of_factor e ≤ 1 + operators_of_term e
+bracketed : (e : Expression (List ℕ)) → operators_of_factor e ≤ 1 + operators_of_expression e
 bracketed e = omega (arith, at_most_one (is_sum e || is_product e))
 
-sum_costs : (t : TokenKind) (e : Term (List ℕ)) (k : SumContext) (c : ℕ) → operators_of_term e + operators_for_sum k ≤ c
+sum_costs : (t : TokenKind) (e : Expression (List ℕ)) (k : SumContext) (c : ℕ) → operators_of_expression e + operators_for_sum k ≤ c
     → IfSome (step_sum t e k) (λ s. operators_owed s ≤ operators_up_to_token t c)
 sum_costs Plus e k c h = omega arith
 sum_costs Minus e k c h = omega arith
@@ -191,7 +191,7 @@ summed_costs : (t : TokenKind) (s : ParseState) (c : ℕ) → operators_owed s �
 summed_costs t (after_sum e k) c h = sum_costs t e k c h
 summed_costs t _ c h = tt
 
-product_costs : (t : TokenKind) (p : Term (List ℕ)) (k : ProductContext) (c : ℕ) → operators_of_product p + operators_for_product k ≤ c
+product_costs : (t : TokenKind) (p : Expression (List ℕ)) (k : ProductContext) (c : ℕ) → operators_of_product p + operators_for_product k ≤ c
     → IfSome (step_product t p k) (λ s. operators_owed s ≤ operators_up_to_token t c)
 product_costs Star p k c h = omega arith
 product_costs Slash p k c h = omega arith

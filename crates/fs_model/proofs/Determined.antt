@@ -5,10 +5,10 @@ use Rattle.fs_model.specs.Stores.{Store}
 use Rattle.fs_model.specs.Runs.{Step, ReachesReset, FirstReturn}
 
 pub same_state : (m : Fsmd) (q : ℕ) (s : Store) (r u : ℕ) (t v : Store) → Step m q s r t → Step m q s u v → r ≡ u
-same_state m q s r u t v a b = let e : a.line ≡ b.line = cc (a.taken, b.taken) in a.target ∙ ap (λ l. l.target) e ∙ sym b.target
+same_state m q s r u t v a b = let e : a.transition ≡ b.transition = cc (a.taken, b.taken) in a.target ∙ ap (λ l. l.target) e ∙ sym b.target
 
 pub same_store : (m : Fsmd) (q : ℕ) (s : Store) (r u : ℕ) (t v : Store) → Step m q s r t → Step m q s u v → t ≡ v
-same_store m q s r u t v a b = let e : a.line ≡ b.line = cc (a.taken, b.taken) in cc (a.store, b.store)
+same_store m q s r u t v a b = let e : a.transition ≡ b.transition = cc (a.taken, b.taken) in cc (a.store, b.store)
 
 -- both ways of a run after a step that they share
 abbrev pub SameEnd : ℕ → ℕ → Store → Store → Type 0

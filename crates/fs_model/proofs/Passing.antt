@@ -5,7 +5,7 @@ use Rattle.std.specs.List.{list_all}
 use Rattle.std.proofs.lemmas.List.Folds.{list_all-append}
 use Rattle.std.proofs.lemmas.Bool.{and_from}
 use Rattle.base_laws.proofs.Booleans.{and_first, and_second}
-use Rattle.fs_model.specs.Terms.{Literal, Guard, Test, Not, And, Or, Assignment, Transition}
+use Rattle.fs_model.specs.Expressions.{Literal, Guard, Test, Not, And, Or, Assignment, Transition}
 use Rattle.fs_model.specs.Trees.{Tree, Empty, Leaf, Node, tree_of_guard, tree_of_condition, tree_of_transitions, leaves, branches_of, negated_literal}
 use Rattle.fs_model.specs.PartFolds.{Listing, uses_in_literal, uses_in_guard, uses_in_condition, uses_in_assignment, uses_in_assignments, guard_passes}
 use Rattle.fs_model.specs.PartFolds.{condition_passes, transition_passes, branch_passes}

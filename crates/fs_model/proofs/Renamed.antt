@@ -8,26 +8,28 @@ use Rattle.fs_model.specs.declared.parts.Guard.{Guard as DeclaredGuard}
 use Rattle.fs_model.specs.declared.parts.Guard.TheVariants as guards
 use Rattle.fs_model.specs.declared.parts.Assign.{Assign as DeclaredAssign}
 use Rattle.fs_model.specs.declared.parts.Assign.TheVariants as assigns
-use Rattle.fs_model.specs.Terms.{Term, Number, Variable, Read, Sum, Difference, Product, Quotient, Remainder, Negative, Literal, Guard, Test, Not, And, Or}
-use Rattle.fs_model.specs.Terms.{Assignment, Assign, ArrayWrite, Emit}
-use Rattle.fs_model.specs.View.{term_by, literal_by, guard_by, assignment_by, term_of, literal_of, guard_of, assignment_of}
-use Rattle.fs_model.specs.Renamed.{term_over, literal_over, guard_over, assignment_over}
+use Rattle.fs_model.specs.Expressions.{Expression, Number, Variable, Read, Sum, Difference, Product, Quotient, Remainder, Negative, Literal, Guard, Test, Not}
+use Rattle.fs_model.specs.Expressions.{And, Or}
+use Rattle.fs_model.specs.Expressions.{Assignment, Assign, ArrayWrite, Emit}
+use Rattle.fs_model.specs.View.{expression_by, literal_by, guard_by, assignment_by, expression_of, literal_of, guard_of, assignment_of}
+use Rattle.fs_model.specs.Renamed.{expression_over, literal_over, guard_over, assignment_over}
 
 -- ---- views
 
-pub term_by_over : {V X : Type 0} (f : V → X) (e : Expr V) → term_by f e ≡ term_over f (term_by (λ x. x) e)
-term_by_over f (Num n) = refl
-term_by_over f (Var x) = refl
-term_by_over f (Read' x p i) = ap (Read (f x)) (term_by_over f i)
-term_by_over f (Add' p a q b) = ap₂ Sum (term_by_over f a) (term_by_over f b)
-term_by_over f (Sub' p a q b) = ap₂ Difference (term_by_over f a) (term_by_over f b)
-term_by_over f (Mul' p a q b) = ap₂ Product (term_by_over f a) (term_by_over f b)
-term_by_over f (Div' p a q b) = ap₂ Quotient (term_by_over f a) (term_by_over f b)
-term_by_over f (Rem' p a q b) = ap₂ Remainder (term_by_over f a) (term_by_over f b)
-term_by_over f (Neg' p a) = ap Negative (term_by_over f a)
+pub expression_by_over : {V X : Type 0} (f : V → X) (e : Expr V) → expression_by f e ≡ expression_over f (expression_by (λ x. x) e)
+expression_by_over f (Num n) = refl
+expression_by_over f (Var x) = refl
+expression_by_over f (Read' x p i) = ap (Read (f x)) (expression_by_over f i)
+expression_by_over f (Add' p a q b) = ap₂ Sum (expression_by_over f a) (expression_by_over f b)
+expression_by_over f (Sub' p a q b) = ap₂ Difference (expression_by_over f a) (expression_by_over f b)
+expression_by_over f (Mul' p a q b) = ap₂ Product (expression_by_over f a) (expression_by_over f b)
+expression_by_over f (Div' p a q b) = ap₂ Quotient (expression_by_over f a) (expression_by_over f b)
+expression_by_over f (Rem' p a q b) = ap₂ Remainder (expression_by_over f a) (expression_by_over f b)
+expression_by_over f (Neg' p a) = ap Negative (expression_by_over f a)
 
 pub literal_by_over : {V X : Type 0} (f : V → X) (l : Lit V) → literal_by f l ≡ literal_over f (literal_by (λ x. x) l)
-literal_by_over f l = ap₂ (λ (a b : Term _). record { relation = l.rel; left = a; right = b }) (term_by_over f l.left) (term_by_over f l.right)
+literal_by_over f l = ap₂ (λ (a b : Expression _). record { relation = l.rel; left = a; right = b }) (expression_by_over f l.left)
+    (expression_by_over f l.right)
 
 pub guard_by_over : {V X : Type 0} (f : V → X) (g : DeclaredGuard V) → guard_by f g ≡ guard_over f (guard_by (λ x. x) g)
 guard_by_over f (guards.Lit l) = ap Test (literal_by_over f l)
@@ -36,25 +38,27 @@ guard_by_over f (guards.And' p a q b) = ap₂ And (guard_by_over f a) (guard_by_
 guard_by_over f (guards.Or' p a q b) = ap₂ Or (guard_by_over f a) (guard_by_over f b)
 
 pub assignment_by_over : {V X : Type 0} (f : V → X) (a : DeclaredAssign V) → assignment_by f a ≡ assignment_over f (assignment_by (λ x. x) a)
-assignment_by_over f (assigns.Set x e) = ap (Assign (f x)) (term_by_over f e)
-assignment_by_over f (assigns.Put x i e) = ap₂ (ArrayWrite (f x)) (term_by_over f i) (term_by_over f e)
-assignment_by_over f (assigns.Emit x e) = ap (Emit (f x)) (term_by_over f e)
+assignment_by_over f (assigns.Set x e) = ap (Assign (f x)) (expression_by_over f e)
+assignment_by_over f (assigns.Put x i e) = ap₂ (ArrayWrite (f x)) (expression_by_over f i) (expression_by_over f e)
+assignment_by_over f (assigns.Emit x e) = ap (Emit (f x)) (expression_by_over f e)
 
 -- ---- one renaming after another
 
-pub term_over_over : {X Y Z : Type 0} (g : Y → Z) (f : X → Y) (t : Term X) → term_over g (term_over f t) ≡ term_over (λ x. g (f x)) t
-term_over_over g f (Number n) = refl
-term_over_over g f (Variable x) = refl
-term_over_over g f (Read x i) = ap (Read (g (f x))) (term_over_over g f i)
-term_over_over g f (Sum a b) = ap₂ Sum (term_over_over g f a) (term_over_over g f b)
-term_over_over g f (Difference a b) = ap₂ Difference (term_over_over g f a) (term_over_over g f b)
-term_over_over g f (Product a b) = ap₂ Product (term_over_over g f a) (term_over_over g f b)
-term_over_over g f (Quotient a b) = ap₂ Quotient (term_over_over g f a) (term_over_over g f b)
-term_over_over g f (Remainder a b) = ap₂ Remainder (term_over_over g f a) (term_over_over g f b)
-term_over_over g f (Negative a) = ap Negative (term_over_over g f a)
+pub expression_over_over : {X Y Z : Type 0} (g : Y → Z) (f : X → Y) (t : Expression X)
+    → expression_over g (expression_over f t) ≡ expression_over (λ x. g (f x)) t
+expression_over_over g f (Number n) = refl
+expression_over_over g f (Variable x) = refl
+expression_over_over g f (Read x i) = ap (Read (g (f x))) (expression_over_over g f i)
+expression_over_over g f (Sum a b) = ap₂ Sum (expression_over_over g f a) (expression_over_over g f b)
+expression_over_over g f (Difference a b) = ap₂ Difference (expression_over_over g f a) (expression_over_over g f b)
+expression_over_over g f (Product a b) = ap₂ Product (expression_over_over g f a) (expression_over_over g f b)
+expression_over_over g f (Quotient a b) = ap₂ Quotient (expression_over_over g f a) (expression_over_over g f b)
+expression_over_over g f (Remainder a b) = ap₂ Remainder (expression_over_over g f a) (expression_over_over g f b)
+expression_over_over g f (Negative a) = ap Negative (expression_over_over g f a)
 
 pub literal_over_over : {X Y Z : Type 0} (g : Y → Z) (f : X → Y) (l : Literal X) → literal_over g (literal_over f l) ≡ literal_over (λ x. g (f x)) l
-literal_over_over g f l = ap₂ (λ (a b : Term _). record { relation = l.relation; left = a; right = b }) (term_over_over g f l.left) (term_over_over g f l.right)
+literal_over_over g f l = ap₂ (λ (a b : Expression _). record { relation = l.relation; left = a; right = b }) (expression_over_over g f l.left)
+    (expression_over_over g f l.right)
 
 pub guard_over_over : {X Y Z : Type 0} (g : Y → Z) (f : X → Y) (c : Guard X) → guard_over g (guard_over f c) ≡ guard_over (λ x. g (f x)) c
 guard_over_over g f (Test l) = ap Test (literal_over_over g f l)
@@ -64,15 +68,16 @@ guard_over_over g f (Or a b) = ap₂ Or (guard_over_over g f a) (guard_over_over
 
 pub assignment_over_over : {X Y Z : Type 0} (g : Y → Z) (f : X → Y) (a : Assignment X)
     → assignment_over g (assignment_over f a) ≡ assignment_over (λ x. g (f x)) a
-assignment_over_over g f (Assign x e) = ap (Assign (g (f x))) (term_over_over g f e)
-assignment_over_over g f (ArrayWrite x i e) = ap₂ (ArrayWrite (g (f x))) (term_over_over g f i) (term_over_over g f e)
-assignment_over_over g f (Emit x e) = ap (Emit (g (f x))) (term_over_over g f e)
+assignment_over_over g f (Assign x e) = ap (Assign (g (f x))) (expression_over_over g f e)
+assignment_over_over g f (ArrayWrite x i e) = ap₂ (ArrayWrite (g (f x))) (expression_over_over g f i) (expression_over_over g f e)
+assignment_over_over g f (Emit x e) = ap (Emit (g (f x))) (expression_over_over g f e)
 
 -- ---- what a copy whose variables were renamed is, seen by a function
 
-pub term_renamed : {V W X : Type 0} (f : V → W) (g : W → X) (e : Expr V) (copy : Expr W) → term_by (λ x. x) copy ≡ term_over f (term_by (λ x. x) e)
-    → term_by g copy ≡ term_over (λ x. g (f x)) (term_by (λ x. x) e)
-term_renamed f g e copy h = term_by_over g copy ∙ ap (term_over g) h ∙ term_over_over g f (term_by (λ x. x) e)
+pub expression_renamed : {V W X : Type 0} (f : V → W) (g : W → X) (e : Expr V) (copy : Expr W)
+    → expression_by (λ x. x) copy ≡ expression_over f (expression_by (λ x. x) e)
+    → expression_by g copy ≡ expression_over (λ x. g (f x)) (expression_by (λ x. x) e)
+expression_renamed f g e copy h = expression_by_over g copy ∙ ap (expression_over g) h ∙ expression_over_over g f (expression_by (λ x. x) e)
 
 pub literal_renamed : {V W X : Type 0} (f : V → W) (g : W → X) (l : Lit V) (copy : Lit W) → literal_by (λ x. x) copy ≡ literal_over f (literal_by (λ x. x) l)
     → literal_by g copy ≡ literal_over (λ x. g (f x)) (literal_by (λ x. x) l)
@@ -89,8 +94,9 @@ assignment_renamed f g a copy h = assignment_by_over g copy ∙ ap (assignment_o
 
 -- ---- copies over the numbers of variables
 
-pub term_copied : (e copy : Expr VarId) → term_by (λ x. x) copy ≡ term_over (λ x. x) (term_by (λ x. x) e) → term_of copy ≡ term_of e
-term_copied e copy h = term_renamed (λ x. x) (λ (x : VarId). x.0) e copy h ∙ sym (term_by_over (λ (x : VarId). x.0) e)
+pub expression_copied : (e copy : Expr VarId) → expression_by (λ x. x) copy ≡ expression_over (λ x. x) (expression_by (λ x. x) e)
+    → expression_of copy ≡ expression_of e
+expression_copied e copy h = expression_renamed (λ x. x) (λ (x : VarId). x.0) e copy h ∙ sym (expression_by_over (λ (x : VarId). x.0) e)
 
 pub literal_copied : (l copy : Lit VarId) → literal_by (λ x. x) copy ≡ literal_over (λ x. x) (literal_by (λ x. x) l) → literal_of copy ≡ literal_of l
 literal_copied l copy h = literal_renamed (λ x. x) (λ (x : VarId). x.0) l copy h ∙ sym (literal_by_over (λ (x : VarId). x.0) l)

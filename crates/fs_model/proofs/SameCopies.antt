@@ -2,32 +2,34 @@
 use Rattle.std.proofs.Common.{◌≡◌, refl, ◌∙◌, ap, ap₂, List, ℕ}
 use Rattle.fs_model.specs.declared.parts.Guard.{Guard as DeclaredGuard}
 use Rattle.fs_model.specs.declared.parts.Assign.{Assign as DeclaredAssign}
-use Rattle.fs_model.specs.Terms.{Term, Number, Variable, Read, Sum, Difference, Product, Quotient, Remainder, Negative, Guard, Test, Not, And, Or, Assignment}
-use Rattle.fs_model.specs.Terms.{Assign, ArrayWrite, Emit}
+use Rattle.fs_model.specs.Expressions.{Expression, Number, Variable, Read, Sum, Difference, Product, Quotient, Remainder, Negative, Guard, Test, Not, And, Or}
+use Rattle.fs_model.specs.Expressions.{Assignment}
+use Rattle.fs_model.specs.Expressions.{Assign, ArrayWrite, Emit}
 use Rattle.fs_model.specs.View.{guard_by, assignment_by, named_guard, named_assignment}
-use Rattle.fs_model.specs.Renamed.{term_over, guard_over, assignment_over}
+use Rattle.fs_model.specs.Renamed.{expression_over, guard_over, assignment_over}
 
-term_kept : {X : Type 0} (t : Term X) → term_over (λ x. x) t ≡ t
-term_kept (Number n) = refl
-term_kept (Variable x) = refl
-term_kept (Read x i) = ap (Read x) (term_kept i)
-term_kept (Sum a b) = ap₂ Sum (term_kept a) (term_kept b)
-term_kept (Difference a b) = ap₂ Difference (term_kept a) (term_kept b)
-term_kept (Product a b) = ap₂ Product (term_kept a) (term_kept b)
-term_kept (Quotient a b) = ap₂ Quotient (term_kept a) (term_kept b)
-term_kept (Remainder a b) = ap₂ Remainder (term_kept a) (term_kept b)
-term_kept (Negative a) = ap Negative (term_kept a)
+expression_kept : {X : Type 0} (t : Expression X) → expression_over (λ x. x) t ≡ t
+expression_kept (Number n) = refl
+expression_kept (Variable x) = refl
+expression_kept (Read x i) = ap (Read x) (expression_kept i)
+expression_kept (Sum a b) = ap₂ Sum (expression_kept a) (expression_kept b)
+expression_kept (Difference a b) = ap₂ Difference (expression_kept a) (expression_kept b)
+expression_kept (Product a b) = ap₂ Product (expression_kept a) (expression_kept b)
+expression_kept (Quotient a b) = ap₂ Quotient (expression_kept a) (expression_kept b)
+expression_kept (Remainder a b) = ap₂ Remainder (expression_kept a) (expression_kept b)
+expression_kept (Negative a) = ap Negative (expression_kept a)
 
 guard_kept : {X : Type 0} (g : Guard X) → guard_over (λ x. x) g ≡ g
-guard_kept (Test l) = ap Test (ap₂ (λ (a b : Term _). record { relation = l.relation; left = a; right = b }) (term_kept l.left) (term_kept l.right))
+guard_kept (Test l) = ap Test (ap₂ (λ (a b : Expression _). record { relation = l.relation; left = a; right = b }) (expression_kept l.left)
+    (expression_kept l.right))
 guard_kept (Not g) = ap Not (guard_kept g)
 guard_kept (And a b) = ap₂ And (guard_kept a) (guard_kept b)
 guard_kept (Or a b) = ap₂ Or (guard_kept a) (guard_kept b)
 
 assignment_kept : {X : Type 0} (a : Assignment X) → assignment_over (λ x. x) a ≡ a
-assignment_kept (Assign x e) = ap (Assign x) (term_kept e)
-assignment_kept (ArrayWrite x i e) = ap₂ (ArrayWrite x) (term_kept i) (term_kept e)
-assignment_kept (Emit x e) = ap (Emit x) (term_kept e)
+assignment_kept (Assign x e) = ap (Assign x) (expression_kept e)
+assignment_kept (ArrayWrite x i e) = ap₂ (ArrayWrite x) (expression_kept i) (expression_kept e)
+assignment_kept (Emit x e) = ap (Emit x) (expression_kept e)
 
 pub guard_same : (g copy : DeclaredGuard (List ℕ)) → guard_by (λ x. x) copy ≡ guard_over (λ x. x) (guard_by (λ x. x) g) → named_guard copy ≡ named_guard g
 guard_same g copy h = h ∙ guard_kept (guard_by (λ x. x) g)

@@ -10,8 +10,9 @@ use Rattle.fs_model.specs.declared.parts.Role.TheVariants.{Input, Output, Local}
 use Rattle.fs_model.specs.declared.parts.Sort.{Sort}
 use Rattle.fs_model.specs.declared.parts.Sort.TheVariants.{Scalar, Array, Port}
 use Rattle.fs_model.specs.declared.parts.VarInfo.{VarInfo}
-use Rattle.fs_model.specs.Terms.{Term, Number, Variable, Read, Sum, Difference, Product, Quotient, Remainder, Negative, Literal}
-use Rattle.fs_model.specs.Terms.{Guard, Test, Not, And, Or, Assignment, Assign, ArrayWrite, Emit, Transition}
+use Rattle.fs_model.specs.Expressions.{Expression, Number, Variable, Read, Sum, Difference, Product, Quotient, Remainder}
+use Rattle.fs_model.specs.Expressions.{Negative, Literal}
+use Rattle.fs_model.specs.Expressions.{Guard, Test, Not, And, Or, Assignment, Assign, ArrayWrite, Emit, Transition}
 use Rattle.fs_model.specs.Machines.{State, Fsmd}
 use Rattle.fs_model.specs.Runs.{is_input, is_output, is_scalar, is_array}
 
@@ -65,50 +66,55 @@ pub int_back : (x : ℤ) → int_at (code_int x) ≡ x
 int_back (pos n) = refl
 int_back (negsuc n) = refl
 
-abbrev pub code_term : Term ℕ → Gv
-code_term (Number n) = node 0 (code_int n) gnil
-code_term (Variable x) = node 1 (gnum x) gnil
-code_term (Read x i) = node 2 (gnum x) (code_term i)
-code_term (Sum a b) = node 3 (code_term a) (code_term b)
-code_term (Difference a b) = node 4 (code_term a) (code_term b)
-code_term (Product a b) = node 5 (code_term a) (code_term b)
-code_term (Quotient a b) = node 6 (code_term a) (code_term b)
-code_term (Remainder a b) = node 7 (code_term a) (code_term b)
-code_term (Negative a) = node 8 (code_term a) gnil
+abbrev pub code_expression : Expression ℕ → Gv
+code_expression (Number n) = node 0 (code_int n) gnil
+code_expression (Variable x) = node 1 (gnum x) gnil
+code_expression (Read x i) = node 2 (gnum x) (code_expression i)
+code_expression (Sum a b) = node 3 (code_expression a) (code_expression b)
+code_expression (Difference a b) = node 4 (code_expression a) (code_expression b)
+code_expression (Product a b) = node 5 (code_expression a) (code_expression b)
+code_expression (Quotient a b) = node 6 (code_expression a) (code_expression b)
+code_expression (Remainder a b) = node 7 (code_expression a) (code_expression b)
+code_expression (Negative a) = node 8 (code_expression a) gnil
 
--- the term of a kind, by what its parts are as trees and as terms
-abbrev pub term_of_kind : ℕ → Gv → Term ℕ → Term ℕ → Term ℕ
-term_of_kind k a left right =
+-- the expression of a kind, by what its parts are as trees and as expressions
+abbrev pub expression_of_kind : ℕ → Gv → Expression ℕ → Expression ℕ → Expression ℕ
+expression_of_kind k a left right =
     cond (k == 0) (Number (int_at a))
     (cond (k == 1) (Variable (num a)) (cond (k == 2) (Read (num a) right) (cond (k == 3) (Sum left right)
     (cond (k == 4) (Difference left right)
     (cond (k == 5) (Product left right)
     (cond (k == 6) (Quotient left right) (cond (k == 7) (Remainder left right) (Negative left))))))))
 
-abbrev pub term_at : Gv → Term ℕ
-term_at (gcons k (gcons a b)) = term_of_kind (num k) a (term_at a) (term_at b)
-term_at none = Variable 0
+abbrev pub expression_at : Gv → Expression ℕ
+expression_at (gcons k (gcons a b)) = expression_of_kind (num k) a (expression_at a) (expression_at b)
+expression_at none = Variable 0
 
-pub term_back : (t : Term ℕ) → term_at (code_term t) ≡ t
-term_back (Number n) = ap Number (int_back n)
-term_back (Variable x) = refl
-term_back (Read x i) = ap (Read x) (term_back i)
-term_back (Sum a b) = λ j. Sum (term_back a j) (term_back b j)
-term_back (Difference a b) = λ j. Difference (term_back a j) (term_back b j)
-term_back (Product a b) = λ j. Product (term_back a j) (term_back b j)
-term_back (Quotient a b) = λ j. Quotient (term_back a j) (term_back b j)
-term_back (Remainder a b) = λ j. Remainder (term_back a j) (term_back b j)
-term_back (Negative a) = ap Negative (term_back a)
+pub expression_back : (t : Expression ℕ) → expression_at (code_expression t) ≡ t
+expression_back (Number n) = ap Number (int_back n)
+expression_back (Variable x) = refl
+expression_back (Read x i) = ap (Read x) (expression_back i)
+expression_back (Sum a b) = λ j. Sum (expression_back a j) (expression_back b j)
+expression_back (Difference a b) = λ j. Difference (expression_back a j) (expression_back b j)
+expression_back (Product a b) = λ j. Product (expression_back a j) (expression_back b j)
+expression_back (Quotient a b) = λ j. Quotient (expression_back a j) (expression_back b j)
+expression_back (Remainder a b) = λ j. Remainder (expression_back a j) (expression_back b j)
+expression_back (Negative a) = ap Negative (expression_back a)
 
 abbrev pub code_literal : Literal ℕ → Gv
-code_literal l = node (rel_number l.relation) (code_term l.left) (code_term l.right)
+code_literal l = node (rel_number l.relation) (code_expression l.left) (code_expression l.right)
 
 abbrev pub literal_at : Gv → Literal ℕ
-literal_at (gcons k (gcons a b)) = record { relation = rel_at (num k); left = term_at a; right = term_at b }
+literal_at (gcons k (gcons a b)) = record { relation = rel_at (num k); left = expression_at a; right = expression_at b }
 literal_at none = record { relation = Eq; left = Variable 0; right = Variable 0 }
 
 pub literal_back : (l : Literal ℕ) → literal_at (code_literal l) ≡ l
-literal_back l = λ j. record { relation = rel_back l.relation j; left = term_back l.left j; right = term_back l.right j }
+literal_back l = λ j. record {
+  relation = rel_back l.relation j;
+  left = expression_back l.left j;
+  right = expression_back l.right
+      j;
+}
 
 abbrev pub coded_literal : Coded (Literal ℕ)
 coded_literal = record { code = code_literal; inj = λ x y e. sym (literal_back x) ∙ ap literal_at e ∙ literal_back y }
@@ -137,19 +143,19 @@ abbrev pub coded_guard : Coded (Guard ℕ)
 coded_guard = record { code = code_guard; inj = λ x y e. sym (guard_back x) ∙ ap guard_at e ∙ guard_back y }
 
 abbrev pub code_assignment : Assignment ℕ → Gv
-code_assignment (Assign x e) = gcons (gnum 0) (node x (code_term e) gnil)
-code_assignment (ArrayWrite x i e) = gcons (gnum 1) (node x (code_term i) (code_term e))
-code_assignment (Emit x e) = gcons (gnum 2) (node x (code_term e) gnil)
+code_assignment (Assign x e) = gcons (gnum 0) (node x (code_expression e) gnil)
+code_assignment (ArrayWrite x i e) = gcons (gnum 1) (node x (code_expression i) (code_expression e))
+code_assignment (Emit x e) = gcons (gnum 2) (node x (code_expression e) gnil)
 
 abbrev pub assignment_at : Gv → Assignment ℕ
-assignment_at (gcons k (gcons x (gcons a b))) = cond (num k == 0) (Assign (num x) (term_at a))
-    (cond (num k == 1) (ArrayWrite (num x) (term_at a) (term_at b)) (Emit (num x) (term_at a)))
+assignment_at (gcons k (gcons x (gcons a b))) = cond (num k == 0) (Assign (num x) (expression_at a))
+    (cond (num k == 1) (ArrayWrite (num x) (expression_at a) (expression_at b)) (Emit (num x) (expression_at a)))
 assignment_at none = Emit 0 (Variable 0)
 
 pub assignment_back : (a : Assignment ℕ) → assignment_at (code_assignment a) ≡ a
-assignment_back (Assign x e) = ap (Assign x) (term_back e)
-assignment_back (ArrayWrite x i e) = λ j. ArrayWrite x (term_back i j) (term_back e j)
-assignment_back (Emit x e) = ap (Emit x) (term_back e)
+assignment_back (Assign x e) = ap (Assign x) (expression_back e)
+assignment_back (ArrayWrite x i e) = λ j. ArrayWrite x (expression_back i j) (expression_back e j)
+assignment_back (Emit x e) = ap (Emit x) (expression_back e)
 
 abbrev pub coded_assignment : Coded (Assignment ℕ)
 coded_assignment = record {
@@ -165,7 +171,7 @@ coded_transition =
 
 abbrev pub coded_state : Coded State
 coded_state = code_by (List ℕ × List (Transition ℕ ℕ)) (coded× (coded_list coded_ℕ) (coded_list coded_transition))
-    (λ s. (s.name, s.lines)) (λ p. record { name = p.0; lines = p.1 }) (λ _. refl)
+    (λ s. (s.name, s.transitions)) (λ p. record { name = p.0; transitions = p.1 }) (λ _. refl)
 
 abbrev pub coded_variable : Coded VarInfo
 coded_variable = code_by (List ℕ × (Role × Sort)) (coded× (coded_list coded_ℕ) (coded× coded_role coded_sort))

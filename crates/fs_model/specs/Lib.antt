@@ -7,9 +7,10 @@ pub mod PartFolds
 pub mod Renamed
 pub mod Runs
 pub mod Sides
+pub mod SoundMachines
 pub mod Source
 pub mod Stores
-pub mod Terms
+pub mod Expressions
 pub mod Touched
 pub mod Trees
 pub mod VariableNames

@@ -5,11 +5,12 @@ use Rattle.std.specs.Ordering.{int_eq}
 use Rattle.base_laws.specs.Division.{quotient, remainder}
 use Rattle.fs_model.specs.declared.parts.Rel.{Rel}
 use Rattle.fs_model.specs.declared.parts.Rel.TheVariants.{Eq, Ne, Lt, Le, Gt, Ge}
-use Rattle.fs_model.specs.Terms.{Term, Number, Variable, Read, Sum, Difference, Product, Quotient, Remainder, Negative, Literal}
-use Rattle.fs_model.specs.Terms.{Guard, Test, Not, And, Or, Assignment, Assign, ArrayWrite, Emit, Transition}
+use Rattle.fs_model.specs.Expressions.{Expression, Number, Variable, Read, Sum, Difference, Product, Quotient, Remainder}
+use Rattle.fs_model.specs.Expressions.{Negative, Literal}
+use Rattle.fs_model.specs.Expressions.{Guard, Test, Not, And, Or, Assignment, Assign, ArrayWrite, Emit, Transition}
 use Rattle.fs_model.specs.Stores.{Store, store_with_number, store_with_entry, store_with_emit}
 
-abbrev pub value : Term ℕ → Store → ℤ
+abbrev pub value : Expression ℕ → Store → ℤ
 value (Number n) s = n
 value (Variable x) s = s.scalar x
 value (Read x i) s = s.array x (value i s)

@@ -1,8 +1,9 @@
--- What the parts of a machine use and pass: folds over terms, guards, assignments, transitions and branches.
+-- What the parts of a machine use and pass: folds over expressions, guards, assignments, transitions and branches.
 use Rattle.std.specs.Prelude.{ℕ, Bool, true, ◌&&◌, ℤ, List, [], ◌∷◌, ◌++◌, Option, Some, None}
 use Rattle.std.specs.List.{list_all}
-use Rattle.fs_model.specs.Terms.{Term, Number, Variable, Read, Sum, Difference, Product, Quotient, Remainder, Negative, Literal}
-use Rattle.fs_model.specs.Terms.{Guard, Test, Not, And, Or, Assignment, Assign, ArrayWrite, Emit, Transition}
+use Rattle.fs_model.specs.Expressions.{Expression, Number, Variable, Read, Sum, Difference, Product, Quotient, Remainder}
+use Rattle.fs_model.specs.Expressions.{Negative, Literal}
+use Rattle.fs_model.specs.Expressions.{Guard, Test, Not, And, Or, Assignment, Assign, ArrayWrite, Emit, Transition}
 use Rattle.fs_model.specs.Machines.{State}
 use Rattle.fs_model.specs.Trees.{Branch}
 
@@ -15,7 +16,7 @@ pub record Listing (A : Type 0) : Type 0 where
   pub of_array : ℕ → List A
 
 -- the uses of a part, in order of its text
-abbrev pub uses_in : {A : Type 0} → Listing A → Term ℕ → List A
+abbrev pub uses_in : {A : Type 0} → Listing A → Expression ℕ → List A
 uses_in u (Number n) = u.of_number n
 uses_in u (Variable x) = u.of_scalar x
 uses_in u (Read x i) = u.of_array x ++ uses_in u i
@@ -54,7 +55,7 @@ uses_in_transitions u (l ∷ ls) = uses_in_condition u l.guard ++ (uses_in_assig
 
 abbrev pub uses_in_states : {A : Type 0} → Listing A → List State → List A
 uses_in_states u [] = []
-uses_in_states u (s ∷ ss) = uses_in_transitions u s.lines ++ uses_in_states u ss
+uses_in_states u (s ∷ ss) = uses_in_transitions u s.transitions ++ uses_in_states u ss
 
 -- the scalars alone, by their values and by assignments to them
 abbrev pub scalars : Listing ℕ

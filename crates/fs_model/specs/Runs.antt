@@ -7,17 +7,17 @@ use Rattle.fs_model.specs.declared.parts.Role.TheVariants.{Input, Output}
 use Rattle.fs_model.specs.declared.parts.Sort.{Sort}
 use Rattle.fs_model.specs.declared.parts.Sort.TheVariants.{Scalar, Array, Port}
 use Rattle.fs_model.specs.declared.parts.VarInfo.{VarInfo}
-use Rattle.fs_model.specs.Terms.{Transition}
+use Rattle.fs_model.specs.Expressions.{Transition}
 use Rattle.fs_model.specs.Machines.{Fsmd, transitions_of}
 use Rattle.fs_model.specs.Stores.{Store}
 use Rattle.fs_model.specs.Meaning.{transition_taken, act_all}
 
 -- from state q and store s, the first transition whose guard holds leads to state r and store t
 pub record Step (m : Fsmd) (q : ℕ) (s : Store) (r : ℕ) (t : Store) : Type 0 where
-  pub line : Transition ℕ ℕ
-  pub taken : transition_taken (transitions_of m q) s ≡ Some line
-  pub target : r ≡ line.target
-  pub store : t ≡ act_all line.assignments s s
+  pub transition : Transition ℕ ℕ
+  pub taken : transition_taken (transitions_of m q) s ≡ Some transition
+  pub target : r ≡ transition.target
+  pub store : t ≡ act_all transition.assignments s s
 
 -- one step, after which After stands
 pub record AfterStep (m : Fsmd) (q : ℕ) (s : Store) (After : ℕ → Store → Type 0) : Type 0 where

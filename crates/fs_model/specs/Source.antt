@@ -2,7 +2,7 @@
 use Rattle.std.specs.Prelude.{ℕ, List}
 use Rattle.fs_model.specs.declared.parts.Role.{Role}
 use Rattle.fs_model.specs.declared.parts.Sort.{Sort}
-use Rattle.fs_model.specs.Terms.{Transition}
+use Rattle.fs_model.specs.Expressions.{Transition}
 
 pub record Declaration : Type 0 where
   pub line : ℕ
@@ -17,7 +17,7 @@ pub record SourceTransition : Type 0 where
 pub record SourceState : Type 0 where
   pub line : ℕ
   pub name : List ℕ
-  pub lines : List SourceTransition
+  pub transitions : List SourceTransition
 
 pub record Source : Type 0 where
   pub declarations : List Declaration

@@ -2,28 +2,29 @@
 -- and emitted expressions of the transition taken, and of all their parts.
 use Rattle.std.specs.Prelude.{◌≢◌, ℕ, zero, suc, cond, ℤ, FitsSigned, List, [], ◌∷◌, ◌++◌, Option, Some, None}
 use Rattle.std.specs.Int.{w128}
-use Rattle.fs_model.specs.Terms.{Term, Number, Variable, Read, Sum, Difference, Product, Quotient, Remainder, Negative, Guard}
-use Rattle.fs_model.specs.Terms.{Test, Not, And, Or, Assignment, Assign, ArrayWrite, Emit, Transition}
+use Rattle.fs_model.specs.Expressions.{Expression, Number, Variable, Read, Sum, Difference, Product, Quotient, Remainder}
+use Rattle.fs_model.specs.Expressions.{Negative, Guard}
+use Rattle.fs_model.specs.Expressions.{Test, Not, And, Or, Assignment, Assign, ArrayWrite, Emit, Transition}
 use Rattle.fs_model.specs.Machines.{Fsmd, transitions_of}
 use Rattle.fs_model.specs.Stores.{Store}
 use Rattle.fs_model.specs.Meaning.{value, holds, condition_holds}
 use Rattle.fs_model.specs.Runs.{Step}
 
--- the value of a term and of all its parts
-abbrev pub touched_by_term : Term ℕ → Store → List ℤ
-touched_by_term (Number n) s = n ∷ []
-touched_by_term (Variable x) s = s.scalar x ∷ []
-touched_by_term (Read x i) s = value (Read x i) s ∷ touched_by_term i s
-touched_by_term (Sum a b) s = value (Sum a b) s ∷ (touched_by_term a s ++ touched_by_term b s)
-touched_by_term (Difference a b) s = value (Difference a b) s ∷ (touched_by_term a s ++ touched_by_term b s)
-touched_by_term (Product a b) s = value (Product a b) s ∷ (touched_by_term a s ++ touched_by_term b s)
-touched_by_term (Quotient a b) s = value (Quotient a b) s ∷ (touched_by_term a s ++ touched_by_term b s)
-touched_by_term (Remainder a b) s = value (Remainder a b) s ∷ (touched_by_term a s ++ touched_by_term b s)
-touched_by_term (Negative a) s = value (Negative a) s ∷ touched_by_term a s
+-- the value of an expression and of all its parts
+abbrev pub touched_by_expression : Expression ℕ → Store → List ℤ
+touched_by_expression (Number n) s = n ∷ []
+touched_by_expression (Variable x) s = s.scalar x ∷ []
+touched_by_expression (Read x i) s = value (Read x i) s ∷ touched_by_expression i s
+touched_by_expression (Sum a b) s = value (Sum a b) s ∷ (touched_by_expression a s ++ touched_by_expression b s)
+touched_by_expression (Difference a b) s = value (Difference a b) s ∷ (touched_by_expression a s ++ touched_by_expression b s)
+touched_by_expression (Product a b) s = value (Product a b) s ∷ (touched_by_expression a s ++ touched_by_expression b s)
+touched_by_expression (Quotient a b) s = value (Quotient a b) s ∷ (touched_by_expression a s ++ touched_by_expression b s)
+touched_by_expression (Remainder a b) s = value (Remainder a b) s ∷ (touched_by_expression a s ++ touched_by_expression b s)
+touched_by_expression (Negative a) s = value (Negative a) s ∷ touched_by_expression a s
 
 -- of a guard, the literals that are looked at: the second of two only where the first leaves it open
 abbrev pub touched_by_guard : Guard ℕ → Store → List ℤ
-touched_by_guard (Test l) s = touched_by_term l.left s ++ touched_by_term l.right s
+touched_by_guard (Test l) s = touched_by_expression l.left s ++ touched_by_expression l.right s
 touched_by_guard (Not g) s = touched_by_guard g s
 touched_by_guard (And a b) s = touched_by_guard a s ++ cond (holds a s) (touched_by_guard b s) []
 touched_by_guard (Or a b) s = touched_by_guard a s ++ cond (holds a s) [] (touched_by_guard b s)
@@ -33,9 +34,9 @@ touched_by_condition None s = []
 touched_by_condition (Some g) s = touched_by_guard g s
 
 abbrev pub touched_by_assignment : Assignment ℕ → Store → List ℤ
-touched_by_assignment (Assign x e) s = touched_by_term e s
-touched_by_assignment (ArrayWrite x i e) s = touched_by_term i s ++ touched_by_term e s
-touched_by_assignment (Emit x e) s = touched_by_term e s
+touched_by_assignment (Assign x e) s = touched_by_expression e s
+touched_by_assignment (ArrayWrite x i e) s = touched_by_expression i s ++ touched_by_expression e s
+touched_by_assignment (Emit x e) s = touched_by_expression e s
 
 abbrev pub touched_by_assignments : List (Assignment ℕ) → Store → List ℤ
 touched_by_assignments [] s = []

@@ -14,26 +14,27 @@ use Rattle.fs_model.specs.declared.parts.RawLine.{RawLine}
 use Rattle.fs_model.specs.declared.parts.RawState.{RawState}
 use Rattle.fs_model.specs.declared.parts.Parts.{Parts}
 use Rattle.fs_model.specs.declared.parts.Branch.{Branch}
-use Rattle.fs_model.specs.Terms.{Term, Number, Variable, Read, Sum, Difference, Product, Quotient, Remainder, Negative, Literal}
-use Rattle.fs_model.specs.Terms.{Guard, Test, Not, And, Or, Assignment, Assign as assigned, ArrayWrite as written}
-use Rattle.fs_model.specs.Terms.{Emit as emitted}
+use Rattle.fs_model.specs.Expressions.{Expression, Number, Variable, Read, Sum, Difference, Product, Quotient, Remainder}
+use Rattle.fs_model.specs.Expressions.{Negative, Literal}
+use Rattle.fs_model.specs.Expressions.{Guard, Test, Not, And, Or, Assignment, Assign as assigned, ArrayWrite as written}
+use Rattle.fs_model.specs.Expressions.{Emit as emitted}
 use Rattle.fs_model.specs.Source.{Declaration, SourceTransition, SourceState, Source}
 use Rattle.fs_model.specs.Trees.{Branch as Leaf}
 
 -- what an expression says, where f tells its variables
-abbrev pub term_by : {V X : Type 0} → (V → X) → Expr V → Term X
-term_by f (Num n) = Number n
-term_by f (Var x) = Variable (f x)
-term_by f (Read' x p i) = Read (f x) (term_by f i)
-term_by f (Add' p a q b) = Sum (term_by f a) (term_by f b)
-term_by f (Sub' p a q b) = Difference (term_by f a) (term_by f b)
-term_by f (Mul' p a q b) = Product (term_by f a) (term_by f b)
-term_by f (Div' p a q b) = Quotient (term_by f a) (term_by f b)
-term_by f (Rem' p a q b) = Remainder (term_by f a) (term_by f b)
-term_by f (Neg' p a) = Negative (term_by f a)
+abbrev pub expression_by : {V X : Type 0} → (V → X) → Expr V → Expression X
+expression_by f (Num n) = Number n
+expression_by f (Var x) = Variable (f x)
+expression_by f (Read' x p i) = Read (f x) (expression_by f i)
+expression_by f (Add' p a q b) = Sum (expression_by f a) (expression_by f b)
+expression_by f (Sub' p a q b) = Difference (expression_by f a) (expression_by f b)
+expression_by f (Mul' p a q b) = Product (expression_by f a) (expression_by f b)
+expression_by f (Div' p a q b) = Quotient (expression_by f a) (expression_by f b)
+expression_by f (Rem' p a q b) = Remainder (expression_by f a) (expression_by f b)
+expression_by f (Neg' p a) = Negative (expression_by f a)
 
 abbrev pub literal_by : {V X : Type 0} → (V → X) → Lit V → Literal X
-literal_by f l = record { relation = l.rel; left = term_by f l.left; right = term_by f l.right }
+literal_by f l = record { relation = l.rel; left = expression_by f l.left; right = expression_by f l.right }
 
 abbrev pub guard_by : {V X : Type 0} → (V → X) → DeclaredGuard V → Guard X
 guard_by f (guards.Lit l) = Test (literal_by f l)
@@ -42,13 +43,13 @@ guard_by f (guards.And' p a q b) = And (guard_by f a) (guard_by f b)
 guard_by f (guards.Or' p a q b) = Or (guard_by f a) (guard_by f b)
 
 abbrev pub assignment_by : {V X : Type 0} → (V → X) → Assign V → Assignment X
-assignment_by f (Set x e) = assigned (f x) (term_by f e)
-assignment_by f (Put x i e) = written (f x) (term_by f i) (term_by f e)
-assignment_by f (Emit x e) = emitted (f x) (term_by f e)
+assignment_by f (Set x e) = assigned (f x) (expression_by f e)
+assignment_by f (Put x i e) = written (f x) (expression_by f i) (expression_by f e)
+assignment_by f (Emit x e) = emitted (f x) (expression_by f e)
 
 -- over names
-abbrev pub named_term : Expr (List ℕ) → Term (List ℕ)
-named_term e = term_by (λ x. x) e
+abbrev pub named_expression : Expr (List ℕ) → Expression (List ℕ)
+named_expression e = expression_by (λ x. x) e
 
 abbrev pub named_guard : DeclaredGuard (List ℕ) → Guard (List ℕ)
 named_guard g = guard_by (λ x. x) g
@@ -57,8 +58,8 @@ abbrev pub named_assignment : Assign (List ℕ) → Assignment (List ℕ)
 named_assignment a = assignment_by (λ x. x) a
 
 -- over the numbers of variables
-abbrev pub term_of : Expr VarId → Term ℕ
-term_of e = term_by (λ x. x.0) e
+abbrev pub expression_of : Expr VarId → Expression ℕ
+expression_of e = expression_by (λ x. x.0) e
 
 abbrev pub literal_of : Lit VarId → Literal ℕ
 literal_of l = literal_by (λ x. x.0) l
@@ -94,7 +95,7 @@ source_transition_of l = record {
 }
 
 abbrev pub source_state_of : RawState → SourceState
-source_state_of s = record { line = s.line; name = s.name; lines = map source_transition_of s.lines.items }
+source_state_of s = record { line = s.line; name = s.name; transitions = map source_transition_of s.lines.items }
 
 abbrev pub source_of : Parts → Source
 source_of p = record {

@@ -5,18 +5,19 @@ use Rattle.std.specs.Prelude.{None}
 use Rattle.std.specs.List.{list_all}
 use Rattle.fs_model.specs.Runs.{is_output, is_port}
 use Rattle.fs_model.specs.Limits.{most_operators}
-use Rattle.fs_model.specs.Terms.{Term, Number, Variable, Read, Sum, Difference, Product, Quotient, Remainder, Negative, Guard}
-use Rattle.fs_model.specs.Terms.{Test, Not, And, Or, Assignment, Assign, ArrayWrite, Emit}
+use Rattle.fs_model.specs.Expressions.{Expression, Number, Variable, Read, Sum, Difference, Product, Quotient, Remainder}
+use Rattle.fs_model.specs.Expressions.{Negative, Guard}
+use Rattle.fs_model.specs.Expressions.{Test, Not, And, Or, Assignment, Assign, ArrayWrite, Emit}
 use Rattle.fs_model.specs.Source.{Declaration, SourceTransition, SourceState, Source}
 
 -- made by + or - between two operands
-abbrev pub is_sum : {X : Type 0} → Term X → Bool
+abbrev pub is_sum : {X : Type 0} → Expression X → Bool
 is_sum (Sum a b) = true
 is_sum (Difference a b) = true
 is_sum _ = false
 
 -- made by *, / or %
-abbrev pub is_product : {X : Type 0} → Term X → Bool
+abbrev pub is_product : {X : Type 0} → Expression X → Bool
 is_product (Product a b) = true
 is_product (Quotient a b) = true
 is_product (Remainder a b) = true
@@ -36,24 +37,24 @@ is_or _ = false
 abbrev pub bracket : Bool → ℕ
 bracket needed = cond needed 1 0
 
--- the operators and opening brackets of the shortest text of a term
-abbrev pub operators_of_term : {X : Type 0} → Term X → ℕ
-operators_of_term (Number n) = 0
-operators_of_term (Variable x) = 0
-operators_of_term (Read x i) = 1 + operators_of_term i
-operators_of_term (Sum a b) = 1 + (operators_of_term a + (bracket (is_sum b) + operators_of_term b))
-operators_of_term (Difference a b) = 1 + (operators_of_term a + (bracket (is_sum b) + operators_of_term b))
-operators_of_term (Product a b) =
-    1 + ((bracket (is_sum a) + operators_of_term a) + (bracket (is_sum b || is_product b) + operators_of_term b))
-operators_of_term (Quotient a b) =
-    1 + ((bracket (is_sum a) + operators_of_term a) + (bracket (is_sum b || is_product b) + operators_of_term b))
-operators_of_term (Remainder a b) =
-    1 + ((bracket (is_sum a) + operators_of_term a) + (bracket (is_sum b || is_product b) + operators_of_term b))
-operators_of_term (Negative a) = 1 + (bracket (is_sum a || is_product a) + operators_of_term a)
+-- the operators and opening brackets of the shortest text of an expression
+abbrev pub operators_of_expression : {X : Type 0} → Expression X → ℕ
+operators_of_expression (Number n) = 0
+operators_of_expression (Variable x) = 0
+operators_of_expression (Read x i) = 1 + operators_of_expression i
+operators_of_expression (Sum a b) = 1 + (operators_of_expression a + (bracket (is_sum b) + operators_of_expression b))
+operators_of_expression (Difference a b) = 1 + (operators_of_expression a + (bracket (is_sum b) + operators_of_expression b))
+operators_of_expression (Product a b) =
+    1 + ((bracket (is_sum a) + operators_of_expression a) + (bracket (is_sum b || is_product b) + operators_of_expression b))
+operators_of_expression (Quotient a b) =
+    1 + ((bracket (is_sum a) + operators_of_expression a) + (bracket (is_sum b || is_product b) + operators_of_expression b))
+operators_of_expression (Remainder a b) =
+    1 + ((bracket (is_sum a) + operators_of_expression a) + (bracket (is_sum b || is_product b) + operators_of_expression b))
+operators_of_expression (Negative a) = 1 + (bracket (is_sum a || is_product a) + operators_of_expression a)
 
 -- the same of a guard, with braces for brackets
 abbrev pub operators_of_guard : {X : Type 0} → Guard X → ℕ
-operators_of_guard (Test l) = 1 + (operators_of_term l.left + operators_of_term l.right)
+operators_of_guard (Test l) = 1 + (operators_of_expression l.left + operators_of_expression l.right)
 operators_of_guard (Not g) = 1 + (bracket (is_and g || is_or g) + operators_of_guard g)
 operators_of_guard (And a b) =
     1 + ((bracket (is_or a) + operators_of_guard a) + (bracket (is_and b || is_or b) + operators_of_guard b))
@@ -61,34 +62,34 @@ operators_of_guard (Or a b) = 1 + (operators_of_guard a + (bracket (is_or b) + o
 
 -- the same of an assignment
 abbrev pub operators_of_assignment : {X : Type 0} → Assignment X → ℕ
-operators_of_assignment (Assign x e) = operators_of_term e
-operators_of_assignment (ArrayWrite x i e) = 1 + (operators_of_term i + operators_of_term e)
-operators_of_assignment (Emit x e) = operators_of_term e
+operators_of_assignment (Assign x e) = operators_of_expression e
+operators_of_assignment (ArrayWrite x i e) = 1 + (operators_of_expression i + operators_of_expression e)
+operators_of_assignment (Emit x e) = operators_of_expression e
 
--- no number of a term is negative
-abbrev pub is_natural_term : {X : Type 0} → Term X → Bool
-is_natural_term (Number n) = not (int_lt n (pos 0))
-is_natural_term (Variable x) = true
-is_natural_term (Read x i) = is_natural_term i
-is_natural_term (Sum a b) = is_natural_term a && is_natural_term b
-is_natural_term (Difference a b) = is_natural_term a && is_natural_term b
-is_natural_term (Product a b) = is_natural_term a && is_natural_term b
-is_natural_term (Quotient a b) = is_natural_term a && is_natural_term b
-is_natural_term (Remainder a b) = is_natural_term a && is_natural_term b
-is_natural_term (Negative a) = is_natural_term a
+-- no number of an expression is negative
+abbrev pub is_natural_expression : {X : Type 0} → Expression X → Bool
+is_natural_expression (Number n) = not (int_lt n (pos 0))
+is_natural_expression (Variable x) = true
+is_natural_expression (Read x i) = is_natural_expression i
+is_natural_expression (Sum a b) = is_natural_expression a && is_natural_expression b
+is_natural_expression (Difference a b) = is_natural_expression a && is_natural_expression b
+is_natural_expression (Product a b) = is_natural_expression a && is_natural_expression b
+is_natural_expression (Quotient a b) = is_natural_expression a && is_natural_expression b
+is_natural_expression (Remainder a b) = is_natural_expression a && is_natural_expression b
+is_natural_expression (Negative a) = is_natural_expression a
 
 -- no number of a guard is negative
 abbrev pub is_natural_guard : {X : Type 0} → Guard X → Bool
-is_natural_guard (Test l) = is_natural_term l.left && is_natural_term l.right
+is_natural_guard (Test l) = is_natural_expression l.left && is_natural_expression l.right
 is_natural_guard (Not g) = is_natural_guard g
 is_natural_guard (And a b) = is_natural_guard a && is_natural_guard b
 is_natural_guard (Or a b) = is_natural_guard a && is_natural_guard b
 
 -- no number of an assignment is negative
 abbrev pub is_natural_assignment : {X : Type 0} → Assignment X → Bool
-is_natural_assignment (Assign x e) = is_natural_term e
-is_natural_assignment (ArrayWrite x i e) = is_natural_term i && is_natural_term e
-is_natural_assignment (Emit x e) = is_natural_term e
+is_natural_assignment (Assign x e) = is_natural_expression e
+is_natural_assignment (ArrayWrite x i e) = is_natural_expression i && is_natural_expression e
+is_natural_assignment (Emit x e) = is_natural_expression e
 
 -- no number is negative, and there are few enough operators and opening brackets
 abbrev pub is_well_formed_condition : {X : Type 0} → Option (Guard X) → Bool
@@ -105,7 +106,7 @@ is_well_formed_transition l = is_well_formed_condition l.content.guard && list_a
 
 -- each transition is well formed
 abbrev pub is_well_formed_state : SourceState → Bool
-is_well_formed_state s = list_all is_well_formed_transition s.lines
+is_well_formed_state s = list_all is_well_formed_transition s.transitions
 
 -- a declaration names a variable, and ports are outputs
 abbrev pub is_well_formed_declaration : Declaration → Bool

@@ -1,12 +1,13 @@
 //! Copies of expressions, guards and assignments, with their variables renamed or not.
 
 ghost use Rattle.std.specs.Prelude.{◌≡◌, map, IfOk, Ok};
-ghost use Rattle.fs_model.specs.View.{term_by, literal_by, guard_by, assignment_by, term_of, literal_of, guard_of, assignment_of};
+ghost use Rattle.fs_model.specs.View.{expression_by, literal_by, guard_by, assignment_by, expression_of, literal_of, guard_of};
+ghost use Rattle.fs_model.specs.View.{assignment_of};
 ghost use Rattle.fs_model.specs.View.{declaration_of};
-ghost use Rattle.fs_model.specs.Terms as terms;
-ghost use Rattle.fs_model.specs.Terms.{Term, Literal, Read, Negative, Test, Not, ArrayWrite};
+ghost use Rattle.fs_model.specs.Expressions as expressions;
+ghost use Rattle.fs_model.specs.Expressions.{Expression, Literal, Read, Negative, Test, Not, ArrayWrite};
 ghost use Rattle.fs_model.specs.Trees.{negated_literal};
-ghost use Rattle.fs_model.specs.Renamed.{term_over, literal_over, guard_over, assignment_over, term_with_operands};
+ghost use Rattle.fs_model.specs.Renamed.{expression_over, literal_over, guard_over, assignment_over, expression_with_operands};
 ghost use Rattle.fs_model.specs.Renamed.{guard_with_parts};
 
 use crate::memory::{push_value, put_in_box};
@@ -79,8 +80,9 @@ fn same_operator<V, W: Drop>(
     left: Result<Box<Expr<W>>, NoMemory>,
     right: Result<Box<Expr<W>>, NoMemory>,
 ) -> Result<Expr<W>, NoMemory>
-    ensures { (a b : Term W) → IfOk left (λ e. term_by (λ x. x) e.value ≡ a) → IfOk right (λ e. term_by (λ x. x) e.value ≡ b)
-        → IfOk result (λ e. term_by (λ x. x) e ≡ term_with_operands (term_by (λ x. x) expr.now) a b) }
+    ensures { (a b : Expression W) → IfOk left (λ e. expression_by (λ x. x) e.value ≡ a)
+        → IfOk right (λ e. expression_by (λ x. x) e.value ≡ b)
+        → IfOk result (λ e. expression_by (λ x. x) e ≡ expression_with_operands (expression_by (λ x. x) expr.now) a b) }
 {
     let (left, right) = both(left, right)?;
     Ok(match expr {
@@ -94,7 +96,8 @@ fn same_operator<V, W: Drop>(
 
 // An expression that was made, with its sign changed.
 fn negative<W: Drop>(alloc: Global, expr: Result<Expr<W>, NoMemory>) -> Result<Expr<W>, NoMemory>
-    ensures { (a : Term W) → IfOk expr (λ e. term_by (λ x. x) e ≡ a) → IfOk result (λ e. term_by (λ x. x) e ≡ Negative a) }
+    ensures { (a : Expression W) → IfOk expr (λ e. expression_by (λ x. x) e ≡ a)
+        → IfOk result (λ e. expression_by (λ x. x) e ≡ Negative a) }
 {
     Ok(Expr::Neg(made_in_box(alloc, expr)?))
 }
@@ -107,8 +110,8 @@ fn renamed_element<V, R: Rename<V>>(
     by: &R,
 ) -> Result<Expr<R::To>, NoMemory>
     requires { R.can_rename by.now }
-    ensures { (a : Term R.To) → IfOk index (λ e. term_by (λ x. x) e ≡ a)
-        → IfOk result (λ e. term_by (λ x. x) e ≡ Read (R.renamed by.now array.now) a) }
+    ensures { (a : Expression R.To) → IfOk index (λ e. expression_by (λ x. x) e ≡ a)
+        → IfOk result (λ e. expression_by (λ x. x) e ≡ Read (R.renamed by.now array.now) a) }
 {
     let index = made_in_box(alloc, index)?;
     Ok(Expr::Read(by.rename(alloc, array)?, index))
@@ -127,7 +130,7 @@ fn same_connective<V, W: Drop>(
     left: Result<Box<Guard<W>>, NoMemory>,
     right: Result<Box<Guard<W>>, NoMemory>,
 ) -> Result<Guard<W>, NoMemory>
-    ensures { (a b : terms.Guard W) → IfOk left (λ g. guard_by (λ x. x) g.value ≡ a)
+    ensures { (a b : expressions.Guard W) → IfOk left (λ g. guard_by (λ x. x) g.value ≡ a)
         → IfOk right (λ g. guard_by (λ x. x) g.value ≡ b)
         → IfOk result (λ g. guard_by (λ x. x) g ≡ guard_with_parts (guard_by (λ x. x) guard.now) a b) }
 {
@@ -140,7 +143,7 @@ fn same_connective<V, W: Drop>(
 
 // The guard that holds where one that was made does not.
 fn denial<W: Drop>(alloc: Global, guard: Result<Guard<W>, NoMemory>) -> Result<Guard<W>, NoMemory>
-    ensures { (a : terms.Guard W) → IfOk guard (λ g. guard_by (λ x. x) g ≡ a)
+    ensures { (a : expressions.Guard W) → IfOk guard (λ g. guard_by (λ x. x) g ≡ a)
         → IfOk result (λ g. guard_by (λ x. x) g ≡ Not a) }
 {
     Ok(Guard::Not(made_in_box(alloc, guard)?))
@@ -155,7 +158,8 @@ fn rename_with_value<V, R: Rename<V>>(
 ) -> Result<(R::To, Expr<R::To>), NoMemory>
     requires { R.can_rename by.now }
     ensures variable { IfOk result (λ p. p.0 ≡ R.renamed by.now variable.now) }
-    ensures value { IfOk result (λ p. term_by (λ x. x) p.1 ≡ term_over (R.renamed by.now) (term_by (λ x. x) value.now)) }
+    ensures value { IfOk result (λ p. expression_by (λ x. x) p.1
+        ≡ expression_over (R.renamed by.now) (expression_by (λ x. x) value.now)) }
 {
     both(by.rename(alloc, variable), value.copy_renamed(alloc, by))
 }
@@ -164,7 +168,8 @@ impl<V> Expr<V> {
     /// A copy with its variables renamed. The one refusal is out of memory.
     pub fn copy_renamed<R: Rename<V>>(&self, alloc: Global, by: &R) -> Result<Expr<R::To>, NoMemory>
         requires { R.can_rename by.now }
-        ensures { IfOk result (λ e. term_by (λ x. x) e ≡ term_over (R.renamed by.now) (term_by (λ x. x) self.now)) }
+        ensures { IfOk result (λ e. expression_by (λ x. x) e
+            ≡ expression_over (R.renamed by.now) (expression_by (λ x. x) self.now)) }
     {
         match self {
             Expr::Num(n) => Ok(Expr::Num(*n)),
@@ -229,8 +234,8 @@ fn write<W: Drop>(
     index: Result<Expr<W>, NoMemory>,
     written: Result<(W, Expr<W>), NoMemory>,
 ) -> Result<Assign<W>, NoMemory>
-    ensures { (i v : Term W) (x : W) → IfOk index (λ e. term_by (λ x. x) e ≡ i) → IfOk written (λ p. p.0 ≡ x)
-        → IfOk written (λ p. term_by (λ x. x) p.1 ≡ v)
+    ensures { (i v : Expression W) (x : W) → IfOk index (λ e. expression_by (λ x. x) e ≡ i) → IfOk written (λ p. p.0 ≡ x)
+        → IfOk written (λ p. expression_by (λ x. x) p.1 ≡ v)
         → IfOk result (λ a. assignment_by (λ x. x) a ≡ ArrayWrite x i v) }
 {
     let (index, (array, value)) = both(index, written)?;
@@ -285,9 +290,9 @@ pub fn renamed_assignments<V, R: Rename<V>>(
 
 impl Expr<VarId> {
     /// A copy. The one refusal is out of memory.
-    #[tactic(auto, using(crate::proofs::Renamed::term_copied))]
+    #[tactic(auto, using(crate::proofs::Renamed::expression_copied))]
     pub fn try_clone(&self, alloc: Global) -> Result<Expr<VarId>, NoMemory>
-        ensures { IfOk result (λ e. term_of e ≡ term_of self.now) }
+        ensures { IfOk result (λ e. expression_of e ≡ expression_of self.now) }
     {
         self.copy_renamed(alloc, &Unrenamed)
     }

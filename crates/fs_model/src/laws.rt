@@ -3,7 +3,7 @@
 ghost use Rattle.std.specs.Prelude.{◌≡◌, ℕ, Bool, true, List};
 ghost use Rattle.std.specs.List.{list_all};
 ghost use Rattle.std.specs.Option.{option_to_list};
-ghost use Rattle.fs_model.specs.Terms.{Literal, Assignment, Transition};
+ghost use Rattle.fs_model.specs.Expressions.{Literal, Assignment, Transition};
 ghost use Rattle.fs_model.specs.Machines.{Fsmd};
 ghost use Rattle.fs_model.specs.Stores.{Store};
 ghost use Rattle.fs_model.specs.Trees.{branches_of, negated_literal, effects_open, effect_taken};

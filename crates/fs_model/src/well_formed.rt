@@ -3,10 +3,12 @@
 
 ghost use Rattle.std.specs.Prelude.{◌≡◌, ◌+◌, min, map, option_map};
 ghost use Rattle.std.specs.List.{list_all};
-ghost use Rattle.fs_model.specs.View.{named_term, named_guard, named_assignment, declaration_of, source_transition_of};
+ghost use Rattle.fs_model.specs.View.{named_expression, named_guard, named_assignment, declaration_of, source_transition_of};
 ghost use Rattle.fs_model.specs.View.{source_state_of, source_of};
-ghost use Rattle.fs_model.specs.WellFormed.{is_sum, is_product, is_and, is_or, bracket, operators_of_term, operators_of_guard};
-ghost use Rattle.fs_model.specs.WellFormed.{operators_of_assignment, is_natural_term, is_natural_guard, is_natural_assignment};
+ghost use Rattle.fs_model.specs.WellFormed.{is_sum, is_product, is_and, is_or, bracket, operators_of_expression};
+ghost use Rattle.fs_model.specs.WellFormed.{operators_of_guard};
+ghost use Rattle.fs_model.specs.WellFormed.{operators_of_assignment, is_natural_expression, is_natural_guard};
+ghost use Rattle.fs_model.specs.WellFormed.{is_natural_assignment};
 ghost use Rattle.fs_model.specs.WellFormed.{is_well_formed_condition, is_well_formed_assignment, is_well_formed_transition};
 ghost use Rattle.fs_model.specs.WellFormed.{is_well_formed_state, is_well_formed_declaration, is_well_formed};
 
@@ -69,7 +71,7 @@ fn are_well_formed_assignments(assigns: &[Assign<Name>]) -> bool
 }
 
 fn is_natural(expr: &Expr<Name>) -> bool
-    ensures { result ≡ is_natural_term (named_term expr.now) }
+    ensures { result ≡ is_natural_expression (named_expression expr.now) }
 {
     match expr {
         Expr::Num(n) => *n >= 0,
@@ -103,14 +105,14 @@ fn is_natural_assign(assign: &Assign<Name>) -> bool
 
 /// Whether an expression is a sum or a difference.
 pub fn is_sum(expr: &Expr<Name>) -> bool
-    ensures { result ≡ is_sum (named_term expr.now) }
+    ensures { result ≡ is_sum (named_expression expr.now) }
 {
     matches!(expr, Expr::Add(..) | Expr::Sub(..))
 }
 
 /// Whether an expression is a product, a quotient or a remainder.
 pub fn is_product(expr: &Expr<Name>) -> bool
-    ensures { result ≡ is_product (named_term expr.now) }
+    ensures { result ≡ is_product (named_expression expr.now) }
 {
     matches!(expr, Expr::Mul(..) | Expr::Div(..) | Expr::Rem(..))
 }
@@ -145,7 +147,7 @@ fn one_more(a: u32, b: u32) -> u32
 
 // The operators and opening brackets of an expression's shortest text, as far as 32 bits go.
 fn operator_count(expr: &Expr<Name>) -> u32
-    ensures { result ≡ min (operators_of_term (named_term expr.now)) 4294967295 }
+    ensures { result ≡ min (operators_of_expression (named_expression expr.now)) 4294967295 }
 {
     match expr {
         Expr::Num(_) | Expr::Var(_) => 0,

@@ -4,7 +4,7 @@ use Rattle.std.specs.Prelude.{not, ◌&&◌, slice_get}
 use Rattle.std.specs.Str.{bytes_eq}
 use Rattle.std.proofs.lemmas.Slice.Eq.{bytes_eq-Decides}
 use Rattle.fs_model.proofs.Options.{option_or_first, option_or_second, cond_none}
-use Rattle.fs_ast.specs.SoundParts.{IsSound, names_differ}
+use Rattle.fs_model.specs.SoundMachines.{IsSound, names_differ}
 use Rattle.fs_model.specs.declared.parts.Role.{Role}
 use Rattle.fs_model.specs.declared.parts.Role.TheVariants.{Input, Output, Local}
 use Rattle.fs_model.specs.declared.parts.VarInfo.{VarInfo}

@@ -1,6 +1,6 @@
 -- What is a pairing.
 use Rattle.std.specs.Prelude.{◌≡◌, List, None}
-use Rattle.fs_ast.specs.SoundParts.{IsSound}
+use Rattle.fs_model.specs.SoundMachines.{IsSound}
 use Rattle.fs_model.specs.Machines.{Fsmd}
 use Rattle.fs_pair.specs.declared.positions.Position.{Position}
 use Rattle.fs_pair.specs.Interfaces.{interface_fault}

@@ -2,7 +2,7 @@
 
 ghost use Rattle.std.specs.Prelude.{◌≡◌, ℕ, ◌+◌, ◌<◌, List, length, map, Some, None, slice_get};
 ghost use Rattle.std.specs.List.{count_by, filter, AllByRecursion};
-ghost use Rattle.fs_ast.specs.SoundParts.{IsSound};
+ghost use Rattle.fs_model.specs.SoundMachines.{IsSound};
 ghost use Rattle.fs_model.specs.Machines.{Fsmd};
 ghost use Rattle.fs_model.specs.Stores.{Store};
 ghost use Rattle.fs_model.specs.Runs.{output};

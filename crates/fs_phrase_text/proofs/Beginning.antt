@@ -16,7 +16,7 @@ use Rattle.fs_expression_text.specs.declared.operators.SumOperator.TheVariants a
 use Rattle.fs_expression_text.specs.Inside.{UnitContext, ConjunctionContext, GuardContext, FactorContext, ProductContext, SumContext, Inside, at_unit}
 use Rattle.fs_expression_text.specs.Inside.{after_conjunction, after_guard, at_factor, after_name, after_product, after_sum, expression_step, Whole, whole_sum}
 use Rattle.fs_expression_text.specs.Inside.{whole_guard}
-use Rattle.fs_phrase_text.specs.Expressions.{Expression, a_sum, a_guard, expression_start, rule_of, SpellsExpression}
+use Rattle.fs_phrase_text.specs.Expressions.{ExpressionKind, a_sum, a_guard, expression_start, rule_of, SpellsExpression}
 use Rattle.fs_phrase_text.proofs.Reached as before
 use Rattle.fs_phrase_text.proofs.Reached.{product_sign, sum_sign, BeforeUnit, BeforeConjunction, BeforeGuard, BeforeFactor, BeforeProduct, BeforeSum, Reached}
 use Rattle.fs_phrase_text.proofs.SoundExpressions.{walk, reached}
@@ -36,7 +36,7 @@ sum_by sums.Minus = rules.minus
 -- ---- words behind what was read before a part
 
 mutual
-  unit_in : (e : Expression) (k : UnitContext) (a : List Word) → BeforeUnit e k a → (b : List Word) → Begins rules.unit b → (ws : List Word) → ws ≡ a ++ b
+  unit_in : (e : ExpressionKind) (k : UnitContext) (a : List Word) → BeforeUnit e k a → (b : List Word) → Begins rules.unit b → (ws : List Word) → ws ≡ a ++ b
       → Begins (rule_of e) ws
   unit_in _ _ _ (before.negates e n k a h) b p ws q = unit_in e k a h (at n Bang ∷ b)
       (prefixed rules.unit rules.unit n Bang [] rules.not b p) ws (q ∙ simp append_assoc)
@@ -44,20 +44,21 @@ mutual
   unit_in _ _ _ (before.and_after e n c k a d h i) b p ws q = conjunction_in e k a h (d ++ (at n AndAnd ∷ b))
       (chained rules.conjunction rules.conjunction rules.unit n AndAnd rules.and d b (c, i) p) ws (q ∙ simp append_assoc)
 
-  conjunction_in : (e : Expression) (k : ConjunctionContext) (a : List Word) → BeforeConjunction e k a → (b : List Word) → Begins rules.conjunction b
+  conjunction_in : (e : ExpressionKind) (k : ConjunctionContext) (a : List Word) → BeforeConjunction e k a → (b : List Word) → Begins rules.conjunction b
       → (ws : List Word) → ws ≡ a ++ b → Begins (rule_of e) ws
   conjunction_in _ _ _ (before.first_of_any e k a h) b p ws q = guard_in e k a h b (leading rules.guard rules.conjunction [] rules.one_conjunction b p) ws q
   conjunction_in _ _ _ (before.or_after e n g k a d h i) b p ws q =
       guard_in e k a h (d ++ (at n OrOr ∷ b)) (chained rules.guard rules.guard rules.conjunction n OrOr rules.or d b (g, i) p) ws (q ∙ simp append_assoc)
 
-  guard_in : (e : Expression) (k : GuardContext) (a : List Word) → BeforeGuard e k a → (b : List Word) → Begins rules.guard b → (ws : List Word) → ws ≡ a ++ b
+  guard_in : (e : ExpressionKind) (k : GuardContext) (a : List Word) → BeforeGuard e k a → (b : List Word) → Begins rules.guard b → (ws : List Word)
+      → ws ≡ a ++ b
       → Begins (rule_of e) ws
   guard_in _ _ _ (before.braces e n k a h) b p ws q = unit_in e k a h (at n OpenBrace ∷ b)
       (prefixed rules.unit rules.guard n OpenBrace _ rules.braces b p) ws (q ∙ simp append_assoc)
   guard_in _ _ _ before.guard_alone b p ws q = subst (λ (l : List Word). Begins rules.guard l) (sym q) p
 
 mutual
-  factor_in : (e : Expression) (k : FactorContext) (a : List Word) → BeforeFactor e k a → (b : List Word) → Begins rules.factor b → (ws : List Word)
+  factor_in : (e : ExpressionKind) (k : FactorContext) (a : List Word) → BeforeFactor e k a → (b : List Word) → Begins rules.factor b → (ws : List Word)
       → ws ≡ a ++ b → Begins (rule_of e) ws
   factor_in _ _ _ (before.first_factor e k a h) b p ws q = product_in e k a h b (leading rules.product rules.factor [] rules.one_factor b p) ws q
   factor_in _ _ _ (before.next_factor e n o f k a d h i) b p ws q =
@@ -66,14 +67,14 @@ mutual
   factor_in _ _ _ (before.negative e n k a h) b p ws q = factor_in e k a h (at n Minus ∷ b)
       (prefixed rules.factor rules.factor n Minus [] rules.negative b p) ws (q ∙ simp append_assoc)
 
-  product_in : (e : Expression) (k : ProductContext) (a : List Word) → BeforeProduct e k a → (b : List Word) → Begins rules.product b → (ws : List Word)
+  product_in : (e : ExpressionKind) (k : ProductContext) (a : List Word) → BeforeProduct e k a → (b : List Word) → Begins rules.product b → (ws : List Word)
       → ws ≡ a ++ b → Begins (rule_of e) ws
   product_in _ _ _ (before.first_product e k a h) b p ws q = sum_in e k a h b (leading rules.sum rules.product [] rules.one_product b p) ws q
   product_in _ _ _ (before.next_product e n o s k a d h i) b p ws q =
       sum_in e k a h (d ++ (at n (sum_sign o) ∷ b)) (chained rules.sum rules.sum rules.product n (sum_sign o) (sum_by o) d b (s, i) p) ws
       (q ∙ simp append_assoc)
 
-  sum_in : (e : Expression) (k : SumContext) (a : List Word) → BeforeSum e k a → (b : List Word) → Begins rules.sum b → (ws : List Word) → ws ≡ a ++ b
+  sum_in : (e : ExpressionKind) (k : SumContext) (a : List Word) → BeforeSum e k a → (b : List Word) → Begins rules.sum b → (ws : List Word) → ws ≡ a ++ b
       → Begins (rule_of e) ws
   sum_in _ _ _ (before.parens e n k a h) b p ws q = factor_in e k a h (at n OpenParen ∷ b)
       (prefixed rules.factor rules.sum n OpenParen _ rules.group b p) ws (q ∙ simp append_assoc)
@@ -85,7 +86,7 @@ mutual
       (chained rules.unit rules.sum rules.sum n (Relation r) (rules.literal r) d b (l, i) p) ws (q ∙ simp append_assoc)
   sum_in _ _ _ before.sum_alone b p ws q = subst (λ (l : List Word). Begins rules.sum l) (sym q) p
 
-begins : (e : Expression) (i : Inside) (ws : List Word) → Reached e i ws → Begins (rule_of e) ws
+begins : (e : ExpressionKind) (i : Inside) (ws : List Word) → Reached e i ws → Begins (rule_of e) ws
 begins e (at_unit k) ws h = unit_in e k ws h [] (nothing rules.unit) ws (sym (append-nil ws))
 begins e (after_conjunction c k) ws h = conjunction_in e k h.a h.front h.b (whole_first rules.conjunction rules.conjunction _ rules.and h.b (c, h.back)) ws h.is
 begins e (after_guard g k) ws h = guard_in e k h.a h.front h.b (whole_first rules.guard rules.guard _ rules.or h.b (g, h.back)) ws h.is
@@ -99,7 +100,7 @@ begins e (after_sum s k) ws h = sum_in e k h.a h.front h.b (whole_first rules.su
 -- ---- both directions
 
 -- Words that lead somewhere begin an expression.
-pub leads : (e : Expression) (ws : List Word) (i : Inside) → walk ws (expression_start e) ≡ Some i → Begins (rule_of e) ws
+pub leads : (e : ExpressionKind) (ws : List Word) (i : Inside) → walk ws (expression_start e) ≡ Some i → Begins (rule_of e) ws
 leads e ws i q = begins e i ws (reached e ws i q)
 
 on_append : (o : Option Inside) (a b : List Word) → ((m : Inside) → walk (a ++ b) m ≡ and_then (walk a m) (walk b))
@@ -112,16 +113,16 @@ walk_append [] b i = refl
 walk_append (at n t ∷ a) b i = on_append (expression_step i t) a b (λ m. walk_append a b m)
 
 -- a whole spelling of the rule is of an expression
-spelled_as : (e : Expression) (ws : List Word) → SpellsWhole (rule_of e) ws → (w : Whole) × SpellsExpression e w ws
+spelled_as : (e : ExpressionKind) (ws : List Word) → SpellsWhole (rule_of e) ws → (w : Whole) × SpellsExpression e w ws
 spelled_as a_sum ws h = (whole_sum h.0, h.1)
 spelled_as a_guard ws h = (whole_guard h.0, h.1)
 
 -- Where a whole spelling leads, an expression may end.
-pub spelled_ends : (e : Expression) (ws : List Word) → SpellsWhole (rule_of e) ws → (w : Whole) × (final ws (expression_start e) ≡ Some w)
+pub spelled_ends : (e : ExpressionKind) (ws : List Word) → SpellsWhole (rule_of e) ws → (w : Whole) × (final ws (expression_start e) ≡ Some w)
 spelled_ends e ws h = let w = spelled_as e ws h in (w.0, complete e w.0 ws w.1)
 
 -- Words before which the reading sticks begin no expression.
-pub stuck : (e : Expression) (ws : List Word) → walk ws (expression_start e) ≡ None → Begins (rule_of e) ws → ⊥
+pub stuck : (e : ExpressionKind) (ws : List Word) → walk ws (expression_start e) ≡ None → Begins (rule_of e) ws → ⊥
 stuck e ws q b =
     let m = completed (rule_of e) ws b in
     let w = spelled_ends e (ws ++ m.0) m.1 in

@@ -1,8 +1,8 @@
 //! Guards, by descent.
 
 ghost use Rattle.std.specs.Prelude.{◌≡◌, ◌<◌, ℕ, Some, List, length, IfOk, IsTrue};
-ghost use Rattle.fs_model.specs.Terms as terms;
-ghost use Rattle.fs_model.specs.Terms.{Term, Not, And, Or};
+ghost use Rattle.fs_model.specs.Expressions as expressions;
+ghost use Rattle.fs_model.specs.Expressions.{Expression, Not, And, Or};
 ghost use Rattle.fs_model.specs.View.{named_guard};
 ghost use Rattle.fs_grammar.specs.Tokens.{ParsesOn, MadeAs, kind_at};
 ghost use Rattle.fs_grammar.specs.PartEnds.{EndsSum, EndsConjunction, EndsGuard, IsLiteral};
@@ -10,7 +10,7 @@ ghost use Rattle.fs_expression_text.specs.Inside.{UnitContext, ConjunctionContex
 ghost use Rattle.fs_expression_text.specs.Inside.{conjunction_done, at_sum, after_sum, left, right, at_unit, first_of_all};
 ghost use Rattle.fs_expression_text.specs.Inside.{after_conjunction, at_guard, after_guard, braces};
 ghost use Rattle.fs_grammar.specs.declared.token.TokenKind.TheVariants.{Bang};
-ghost use Rattle.fs_expression_text.specs.TermOperators.{joins_units, joins_alternatives};
+ghost use Rattle.fs_expression_text.specs.ExpressionOperators.{joins_units, joins_alternatives};
 
 use fs_expression_text::sums::sum;
 use fs_grammar::fault::ReadError;
@@ -20,7 +20,7 @@ use std::alloc::Global;
 
 fn relation(tokens: &[Token]) -> Result<(Rel, &[Token]), ReadError>
     requires { EndsSum tokens.now }
-    ensures goes { (a : Term (List ℕ)) (k : UnitContext)
+    ensures goes { (a : Expression (List ℕ)) (k : UnitContext)
         → ParsesOn result (parse_expression tokens.now (after_sum a (left k)))
         (λ x. parse_expression x.1.now (at_sum (right x.0 a k))) }
     ensures shorter { IfOk result (λ x. length x.1.now < length tokens.now) }
@@ -52,7 +52,7 @@ fn literal(alloc: Global, tokens: &[Token]) -> Result<(Guard, &[Token]), ReadErr
 // The brace that closes a guard.
 fn close_brace(tokens: &[Token]) -> Result<&[Token], ReadError>
     requires { EndsGuard tokens.now }
-    ensures goes { (g : terms.Guard (List ℕ)) (k : UnitContext)
+    ensures goes { (g : expressions.Guard (List ℕ)) (k : UnitContext)
         → ParsesOn result (parse_expression tokens.now (after_guard g (braces k))) (λ r. parse_expression r.now (unit_done g k)) }
     ensures shorter { IfOk result (λ r. length r.now < length tokens.now) }
 {
@@ -123,7 +123,7 @@ fn joins_alternatives(tokens: &[Token]) -> bool
 #[tactic(auto, using(fs_expression_text::proofs::Steps::takes_unit))]
 fn and_unit(alloc: Global, tokens: &[Token]) -> Result<(Guard, &[Token]), ReadError>
     requires { IsTrue (joins_units (kind_at tokens.now)) }
-    ensures goes { (c : terms.Guard (List ℕ)) (k : ConjunctionContext)
+    ensures goes { (c : expressions.Guard (List ℕ)) (k : ConjunctionContext)
         → ParsesOn result (parse_expression tokens.now (after_conjunction c k))
         (λ x. parse_expression x.1.now (after_conjunction (And c (named_guard x.0)) k)) }
     ensures shorter { IfOk result (λ x. length x.1.now < length tokens.now) }
@@ -168,7 +168,7 @@ fn alternative(alloc: Global, tokens: &[Token]) -> Result<(Guard, &[Token]), Rea
 #[tactic(auto, using(fs_expression_text::proofs::Steps::takes_alternative))]
 fn or_alternative(alloc: Global, tokens: &[Token]) -> Result<(Guard, &[Token]), ReadError>
     requires { IsTrue (joins_alternatives (kind_at tokens.now)) }
-    ensures goes { (g : terms.Guard (List ℕ)) (k : GuardContext)
+    ensures goes { (g : expressions.Guard (List ℕ)) (k : GuardContext)
         → ParsesOn result (parse_expression tokens.now (after_guard g k))
         (λ x. parse_expression x.1.now (after_guard (Or g (named_guard x.0)) k)) }
     ensures shorter { IfOk result (λ x. length x.1.now < length tokens.now) }

@@ -5,7 +5,7 @@ use Rattle.std.specs.Prelude.{not, ◌&&◌, ◌||◌, map, Option, Some, None}
 use Rattle.std.specs.Option.{is_some}
 use Rattle.std.specs.List.{slice_get}
 use Rattle.fs_model.specs.declared.parts.Sort.{Sort}
-use Rattle.fs_model.specs.Terms.{Guard, Assignment, Assign, ArrayWrite, Emit}
+use Rattle.fs_model.specs.Expressions.{Guard, Assignment, Assign, ArrayWrite, Emit}
 use Rattle.fs_model.specs.Renamed.{assignment_over}
 use Rattle.fs_model.specs.Runs.{is_scalar, is_array, is_port}
 use Rattle.std.specs.List.{list_all, list_any}
@@ -18,10 +18,10 @@ use Rattle.std.proofs.lemmas.List.Folds.{list_all-append, list_any-append}
 use Rattle.fs_model.proofs.Booleans.{and_swap, not_or}
 use Rattle.fs_model.proofs.Lists.{map_drop_next, slice_get-none}
 use Rattle.fs_model.specs.declared.parts.VarInfo.{VarInfo}
-use Rattle.fs_rules.specs.SoundParts.{has_sort, other_sort_at, scalars_in_assignment, arrays_in_assignment, port_in, scalars_in_assignments}
-use Rattle.fs_rules.specs.SoundParts.{arrays_in_assignments}
-use Rattle.fs_rules.specs.SoundParts.{scalars_in_condition, arrays_in_condition}
-use Rattle.fs_rules.specs.SoundParts.{ports_in_assignments, emits_of, emit_count, occurs, assigned_in, all_differ}
+use Rattle.fs_model.specs.SoundMachines.{has_sort, other_sort_at, scalars_in_assignment, arrays_in_assignment, port_in, scalars_in_assignments}
+use Rattle.fs_model.specs.SoundMachines.{arrays_in_assignments}
+use Rattle.fs_model.specs.SoundMachines.{scalars_in_condition, arrays_in_condition}
+use Rattle.fs_model.specs.SoundMachines.{ports_in_assignments, emits_of, emit_count, occurs, assigned_in, all_differ}
 use Rattle.fs_rules.specs.Rules.{is_known}
 use Rattle.fs_rules.specs.declared.rules.Uses.{Uses}
 use Rattle.fs_rules.specs.Uses.{uses_of, either_of}
@@ -58,12 +58,12 @@ either_uses vs a b c d e f = λ k. record {
       (ap₂ (λ (x y : Bool). x || y) (sym (list_any-append (other_sort_at is_array vs) b e)) (sym (list_any-append (other_sort_at is_port vs) c f)))) k;
 }
 
--- of terms, no port is used
-pub either_line : (vs : List VarInfo) (a b d e f : List ℕ) → either_of (uses_of vs a b []) (uses_of vs d e f) ≡ uses_of vs (a ++ d) (b ++ e) f
-either_line vs a b d e f = either_uses vs a b [] d e f
+-- of expressions, no port is used
+pub either_transition : (vs : List VarInfo) (a b d e f : List ℕ) → either_of (uses_of vs a b []) (uses_of vs d e f) ≡ uses_of vs (a ++ d) (b ++ e) f
+either_transition vs a b d e f = either_uses vs a b [] d e f
 
-pub either_terms : (vs : List VarInfo) (a b d e : List ℕ) → either_of (uses_of vs a b []) (uses_of vs d e []) ≡ uses_of vs (a ++ d) (b ++ e) []
-either_terms vs a b d e = either_uses vs a b [] d e []
+pub either_expressions : (vs : List VarInfo) (a b d e : List ℕ) → either_of (uses_of vs a b []) (uses_of vs d e []) ≡ uses_of vs (a ++ d) (b ++ e) []
+either_expressions vs a b d e = either_uses vs a b [] d e []
 
 -- ---- one use
 

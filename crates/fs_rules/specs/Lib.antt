@@ -1,5 +1,4 @@
 pub mod MachineOfParts
-pub mod SoundParts
 pub mod Rules
 pub mod FirstFault
 pub mod Places

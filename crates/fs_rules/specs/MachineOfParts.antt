@@ -3,7 +3,7 @@ use Rattle.std.specs.Prelude.{ℕ, suc, cond, List, [], ◌∷◌, map}
 use Rattle.std.specs.List.{flat_map}
 use Rattle.std.specs.Str.{bytes_eq}
 use Rattle.fs_model.specs.declared.parts.VarInfo.{VarInfo}
-use Rattle.fs_model.specs.Terms.{Transition}
+use Rattle.fs_model.specs.Expressions.{Transition}
 use Rattle.fs_model.specs.Renamed.{transition_over}
 use Rattle.fs_model.specs.Source.{Declaration, SourceTransition, SourceState, Source}
 use Rattle.fs_model.specs.Machines.{State, Fsmd}
@@ -31,7 +31,7 @@ abbrev pub transition_spelled : List (List ℕ) → List (List ℕ) → SourceTr
 transition_spelled vs ss l = transition_over (place_or_end vs) (place_or_end ss) l.content
 
 abbrev pub state_spelled : List (List ℕ) → List (List ℕ) → SourceState → State
-state_spelled vs ss s = record { name = s.name; lines = map (transition_spelled vs ss) s.lines }
+state_spelled vs ss s = record { name = s.name; transitions = map (transition_spelled vs ss) s.transitions }
 
 -- the machine that the parts spell
 abbrev pub machine_of : Source → Fsmd

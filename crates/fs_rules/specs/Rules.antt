@@ -4,11 +4,11 @@ use Rattle.std.specs.Prelude.{[], ◌∷◌, ◌++◌, length, take, drop, map, 
 use Rattle.std.specs.List.{list_all, list_any, flat_map}
 use Rattle.std.specs.Str.{bytes_eq}
 use Rattle.fs_model.specs.declared.parts.VarInfo.{VarInfo}
-use Rattle.fs_model.specs.Terms.{Transition}
+use Rattle.fs_model.specs.Expressions.{Transition}
 use Rattle.fs_model.specs.Source.{Declaration, SourceTransition, SourceState, Source}
 use Rattle.fs_model.specs.Machines.{Fsmd, transitions_of}
 use Rattle.fs_model.specs.Trees.{tree_of_transitions, count_leaves}
-pub use Rattle.fs_else_lines.specs.ElseLines.{lacks_else, after_else}
+pub use Rattle.fs_else_transitions.specs.ElseTransitions.{lacks_else, after_else}
 use Rattle.fs_rules.specs.declared.check.CheckRule.{CheckRule}
 use Rattle.fs_rules.specs.declared.check.CheckRule.TheVariants.{TwiceNamed, UnknownName, WrongSort, AssignInput, AssignedTwice}
 use Rattle.fs_rules.specs.declared.check.CheckRule.TheVariants.{NoElse, AfterElse, TooManyBranches, EndlessLine, UnknownState}
@@ -17,9 +17,9 @@ use Rattle.fs_rules.specs.declared.check.CheckFault.{CheckFault}
 use Rattle.fs_rules.specs.MachineOfParts.{variables_of, names_of, state_names, place_or_end, transition_spelled, machine_of}
 use Rattle.fs_model.specs.Limits.{most_variables, most_states, most_branches, most_emits}
 use Rattle.fs_model.specs.Runs.{is_scalar, is_array, is_port}
-use Rattle.fs_rules.specs.SoundParts.{other_sort_at, input_at, all_differ, assigned_in, changed_by, scalars_in_condition}
-use Rattle.fs_rules.specs.SoundParts.{arrays_in_condition, scalars_in_assignments, arrays_in_assignments, ports_in_assignments}
-use Rattle.fs_rules.specs.SoundParts.{emit_count, is_cutpoint, first_transition_target}
+use Rattle.fs_model.specs.SoundMachines.{other_sort_at, input_at, all_differ, assigned_in, changed_by, scalars_in_condition}
+use Rattle.fs_model.specs.SoundMachines.{arrays_in_condition, scalars_in_assignments, arrays_in_assignments, ports_in_assignments}
+use Rattle.fs_model.specs.SoundMachines.{emit_count, is_cutpoint, first_transition_target}
 
 -- a rule at each of these lines
 abbrev pub at_lines : CheckRule → List ℕ → List CheckFault
@@ -78,8 +78,8 @@ abbrev pub transitions_faults : List VarInfo → List (List ℕ) → List Source
 transitions_faults vs ss ls = flat_map (λ l. transition_faults vs (length ss) l.line (transition_spelled (names_of vs) ss l)) ls
 
 abbrev pub state_faults : List VarInfo → List (List ℕ) → SourceState → List CheckFault
-state_faults vs ss s = broken_where (lacks_else s.lines) NoElse s.line
-    ++ (at_lines AfterElse (after_else false s.lines) ++ transitions_faults vs ss s.lines)
+state_faults vs ss s = broken_where (lacks_else s.transitions) NoElse s.line
+    ++ (at_lines AfterElse (after_else false s.transitions) ++ transitions_faults vs ss s.transitions)
 
 -- the broken rules, those on branches and on endless lines left out
 abbrev pub plain_faults : Source → List CheckFault
@@ -93,7 +93,8 @@ plain_faults p =
 
 -- whether the tree of a state's transitions has too many leaves
 abbrev pub branches_too_often : List (List ℕ) → List (List ℕ) → SourceState → Bool
-branches_too_often vs ss s = nat_lt most_branches (count_leaves (tree_of_transitions (map (transition_spelled vs ss) s.lines)))
+branches_too_often vs ss s = nat_lt most_branches
+    (count_leaves (tree_of_transitions (map (transition_spelled vs ss) s.transitions)))
 
 abbrev pub branch_faults : Source → List CheckFault
 branch_faults p =

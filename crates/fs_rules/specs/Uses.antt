@@ -4,7 +4,7 @@ use Rattle.std.specs.List.{list_all, list_any}
 use Rattle.fs_model.specs.declared.parts.VarInfo.{VarInfo}
 use Rattle.fs_model.specs.Runs.{is_scalar, is_array, is_port}
 use Rattle.fs_rules.specs.declared.rules.Uses.{Uses}
-use Rattle.fs_rules.specs.SoundParts.{other_sort_at}
+use Rattle.fs_model.specs.SoundMachines.{other_sort_at}
 use Rattle.fs_rules.specs.Rules.{is_known}
 
 -- of these uses as scalars, as arrays and as ports, whether one is of no variable, and whether one is of another sort

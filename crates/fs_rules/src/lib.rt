@@ -2,14 +2,12 @@
 //!
 //! Promises: the first broken rule of parts, and the numbers of names.
 //!
-//! Rules: `specs/Rules`, `specs/SoundParts`, `specs/MachineOfParts`.
+//! Rules: `specs/Rules`, `specs/MachineOfParts`.
 //!
 //! Words:
-//! - cutpoint (of a machine): the reset state, or a state with more than one branch
 //! - fault (of parts): the first broken rule, with its line
 //! - lawful (of parts): no rule is broken
 //! - rank (of a rule): its place in the order of rules
-//! - sound: what holds of each machine that was built
 #![tactic(auto)]
 
 pub mod check;

@@ -5,15 +5,16 @@ ghost use Rattle.std.specs.List.{list_any};
 ghost use Rattle.std.specs.Result.{OnOk};
 ghost use Rattle.std.specs.Ordering.{nat_cmp};
 ghost use Rattle.std.specs.BTreeSet.{contains};
-ghost use Rattle.fs_model.specs.View.{named_term, named_guard, named_assignment, source_transition_of, source_state_of};
+ghost use Rattle.fs_model.specs.View.{named_expression, named_guard, named_assignment, source_transition_of, source_state_of};
 ghost use Rattle.fs_rules.specs.declared.check.CheckRule.TheVariants.{AfterElse};
-ghost use Rattle.fs_model.specs.Renamed.{term_over, guard_over, assignment_over};
+ghost use Rattle.fs_model.specs.Renamed.{expression_over, guard_over, assignment_over};
 ghost use Rattle.fs_rules.specs.MachineOfParts.{place_or_end, names_of, transition_spelled};
-ghost use Rattle.fs_rules.specs.SoundParts.{scalars_in, arrays_in, scalars_in_guard, arrays_in_guard, scalars_in_condition};
-ghost use Rattle.fs_rules.specs.SoundParts.{arrays_in_condition, scalars_in_assignment, arrays_in_assignment};
-ghost use Rattle.fs_rules.specs.SoundParts.{scalars_in_assignments};
-ghost use Rattle.fs_rules.specs.SoundParts.{arrays_in_assignments, port_in, ports_in_assignments, emits_of, emit_count, input_at};
-ghost use Rattle.fs_rules.specs.SoundParts.{changed_by, assigned_in, all_differ, occurs};
+ghost use Rattle.fs_model.specs.SoundMachines.{scalars_in, arrays_in, scalars_in_guard, arrays_in_guard, scalars_in_condition};
+ghost use Rattle.fs_model.specs.SoundMachines.{arrays_in_condition, scalars_in_assignment, arrays_in_assignment};
+ghost use Rattle.fs_model.specs.SoundMachines.{scalars_in_assignments};
+ghost use Rattle.fs_model.specs.SoundMachines.{arrays_in_assignments, port_in, ports_in_assignments, emits_of, emit_count};
+ghost use Rattle.fs_model.specs.SoundMachines.{input_at};
+ghost use Rattle.fs_model.specs.SoundMachines.{changed_by, assigned_in, all_differ, occurs};
 ghost use Rattle.fs_rules.specs.Rules.{at_lines, transition_faults, transitions_faults, after_else, state_faults};
 ghost use Rattle.std.specs.List.{flat_map};
 ghost use Rattle.fs_rules.specs.FirstFault.{earliest};
@@ -23,7 +24,7 @@ ghost use Rattle.fs_rules.specs.Uses.{uses_of, either_of};
 use crate::check::CheckRule;
 use crate::faults::Faults;
 use crate::scope::Scope;
-use fs_else_lines::else_lines::lacks_else;
+use fs_else_transitions::else_transitions::lacks_else;
 use fs_model::limits::EMIT_LIMIT;
 use fs_model::name::{Name, NoMemory};
 use fs_model::parts::{Assign, Expr, Guard, RawLine, RawState};
@@ -97,9 +98,9 @@ impl Scope<'_> {
     }
 
     // What is wrong with the uses of an expression.
-    #[tactic(auto, using(crate::proofs::Uses::either_terms))]
+    #[tactic(auto, using(crate::proofs::Uses::either_expressions))]
     fn expr_uses(&self, expr: &Expr<Name>) -> Uses
-        ensures { let t = term_over (place_or_end (names_of self.now.vars.items)) (named_term expr.now) in
+        ensures { let t = expression_over (place_or_end (names_of self.now.vars.items)) (named_expression expr.now) in
             result ≡ uses_of self.now.vars.items (scalars_in t) (arrays_in t) [] }
     {
         match expr {
@@ -119,7 +120,7 @@ impl Scope<'_> {
     }
 
     // What is wrong with the uses of a guard.
-    #[tactic(auto, using(crate::proofs::Uses::either_terms))]
+    #[tactic(auto, using(crate::proofs::Uses::either_expressions))]
     fn guard_uses(&self, guard: &Guard) -> Uses
         ensures { let g = guard_over (place_or_end (names_of self.now.vars.items)) (named_guard guard.now) in
             result ≡ uses_of self.now.vars.items (scalars_in_guard g) (arrays_in_guard g) [] }
@@ -139,8 +140,8 @@ impl Scope<'_> {
         match assign {
             Assign::Set(name, value) => either(self.scalar_use(name), self.expr_uses(value)),
             Assign::Put(name, index, value) => {
-                let terms = either(self.expr_uses(index), self.expr_uses(value));
-                either(self.array_use(name), terms)
+                let expressions = either(self.expr_uses(index), self.expr_uses(value));
+                either(self.array_use(name), expressions)
             }
             Assign::Emit(name, value) => either(self.port_use(name), self.expr_uses(value)),
         }
@@ -163,7 +164,7 @@ impl Scope<'_> {
     }
 
     // What is wrong with the uses of a transition.
-    fn line_uses(&self, line: &RawLine) -> Uses
+    fn transition_uses(&self, line: &RawLine) -> Uses
         ensures { let vs = self.now.vars.items in
             let l = transition_spelled (names_of vs) (names_stated self.now.states.now) (source_transition_of line.now) in
             result ≡ uses_of vs (scalars_in_condition l.guard ++ scalars_in_assignments l.assignments)
@@ -238,13 +239,18 @@ impl Scope<'_> {
     }
 
     // Notes each rule that a transition breaks.
-    fn check_line(&self, alloc: Global, line: &RawLine, faults: &mut Faults) -> Result<(), NoMemory>
+    fn check_transition(
+        &self,
+        alloc: Global,
+        line: &RawLine,
+        faults: &mut Faults,
+    ) -> Result<(), NoMemory>
         ensures { OnOk result (faults.new.first ≡ earliest faults.old.first
             (transition_faults self.now.vars.items (length (names_stated self.now.states.now)) line.now.line
             (transition_spelled (names_of self.now.vars.items) (names_stated self.now.states.now)
             (source_transition_of line.now)))) }
     {
-        let uses = self.line_uses(line);
+        let uses = self.transition_uses(line);
         let assigns = line.assigns.as_slice();
         let changes_input = self.some_changes_input(assigns);
         let twice = self.assigns_twice(alloc, assigns)?;
@@ -260,7 +266,7 @@ impl Scope<'_> {
     }
 
     // Notes each rule that transitions break, each on its own.
-    fn check_lines(
+    fn check_transitions(
         &self,
         alloc: Global,
         lines: &[RawLine],
@@ -271,7 +277,7 @@ impl Scope<'_> {
             (transitions_faults self.now.vars.items (names_stated self.now.states.now) (map source_transition_of lines.now))) }
     {
         for line in lines {
-            self.check_line(alloc, line, faults)?;
+            self.check_transition(alloc, line, faults)?;
         }
         Ok(())
     }
@@ -290,7 +296,7 @@ impl Scope<'_> {
         let lines = state.lines.as_slice();
         faults.note_where(lacks_else(lines), CheckRule::NoElse, state.line);
         note_after_else(lines, faults);
-        self.check_lines(alloc, lines, faults)
+        self.check_transitions(alloc, lines, faults)
     }
 
     /// Notes each rule that states break. The one refusal is out of memory.

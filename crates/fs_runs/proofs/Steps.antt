@@ -6,11 +6,11 @@ use Rattle.std.proofs.lemmas.Option.{slice_get-map}
 use Rattle.std.proofs.lemmas.Bool.{and_from}
 use Rattle.base_laws.proofs.Booleans.{and_first, and_second}
 use Rattle.base_laws.proofs.Quantifiers.{list_all_front, list_all_back}
-use Rattle.fs_ast.specs.SoundParts.{IsSound, IsSoundTransition, has_sort, scalar_at, array_at, port_at, scalars_in, arrays_in, scalars_in_assignments}
-use Rattle.fs_ast.specs.SoundParts.{arrays_in_assignments, ports_in_assignments, scalars_in_condition, arrays_in_condition}
+use Rattle.fs_model.specs.SoundMachines.{IsSound, IsSoundTransition, has_sort, scalar_at, array_at, port_at, scalars_in, arrays_in, scalars_in_assignments}
+use Rattle.fs_model.specs.SoundMachines.{arrays_in_assignments, ports_in_assignments, scalars_in_condition, arrays_in_condition}
 use Rattle.fs_model.specs.declared.parts.Sort.{Sort}
 use Rattle.fs_model.specs.declared.parts.VarInfo.{VarInfo}
-use Rattle.fs_model.specs.Terms.{Assignment, Assign, ArrayWrite, Emit, Transition}
+use Rattle.fs_model.specs.Expressions.{Assignment, Assign, ArrayWrite, Emit, Transition}
 use Rattle.fs_model.specs.Machines.{Fsmd, transitions_of}
 use Rattle.fs_model.specs.Stores.{Store}
 use Rattle.fs_model.specs.Meaning.{condition_holds, transition_taken, act_all}
@@ -57,9 +57,9 @@ assignments_fit [] s p = tt
 assignments_fit (a ∷ rest) s p = (assignment_fits a s (front_part _ _ p), assignments_fit rest s (back_part (touched_by_assignment a s) _ p))
 
 -- the transition taken is one of the state's
-line_at : (ls : List (Transition ℕ ℕ)) (s : Store) (l : Transition ℕ ℕ) → transition_taken ls s ≡ Some l → (k : ℕ) × (slice_get ls k ≡ Some l)
-line_at [] s l e = absurd (cc)
-line_at (x ∷ ls) s l e = on_guard (λ h. line_at ls s l h) (condition_holds x.guard s) refl
+transition_at : (ls : List (Transition ℕ ℕ)) (s : Store) (l : Transition ℕ ℕ) → transition_taken ls s ≡ Some l → (k : ℕ) × (slice_get ls k ≡ Some l)
+transition_at [] s l e = absurd (cc)
+transition_at (x ∷ ls) s l e = on_guard (λ h. transition_at ls s l h) (condition_holds x.guard s) refl
   where
     on_guard : (transition_taken ls s ≡ Some l → (k : ℕ) × (slice_get ls k ≡ Some l)) → (b : Bool) → condition_holds x.guard s ≡ b
         → (k : ℕ) × (slice_get (x ∷ ls) k ≡ Some l)
@@ -145,16 +145,16 @@ touched_by_taken m q s b sound h e =
 
 takes_branch : (m : Fsmd) (q : ℕ) (s : Store) → IsSound m → q < length m.states → (one : TakesOneBranch (transitions_of m q) s) → Takes m q s one.branch
 takes_branch m q s sound h one =
-    let at = line_at (transitions_of m q) s one.line one.taken in
-    let sure : IsSoundTransition m.variables (length m.states) one.line = sound.transitions_sound q one.line at.0 at.1 in
+    let at = transition_at (transitions_of m q) s one.transition one.taken in
+    let sure : IsSoundTransition m.variables (length m.states) one.transition = sound.transitions_sound q one.transition at.0 at.1 in
     let same = touched_taken (transitions_of m q) s (sound.open_last q h) one in
-    let scalars : list_all (scalar_at m.variables) (scalars_in_assignments one.line.assignments) ≡ true =
-    list_all_back (scalar_at m.variables) (scalars_in_condition one.line.guard) _ sure.scalars in
-    let arrays : list_all (array_at m.variables) (arrays_in_assignments one.line.assignments) ≡ true =
-    list_all_back (array_at m.variables) (arrays_in_condition one.line.guard) _ sure.arrays in
+    let scalars : list_all (scalar_at m.variables) (scalars_in_assignments one.transition.assignments) ≡ true =
+    list_all_back (scalar_at m.variables) (scalars_in_condition one.transition.guard) _ sure.scalars in
+    let arrays : list_all (array_at m.variables) (arrays_in_assignments one.transition.assignments) ≡ true =
+    list_all_back (array_at m.variables) (arrays_in_condition one.transition.guard) _ sure.arrays in
     record {
       step = record {
-        line = one.line;
+        transition = one.transition;
         taken = one.taken;
         target = one.target;
         store = changed_done one.branch.assignments s s ∙ ap (λ a. act_all a s s) one.assignments;

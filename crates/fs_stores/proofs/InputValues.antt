@@ -10,7 +10,7 @@ use Rattle.std.proofs.lemmas.Option.{slice_get-map}
 use Rattle.std.proofs.lemmas.Bool.{not-true}
 use Rattle.base_laws.proofs.Booleans.{and_first, and_second, neither_first, neither_second, and_false}
 use Rattle.base_laws.proofs.Lists.{bytes_eq-false_turned}
-use Rattle.fs_ast.specs.SoundParts.{names_differ}
+use Rattle.fs_model.specs.SoundMachines.{names_differ}
 use Rattle.fs_model.specs.declared.parts.Sort.{Sort}
 use Rattle.fs_model.specs.declared.parts.Sort.TheVariants.{Scalar, Array, Port}
 use Rattle.fs_model.specs.declared.parts.VarInfo.{VarInfo}

@@ -1,7 +1,7 @@
 -- Literals and branches tried in order, as a loop goes over them.
 use Rattle.std.proofs.Common.{◌≡◌, ℕ, true, false, cond, List, [], ◌∷◌, ◌++◌, sym, ◌∙◌, ap, subst}
 use Rattle.std.specs.Prelude.{◌&&◌, Some}
-use Rattle.fs_model.specs.Terms.{Literal}
+use Rattle.fs_model.specs.Expressions.{Literal}
 use Rattle.fs_model.specs.Stores.{Store}
 use Rattle.fs_model.specs.Meaning.{literal_holds}
 use Rattle.fs_model.specs.Touched.{AllInRange}

@@ -4,12 +4,13 @@ use Rattle.std.specs.Prelude.{not, ◌&&◌, ◌||◌, is_none, ℤ, Option, Som
 use Rattle.std.proofs.lemmas.List.Folds.{list_all-append}
 use Rattle.std.proofs.lemmas.Bool.{and_from}
 use Rattle.base_laws.proofs.Booleans.{and_first, and_second}
-use Rattle.fs_ast.specs.SoundParts.{ends_open, is_open}
-use Rattle.fs_model.specs.Terms.{Term, Number, Variable, Read, Sum, Difference, Product, Quotient, Remainder, Negative, Literal, Guard, Test, Not, And, Or}
-use Rattle.fs_model.specs.Terms.{Assignment, Transition}
+use Rattle.fs_model.specs.SoundMachines.{ends_open, is_open}
+use Rattle.fs_model.specs.Expressions.{Expression, Number, Variable, Read, Sum, Difference, Product, Quotient, Remainder, Negative, Literal, Guard, Test, Not}
+use Rattle.fs_model.specs.Expressions.{And, Or}
+use Rattle.fs_model.specs.Expressions.{Assignment, Transition}
 use Rattle.fs_model.specs.Stores.{Store}
 use Rattle.fs_model.specs.Meaning.{literal_holds, holds, condition_holds, transition_taken}
-use Rattle.fs_model.specs.Touched.{touched_by_term, touched_by_guard, touched_by_condition, touched_by_assignments, touched_by_transitions, AllInRange}
+use Rattle.fs_model.specs.Touched.{touched_by_expression, touched_by_guard, touched_by_condition, touched_by_assignments, touched_by_transitions, AllInRange}
 use Rattle.fs_model.specs.Trees.{Tree, Empty, Leaf, Node, tree_of_guard, tree_of_condition, tree_of_transitions, negated_literal, Branch, leaves, branches_of}
 use Rattle.fs_model.specs.Trees.{literals_hold}
 use Rattle.fs_model.proofs.Leaves.{opposite_holds}
@@ -30,9 +31,9 @@ pub back_part : (a b : List ℤ) → AllInRange (a ++ b) → AllInRange b
 back_part [] b p = p
 back_part (z ∷ a) b p = back_part a b p.1
 
--- a term
+-- an expression
 
-pub fits_touched : (t : Term ℕ) (s : Store) → EachFits t s → AllInRange (touched_by_term t s)
+pub fits_touched : (t : Expression ℕ) (s : Store) → EachFits t s → AllInRange (touched_by_expression t s)
 fits_touched (Number n) s p = (p, tt)
 fits_touched (Variable x) s p = (p, tt)
 fits_touched (Read x i) s p = (p.1, fits_touched i s p.0)
@@ -43,19 +44,19 @@ fits_touched (Quotient a b) s p = (p.2, both_parts _ _ (fits_touched a s p.0) (f
 fits_touched (Remainder a b) s p = (p.2, both_parts _ _ (fits_touched a s p.0) (fits_touched b s p.1))
 fits_touched (Negative a) s p = (p.1, fits_touched a s p.0)
 
-pub touched_fits : (t : Term ℕ) (s : Store) → AllInRange (touched_by_term t s) → EachFits t s
+pub touched_fits : (t : Expression ℕ) (s : Store) → AllInRange (touched_by_expression t s) → EachFits t s
 touched_fits (Number n) s p = p.0
 touched_fits (Variable x) s p = p.0
 touched_fits (Read x i) s p = (touched_fits i s p.1, p.0)
-touched_fits (Sum a b) s p = (touched_fits a s (front_part _ _ p.1), touched_fits b s (back_part (touched_by_term a s) _ p.1), p.0)
-touched_fits (Difference a b) s p = (touched_fits a s (front_part _ _ p.1), touched_fits b s (back_part (touched_by_term a s) _ p.1), p.0)
-touched_fits (Product a b) s p = (touched_fits a s (front_part _ _ p.1), touched_fits b s (back_part (touched_by_term a s) _ p.1), p.0)
-touched_fits (Quotient a b) s p = (touched_fits a s (front_part _ _ p.1), touched_fits b s (back_part (touched_by_term a s) _ p.1), p.0)
-touched_fits (Remainder a b) s p = (touched_fits a s (front_part _ _ p.1), touched_fits b s (back_part (touched_by_term a s) _ p.1), p.0)
+touched_fits (Sum a b) s p = (touched_fits a s (front_part _ _ p.1), touched_fits b s (back_part (touched_by_expression a s) _ p.1), p.0)
+touched_fits (Difference a b) s p = (touched_fits a s (front_part _ _ p.1), touched_fits b s (back_part (touched_by_expression a s) _ p.1), p.0)
+touched_fits (Product a b) s p = (touched_fits a s (front_part _ _ p.1), touched_fits b s (back_part (touched_by_expression a s) _ p.1), p.0)
+touched_fits (Quotient a b) s p = (touched_fits a s (front_part _ _ p.1), touched_fits b s (back_part (touched_by_expression a s) _ p.1), p.0)
+touched_fits (Remainder a b) s p = (touched_fits a s (front_part _ _ p.1), touched_fits b s (back_part (touched_by_expression a s) _ p.1), p.0)
 touched_fits (Negative a) s p = (touched_fits a s p.1, p.0)
 
 pub literal_fits : (l : Literal ℕ) (s : Store) → AllInRange (touched_by_literal l s) → LiteralFits l s
-literal_fits l s p = (touched_fits l.left s (front_part _ _ p), touched_fits l.right s (back_part (touched_by_term l.left s) _ p))
+literal_fits l s p = (touched_fits l.left s (front_part _ _ p), touched_fits l.right s (back_part (touched_by_expression l.left s) _ p))
 
 pub fits_literal : (l : Literal ℕ) (s : Store) → LiteralFits l s → AllInRange (touched_by_literal l s)
 fits_literal l s p = both_parts _ _ (fits_touched l.left s p.0) (fits_touched l.right s p.1)

@@ -4,7 +4,7 @@ use Rattle.std.specs.Prelude.{None, slice_get}
 use Rattle.std.specs.List.{list_all}
 use Rattle.std.specs.Ordering.{int_cmp, int_eq}
 use Rattle.std.specs.BTreeMap.{get}
-use Rattle.fs_model.specs.Terms.{Assignment, Assign, ArrayWrite, Emit}
+use Rattle.fs_model.specs.Expressions.{Assignment, Assign, ArrayWrite, Emit}
 use Rattle.fs_model.specs.Stores.{Store, store_with_number, store_with_entry, store_with_emit}
 use Rattle.fs_model.specs.Meaning.{value}
 use Rattle.fs_stores.specs.declared.values.Value.{Value}

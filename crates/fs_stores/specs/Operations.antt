@@ -1,10 +1,11 @@
--- What the operators of terms make of two values.
+-- What the operators of expressions make of two values.
 use Rattle.std.specs.Prelude.{ℕ, ℤ, pos, ◌+ℤ◌, ◌-ℤ◌, ◌*ℤ◌}
 use Rattle.base_laws.specs.Division.{quotient, remainder}
-use Rattle.fs_model.specs.Terms.{Term, Number, Variable, Read, Sum, Difference, Product, Quotient, Remainder, Negative}
+use Rattle.fs_model.specs.Expressions.{Expression, Number, Variable, Read, Sum, Difference, Product, Quotient, Remainder}
+use Rattle.fs_model.specs.Expressions.{Negative}
 
--- what the operator of a term makes of the values of its operands, and 0 where it has not two
-abbrev pub operation_value : Term ℕ → (left right : ℤ) → ℤ
+-- what the operator of an expression makes of the values of its operands, and 0 where it has not two
+abbrev pub operation_value : Expression ℕ → (left right : ℤ) → ℤ
 operation_value (Number n) x y = pos 0
 operation_value (Variable v) x y = pos 0
 operation_value (Read v i) x y = pos 0

@@ -2,14 +2,15 @@
 use Rattle.std.specs.Prelude.{ℕ, cond, ℤ, ◌+ℤ◌, ◌-ℤ◌, ◌*ℤ◌, neg_ℤ, FitsSigned, List, [], ◌∷◌, ◌++◌, Option, Some, None}
 use Rattle.std.specs.Int.{w128}
 use Rattle.base_laws.specs.Division.{quotient, remainder}
-use Rattle.fs_model.specs.Terms.{Term, Number, Variable, Read, Sum, Difference, Product, Quotient, Remainder, Negative, Literal}
+use Rattle.fs_model.specs.Expressions.{Expression, Number, Variable, Read, Sum, Difference, Product, Quotient, Remainder}
+use Rattle.fs_model.specs.Expressions.{Negative, Literal}
 use Rattle.fs_model.specs.Stores.{Store}
 use Rattle.fs_model.specs.Meaning.{value, literal_holds}
-use Rattle.fs_model.specs.Touched.{touched_by_term}
+use Rattle.fs_model.specs.Touched.{touched_by_expression}
 use Rattle.fs_model.specs.Trees.{Branch, branch_holds}
 
--- each part of a term has its value within 128 bits
-abbrev pub EachFits : Term ℕ → Store → Type 0
+-- each part of an expression has its value within 128 bits
+abbrev pub EachFits : Expression ℕ → Store → Type 0
 EachFits (Number n) s = FitsSigned w128 n
 EachFits (Variable x) s = FitsSigned w128 (s.scalar x)
 EachFits (Read x i) s = EachFits i s × FitsSigned w128 (s.array x (value i s))
@@ -26,7 +27,7 @@ LiteralFits l s = EachFits l.left s × EachFits l.right s
 
 -- the numbers of a literal that is looked at
 abbrev pub touched_by_literal : Literal ℕ → Store → List ℤ
-touched_by_literal l s = touched_by_term l.left s ++ touched_by_term l.right s
+touched_by_literal l s = touched_by_expression l.left s ++ touched_by_expression l.right s
 
 -- the numbers of a way's literals, up to the first that doesn't hold
 abbrev pub touched_by_way : List (Literal ℕ) → Store → List ℤ

@@ -4,7 +4,7 @@ ghost use Rattle.std.specs.Prelude.{◌≡◌, slice_get, FitsSigned};
 ghost use Rattle.std.specs.Int.{w128};
 ghost use Rattle.std.specs.Option.{SomeIff};
 ghost use Rattle.fs_model.specs.Meaning.{value};
-ghost use Rattle.fs_model.specs.View.{term_of};
+ghost use Rattle.fs_model.specs.View.{expression_of};
 ghost use Rattle.fs_stores.specs.Values.{value_number, entry_in, store_from};
 ghost use Rattle.fs_stores.specs.Reads.{EachFits};
 ghost use Rattle.fs_stores.specs.Operations.{operation_value};
@@ -36,8 +36,8 @@ fn element(values: &[Value], x: VarId, i: i128) -> i128
 // What the operator of an expression makes of two values, and `None` exactly where that lies outside 128 bits. It is 0 where
 // the expression has not two operands.
 fn combine(e: &Expr<VarId>, left: i128, right: i128) -> Option<i128>
-    ensures { SomeIff result (FitsSigned w128 (operation_value (term_of e.now) left right))
-        (operation_value (term_of e.now) left right) }
+    ensures { SomeIff result (FitsSigned w128 (operation_value (expression_of e.now) left right))
+        (operation_value (expression_of e.now) left right) }
 {
     match e {
         Expr::Add(..) => left.checked_add(right),
@@ -51,7 +51,8 @@ fn combine(e: &Expr<VarId>, left: i128, right: i128) -> Option<i128>
 
 /// The value of an expression, and `None` exactly when a part of it has its value outside 128 bits.
 pub fn value_of(e: &Expr<VarId>, values: &[Value]) -> Option<i128>
-    ensures { SomeIff result (EachFits (term_of e.now) (store_from values.now)) (value (term_of e.now) (store_from values.now)) }
+    ensures { SomeIff result (EachFits (expression_of e.now) (store_from values.now))
+        (value (expression_of e.now) (store_from values.now)) }
 {
     match e {
         Expr::Num(n) => Some(*n),

@@ -1,7 +1,7 @@
 -- The sums and guards of a machine text read as they do by themselves.
 use Rattle.std.proofs.Common.{◌≡◌, ℕ, List, [], ◌∷◌, Option, Some, None, refl, ap}
 use Rattle.fs_text_parser.proofs.Declared.{none_stops}
-use Rattle.fs_model.specs.Terms.{Term, Variable, Read, Negative, Guard, Test, Not, And, Or, Sum, Difference, Product, Quotient, Remainder}
+use Rattle.fs_model.specs.Expressions.{Expression, Variable, Read, Negative, Guard, Test, Not, And, Or, Sum, Difference, Product, Quotient, Remainder}
 use Rattle.fs_grammar.specs.declared.format.Format.TheVariants.{One}
 use Rattle.fs_grammar.specs.declared.token.TokenKind.{TokenKind}
 use Rattle.fs_grammar.specs.declared.token.TokenKind.TheVariants.{Name, Number, OpenParen, CloseParen, OpenBracket, CloseBracket, OpenBrace, CloseBrace, Plus}
@@ -26,12 +26,12 @@ pub record Hole : Type 0 where
   pub sums : SumContext
   pub guards : GuardContext
 
-abbrev pub factor_by : ProductOperator → Term (List ℕ) → ProductContext → FactorContext
+abbrev pub factor_by : ProductOperator → Expression (List ℕ) → ProductContext → FactorContext
 factor_by products.Times p k = times p k
 factor_by products.Divide p k = divides p k
 factor_by products.Remainder p k = remainder_of p k
 
-abbrev pub product_by : SumOperator → Term (List ℕ) → SumContext → ProductContext
+abbrev pub product_by : SumOperator → Expression (List ℕ) → SumContext → ProductContext
 product_by sums.Plus s k = plus s k
 product_by sums.Minus s k = minus s k
 
@@ -89,7 +89,7 @@ leads h n t None None = None
 
 -- ---- what has been read
 
-factor_ends : (h : Hole) (f : Term (List ℕ)) (k : inner.FactorContext) → factor_done f (factor_in h k) ≡ placed h (inner.factor_done f k)
+factor_ends : (h : Hole) (f : Expression (List ℕ)) (k : inner.FactorContext) → factor_done f (factor_in h k) ≡ placed h (inner.factor_done f k)
 factor_ends h f (inner.first_factor k) = refl
 factor_ends h f (inner.next_factor products.Times p k) = refl
 factor_ends h f (inner.next_factor products.Divide p k) = refl
@@ -137,7 +137,7 @@ joined_steps h n t u (inner.negates k) = joined_steps h n t (Not u) k
 joined_steps h n t u (inner.first_of_all k) = conjunction_steps h n t u k
 joined_steps h n t u (inner.and_after c k) = conjunction_steps h n t (And c u) k
 
-sum_steps : (h : Hole) (n : ℕ) (t : TokenKind) (s : Term (List ℕ)) (k : inner.SumContext)
+sum_steps : (h : Hole) (n : ℕ) (t : TokenKind) (s : Expression (List ℕ)) (k : inner.SumContext)
     → step_sum t s (sum_in h k) ≡ leads h n t (inner.step_sum t s k) (inner.ends_sum s k)
 sum_steps h n Plus s k = refl
 sum_steps h n Minus s k = refl
@@ -151,20 +151,20 @@ sum_steps h n t s (inner.index x k) = refl
 sum_steps h n t s (inner.left k) = refl
 sum_steps h n t s inner.sum_alone = refl
 
-summed_steps : (h : Hole) (n : ℕ) (t : TokenKind) (p : Term (List ℕ)) (k : inner.ProductContext)
+summed_steps : (h : Hole) (n : ℕ) (t : TokenKind) (p : Expression (List ℕ)) (k : inner.ProductContext)
     → step_summed t (product_done p (product_in h k)) ≡ leads h n t (inner.step_summed t (inner.product_done p k)) (inner.ends_summed (inner.product_done p k))
 summed_steps h n t p (inner.first_product k) = sum_steps h n t p k
 summed_steps h n t p (inner.next_product sums.Plus s k) = sum_steps h n t (Sum s p) k
 summed_steps h n t p (inner.next_product sums.Minus s k) = sum_steps h n t (Difference s p) k
 
-product_steps : (h : Hole) (n : ℕ) (t : TokenKind) (p : Term (List ℕ)) (k : inner.ProductContext)
+product_steps : (h : Hole) (n : ℕ) (t : TokenKind) (p : Expression (List ℕ)) (k : inner.ProductContext)
     → step_product t p (product_in h k) ≡ leads h n t (inner.step_product t p k) (inner.ends_product p k)
 product_steps h n Star p k = refl
 product_steps h n Slash p k = refl
 product_steps h n Percent p k = refl
 product_steps h n t p k = summed_steps h n t p k
 
-multiplied_steps : (h : Hole) (n : ℕ) (t : TokenKind) (f : Term (List ℕ)) (k : inner.FactorContext)
+multiplied_steps : (h : Hole) (n : ℕ) (t : TokenKind) (f : Expression (List ℕ)) (k : inner.FactorContext)
     → step_multiplied t (factor_done f (factor_in h k)) ≡ leads h n t (inner.step_multiplied t (inner.factor_done f k))
     (inner.ends_multiplied (inner.factor_done f k))
 multiplied_steps h n t f (inner.first_factor k) = product_steps h n t f k
@@ -227,7 +227,7 @@ sums_at k = record {
       (record {
         format = One;
         source = record { declarations = []; reset_line = 0; reset = []; states = [] };
-        state = record { line = 0; name = []; lines = [] };
+        state = record { line = 0; name = []; transitions = [] };
       }) 0;
 }
 

@@ -2,7 +2,7 @@
 use Rattle.std.proofs.Common.{◌≡◌, ℕ, List, [], ◌∷◌, ◌++◌, map, cond, Bool, Option, Bor, Result, Ok, Err, IfOk, sym, ap, ap₂, subst, ◌∙◌}
 use Rattle.std.proofs.lemmas.List.{map-append}
 use Rattle.fs_model.specs.Source.{Source}
-use Rattle.fs_model.specs.Terms.{Assignment, Guard}
+use Rattle.fs_model.specs.Expressions.{Assignment, Guard}
 use Rattle.fs_grammar.specs.declared.fault.TextFault.{TextFault}
 use Rattle.fs_grammar.specs.declared.fault.ReadError.{ReadError}
 use Rattle.fs_grammar.specs.declared.token.Token.{Token}

@@ -4,7 +4,7 @@ use Rattle.std.proofs.Common.{refl, ◌∙◌}
 use Rattle.fs_expression_text.proofs.Steps.{taken}
 use Rattle.fs_model.specs.declared.parts.Role.TheVariants.{Output}
 use Rattle.fs_model.specs.declared.parts.Sort.TheVariants as sorts
-use Rattle.fs_model.specs.Terms.{Guard}
+use Rattle.fs_model.specs.Expressions.{Guard}
 use Rattle.fs_model.specs.Source.{Declaration, Source}
 use Rattle.fs_grammar.specs.declared.fault.TextPlace.{TextPlace}
 use Rattle.fs_grammar.specs.declared.fault.TextFault.{TextFault}
@@ -184,9 +184,9 @@ name_target ts d m g =
 
 pub name_state : (ts : List Token) (f : Format) (s : Source) (m : ℕ)
     → reading ts (at_state_name f s m)
-    ≡ (name_in ts >>= λ x. reading x.1 (after_state_name (record { format = f; source = s; state = record { line = m; name = x.0; lines = [] } })))
+    ≡ (name_in ts >>= λ x. reading x.1 (after_state_name (record { format = f; source = s; state = record { line = m; name = x.0; transitions = [] } })))
 name_state ts f s m =
-    named_reading ts (at_state_name f s m) (λ x. after_state_name (record { format = f; source = s; state = record { line = m; name = x; lines = [] } }))
+    named_reading ts (at_state_name f s m) (λ x. after_state_name (record { format = f; source = s; state = record { line = m; name = x; transitions = [] } }))
     (λ n x. refl) (λ n. elim [ Name x ↦ λ i h. absurd h | _ ↦ λ i h. refl ]) refl
 
 pub name_reset : (ts : List Token) (f : Format) (ds : List Declaration) (m : ℕ)

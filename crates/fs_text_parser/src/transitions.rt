@@ -2,9 +2,9 @@
 
 ghost use Rattle.std.specs.Prelude.{◌≡◌, ◌<◌, ◌≤◌, ◌∷◌, false, List, ℕ, [], map, length, cond, IfOk, IsTrue, Option, Some};
 ghost use Rattle.std.specs.Prelude.{option_map};
-ghost use Rattle.fs_model.specs.Terms as terms;
-ghost use Rattle.fs_model.specs.Terms.{Term};
-ghost use Rattle.fs_model.specs.View.{named_term, named_guard, named_assignment, source_transition_of};
+ghost use Rattle.fs_model.specs.Expressions as expressions;
+ghost use Rattle.fs_model.specs.Expressions.{Expression};
+ghost use Rattle.fs_model.specs.View.{named_expression, named_guard, named_assignment, source_transition_of};
 ghost use Rattle.fs_grammar.specs.declared.token.TokenKind.TheVariants as kinds;
 ghost use Rattle.fs_grammar.specs.Tokens.{ParsesOn, kind_at, line_at};
 ghost use Rattle.fs_grammar.specs.PartEnds.{EndsSum, EndsGuard, begins_transition};
@@ -36,7 +36,7 @@ pub enum Destination {
 
 impl Destination {
     fn assign(self, value: Expr<Name>) -> Assign<Name>
-        ensures { named_assignment result ≡ destination_assignment (destination_of self) (named_term value) }
+        ensures { named_assignment result ≡ destination_assignment (destination_of self) (named_expression value) }
     {
         match self {
             Destination::Scalar(name) => Assign::Set(name, value),
@@ -49,7 +49,7 @@ impl Destination {
 // The bracket that closes the index of a destination.
 fn close_bracket(tokens: &[Token]) -> Result<&[Token], ReadError>
     requires { EndsSum tokens.now }
-    ensures goes { (i : Term (List ℕ)) (o : OpenTransition) (x : List ℕ)
+    ensures goes { (i : Expression (List ℕ)) (o : OpenTransition) (x : List ℕ)
         → ParsesOn result (reading tokens.now (after_sum i (write_index o x)))
         (λ r. reading r.now (at_equals o (grammar.element x i))) }
     ensures shorter { IfOk result (λ r. length r.now < length tokens.now) }
@@ -75,7 +75,7 @@ fn equals(tokens: &[Token]) -> Result<&[Token], ReadError>
 // What stands between the index of a destination and the value.
 fn index_end(tokens: &[Token]) -> Result<&[Token], ReadError>
     requires { EndsSum tokens.now }
-    ensures goes { (i : Term (List ℕ)) (o : OpenTransition) (x : List ℕ)
+    ensures goes { (i : Expression (List ℕ)) (o : OpenTransition) (x : List ℕ)
         → ParsesOn result (reading tokens.now (after_sum i (write_index o x)))
         (λ r. reading r.now (at_sum (value o (grammar.element x i)))) }
     ensures shorter { IfOk result (λ r. length r.now < length tokens.now) }
@@ -88,7 +88,7 @@ fn index_end(tokens: &[Token]) -> Result<&[Token], ReadError>
 fn index(alloc: Global, tokens: &[Token]) -> Result<(Expr<Name>, &[Token]), ReadError>
     requires { kind_at tokens.now ≡ Some kinds.OpenBracket }
     ensures goes { (o : OpenTransition) (x : List ℕ) → ParsesOn result (reading tokens.now (after_assignment_name o x))
-        (λ i. reading i.1.now (at_sum (value o (grammar.element x (named_term i.0))))) }
+        (λ i. reading i.1.now (at_sum (value o (grammar.element x (named_expression i.0))))) }
     ensures shorter { IfOk result (λ x. length x.1.now < length tokens.now) }
 {
     let rest = accept(tokens)?;
@@ -185,7 +185,7 @@ fn value_destination(
 // What follows an assignment: whether it is a comma, and not the end of the line.
 fn separator(tokens: &[Token]) -> Result<(bool, &[Token]), ReadError>
     requires { EndsSum tokens.now }
-    ensures goes { (o : OpenTransition) (d : grammar.Destination) (e : Term (List ℕ))
+    ensures goes { (o : OpenTransition) (d : grammar.Destination) (e : Expression (List ℕ))
         → let next = with_assignments o (destination_assignment d e ∷ []) in
         ParsesOn result (reading tokens.now (after_sum e (value o d)))
         (λ x. reading x.1.now (cond x.0 (at_assignment next) (at_transition (close_transition next)))) }
@@ -205,7 +205,7 @@ fn listed_value(
 ) -> Result<(Expr<Name>, (bool, &[Token])), ReadError>
     ensures goes { (o : OpenTransition) (d : grammar.Destination)
         → ParsesOn result (reading tokens.now (at_sum (value o d)))
-        (λ x. let next = with_assignments o (destination_assignment d (named_term x.0) ∷ []) in
+        (λ x. let next = with_assignments o (destination_assignment d (named_expression x.0) ∷ []) in
         reading x.1.1.now (cond x.1.0 (at_assignment next) (at_transition (close_transition next)))) }
     ensures shorter { IfOk result (λ x. length x.1.1.now < length tokens.now) }
 {
@@ -279,7 +279,7 @@ fn target(
     format: Format,
     tokens: &[Token],
 ) -> Result<(Name, (Vec<Assign<Name>>, &[Token])), ReadError>
-    ensures goes { (d : OpenState) (n : ℕ) (g : Option (terms.Guard (List ℕ))) → d.format ≡ format
+    ensures goes { (d : OpenState) (n : ℕ) (g : Option (expressions.Guard (List ℕ))) → d.format ≡ format
         → ParsesOn result (reading tokens.now (at_target d n g))
         (λ x. reading x.1.1.now
         (at_transition
@@ -304,7 +304,7 @@ fn begins_transition(tokens: &[Token]) -> bool
 // The word `goto` after a guard.
 fn goto(tokens: &[Token]) -> Result<&[Token], ReadError>
     requires { EndsGuard tokens.now }
-    ensures goes { (g : terms.Guard (List ℕ)) (d : OpenState) (n : ℕ)
+    ensures goes { (g : expressions.Guard (List ℕ)) (d : OpenState) (n : ℕ)
         → ParsesOn result (reading tokens.now (after_guard g (grammar.transition_guard d n)))
         (λ r. reading r.now (at_target d n (Some g))) }
     ensures shorter { IfOk result (λ r. length r.now < length tokens.now) }

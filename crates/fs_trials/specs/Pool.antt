@@ -3,7 +3,7 @@ use Rattle.std.specs.Prelude.{ℕ, ◌^◌, nat_lt, nat_le, Bool, not, ◌||◌,
 use Rattle.std.specs.Prelude.{List, [], ◌∷◌, ◌++◌, length, take}
 use Rattle.std.specs.List.{filter, flat_map, list_any}
 use Rattle.std.specs.Ordering.{int_eq}
-use Rattle.fs_ast.specs.SoundParts.{numbers_in_states}
+use Rattle.fs_model.specs.SoundMachines.{numbers_in_states}
 use Rattle.fs_model.specs.Machines.{Fsmd}
 
 -- the most numbers of a pool

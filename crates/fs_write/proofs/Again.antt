@@ -21,8 +21,8 @@ same_lines n (l ∷ ls) = ap (λ (rest : List ℕ). line_text l ++ rest) (same_l
 
 same_states : (n : ℕ) (ss : List SourceState) → flat_map state_text (states_from n ss) ≡ flat_map state_text ss
 same_states n [] = refl
-same_states n (s ∷ ss) = ap₂ (λ (lines rest : List ℕ). (codes "state " ++ (s.name ++ (codes ":\n" ++ lines))) ++ rest) (same_lines (n + 1) s.lines)
-    (same_states (n + 1 + length s.lines) ss)
+same_states n (s ∷ ss) = ap₂ (λ (lines rest : List ℕ). (codes "state " ++ (s.name ++ (codes ":\n" ++ lines))) ++ rest) (same_lines (n + 1) s.transitions)
+    (same_states (n + 1 + length s.transitions) ss)
 
 same_declarations : (n : ℕ) (ds : List Declaration) → flat_map declaration_text (declarations_from n ds) ≡ flat_map declaration_text ds
 same_declarations n [] = refl
@@ -34,7 +34,7 @@ lines_emit n (l ∷ ls) = ap (λ b. emits_in_transition l || b) (lines_emit (n +
 
 states_emit : (n : ℕ) (ss : List SourceState) → list_any emits_in_state (states_from n ss) ≡ list_any emits_in_state ss
 states_emit n [] = refl
-states_emit n (s ∷ ss) = ap₂ (λ a b. a || b) (lines_emit (n + 1) s.lines) (states_emit (n + 1 + length s.lines) ss)
+states_emit n (s ∷ ss) = ap₂ (λ a b. a || b) (lines_emit (n + 1) s.transitions) (states_emit (n + 1 + length s.transitions) ss)
 
 ports_declared : (n : ℕ) (ds : List Declaration) → list_any declares_ports (declarations_from n ds) ≡ list_any declares_ports ds
 ports_declared n [] = refl
@@ -58,7 +58,7 @@ lines_form n (l ∷ ls) = ap (λ b. is_well_formed_transition l && b) (lines_for
 
 states_form : (n : ℕ) (ss : List SourceState) → list_all is_well_formed_state (states_from n ss) ≡ list_all is_well_formed_state ss
 states_form n [] = refl
-states_form n (s ∷ ss) = ap₂ (λ a b. a && b) (lines_form (n + 1) s.lines) (states_form (n + 1 + length s.lines) ss)
+states_form n (s ∷ ss) = ap₂ (λ a b. a && b) (lines_form (n + 1) s.transitions) (states_form (n + 1 + length s.transitions) ss)
 
 declarations_form : (n : ℕ) (ds : List Declaration) → list_all is_well_formed_declaration (declarations_from n ds) ≡ list_all is_well_formed_declaration ds
 declarations_form n [] = refl
@@ -73,7 +73,7 @@ lines_words n (l ∷ ls) = ap (λ b. is_spellable_transition l && b) (lines_word
 
 states_words : (n : ℕ) (ss : List SourceState) → list_all is_spellable_state (states_from n ss) ≡ list_all is_spellable_state ss
 states_words n [] = refl
-states_words n (s ∷ ss) = ap₂ (λ a b. (is_name s.name && a) && b) (lines_words (n + 1) s.lines) (states_words (n + 1 + length s.lines) ss)
+states_words n (s ∷ ss) = ap₂ (λ a b. (is_name s.name && a) && b) (lines_words (n + 1) s.transitions) (states_words (n + 1 + length s.transitions) ss)
 
 declarations_words : (n : ℕ) (ds : List Declaration) → list_all is_spellable_declaration (declarations_from n ds) ≡ list_all is_spellable_declaration ds
 declarations_words n [] = refl
@@ -88,8 +88,8 @@ lines_kept n (l ∷ ls) = ap (λ (rest : List SourceTransition). transition_at_l
 
 states_kept : (n : ℕ) (ss : List SourceState) → map state_at_line_0 (states_from n ss) ≡ map state_at_line_0 ss
 states_kept n [] = refl
-states_kept n (s ∷ ss) = ap₂ (λ (ls : List SourceTransition) (rest : List SourceState). record { line = 0; name = s.name; lines = ls } ∷ rest)
-    (lines_kept (n + 1) s.lines) (states_kept (n + 1 + length s.lines) ss)
+states_kept n (s ∷ ss) = ap₂ (λ (ls : List SourceTransition) (rest : List SourceState). record { line = 0; name = s.name; transitions = ls } ∷ rest)
+    (lines_kept (n + 1) s.transitions) (states_kept (n + 1 + length s.transitions) ss)
 
 declarations_kept : (n : ℕ) (ds : List Declaration) → map declaration_at_line_0 (declarations_from n ds) ≡ map declaration_at_line_0 ds
 declarations_kept n [] = refl

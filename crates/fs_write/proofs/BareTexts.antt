@@ -1,35 +1,35 @@
--- A text without a bracket that it needs is the text of another term, or of another guard.
+-- A text without a bracket that it needs is the text of another expression, or of another guard.
 use Rattle.std.proofs.Common.{◌≡◌, ℕ, ◌<◌, Bool, true, false, ◌||◌, cond, List, [], ◌++◌, length, codes, refl, sym, ap, subst, ◌∙◌, append-nil, append_assoc}
 use Rattle.std.proofs.Common.{length-append, arith}
 use Rattle.std.proofs.lemmas.Bool.{or_right as or_right_true}
-use Rattle.fs_model.specs.Terms.{Term, Read, Sum, Difference, Product, Quotient, Remainder, Negative, Guard, Test, Not, And, Or}
+use Rattle.fs_model.specs.Expressions.{Expression, Read, Sum, Difference, Product, Quotient, Remainder, Negative, Guard, Test, Not, And, Or}
 use Rattle.fs_model.specs.WellFormed.{is_sum, is_product, is_and, is_or}
-use Rattle.fs_write.specs.Canonical.{in_parens, in_braces, infix_term_text, relation_text, guard_text}
-use Rattle.fs_write.specs.Bare.{BareTerm, sum_right, difference_right, product_left, product_right, quotient_left, quotient_right, remainder_left}
+use Rattle.fs_write.specs.Canonical.{in_parens, in_braces, infix_expression_text, relation_text, guard_text}
+use Rattle.fs_write.specs.Bare.{BareExpression, sum_right, difference_right, product_left, product_right, quotient_left, quotient_right, remainder_left}
 use Rattle.fs_write.specs.Bare.{remainder_right, under_minus, in_index, in_sum_left, in_sum_right, in_difference_left, in_difference_right, in_product_left}
 use Rattle.fs_write.specs.Bare.{in_product_right, in_quotient_left, in_quotient_right, in_remainder_left, in_remainder_right, in_negative, BareGuard, under_not}
 use Rattle.fs_write.specs.Bare.{and_left, and_right, or_right, in_test_left, in_test_right, in_not, in_and_left, in_and_right, in_or_left, in_or_right}
 use Rattle.fs_write.specs.Bare.{IsTextOfAnother, IsTextOfAnotherGuard}
 
--- ---- terms
+-- ---- expressions
 
--- the term whose text is that of `a + t` without parentheses, where make t is `a + t`
-abbrev added : (Term (List ℕ) → Term (List ℕ)) → Term (List ℕ) → Term (List ℕ)
+-- the expression whose text is that of `a + t` without parentheses, where make t is `a + t`
+abbrev added : (Expression (List ℕ) → Expression (List ℕ)) → Expression (List ℕ) → Expression (List ℕ)
 added make (Sum c d) = Sum (added make c) d
 added make (Difference c d) = Difference (added make c) d
 added make t = make t
 
-added_text : (make : Term (List ℕ) → Term (List ℕ)) (before : List ℕ)
-    → ((t : Term (List ℕ)) → is_sum t ≡ false → infix_term_text (make t) ≡ before ++ infix_term_text t) → (t : Term (List ℕ))
-    → infix_term_text (added make t) ≡ before ++ infix_term_text t
-added_text make before h (Sum c d) = ap (λ (w : List ℕ). w ++ (codes " + " ++ in_parens (is_sum d) (infix_term_text d))) (added_text make before h c)
-    ∙ append_assoc before (infix_term_text c) _
-added_text make before h (Difference c d) = ap (λ (w : List ℕ). w ++ (codes " - " ++ in_parens (is_sum d) (infix_term_text d))) (added_text make before h c)
-    ∙ append_assoc before (infix_term_text c) _
+added_text : (make : Expression (List ℕ) → Expression (List ℕ)) (before : List ℕ)
+    → ((t : Expression (List ℕ)) → is_sum t ≡ false → infix_expression_text (make t) ≡ before ++ infix_expression_text t) → (t : Expression (List ℕ))
+    → infix_expression_text (added make t) ≡ before ++ infix_expression_text t
+added_text make before h (Sum c d) = ap (λ (w : List ℕ). w ++ (codes " + " ++ in_parens (is_sum d) (infix_expression_text d))) (added_text make before h c)
+    ∙ append_assoc before (infix_expression_text c) _
+added_text make before h (Difference c d) = ap (λ (w : List ℕ). w ++ (codes " - " ++ in_parens (is_sum d) (infix_expression_text d))) (added_text make before h c)
+    ∙ append_assoc before (infix_expression_text c) _
 added_text make before h t = h t refl
 
--- the term whose text is that of `a * t` without parentheses round t, where make t is `a * t`
-abbrev hung : (Term (List ℕ) → Term (List ℕ)) → Term (List ℕ) → Term (List ℕ)
+-- the expression whose text is that of `a * t` without parentheses round t, where make t is `a * t`
+abbrev hung : (Expression (List ℕ) → Expression (List ℕ)) → Expression (List ℕ) → Expression (List ℕ)
 hung make (Sum c d) = Sum (hung make c) d
 hung make (Difference c d) = Difference (hung make c) d
 hung make (Product c d) = Product (cond (is_sum c) (make c) (hung make c)) d
@@ -37,7 +37,8 @@ hung make (Quotient c d) = Quotient (cond (is_sum c) (make c) (hung make c)) d
 hung make (Remainder c d) = Remainder (cond (is_sum c) (make c) (hung make c)) d
 hung make t = make t
 
-hung_no_sum : (make : Term (List ℕ) → Term (List ℕ)) → ((t : Term (List ℕ)) → is_sum (make t) ≡ false) → (t : Term (List ℕ)) → is_sum t ≡ false
+hung_no_sum : (make : Expression (List ℕ) → Expression (List ℕ)) → ((t : Expression (List ℕ)) → is_sum (make t) ≡ false) → (t : Expression (List ℕ))
+    → is_sum t ≡ false
     → is_sum (hung make t) ≡ false
 hung_no_sum make n (Sum c d) h = absurd cc
 hung_no_sum make n (Difference c d) h = absurd cc
@@ -47,65 +48,69 @@ hung_no_sum make n (Remainder c d) h = refl
 hung_no_sum make n t h = n t
 
 -- the left operand of a product keeps its parentheses
-kept : (before : List ℕ) (c x y : Term (List ℕ)) (b : Bool) → is_sum c ≡ b → is_sum x ≡ false → (is_sum c ≡ false → is_sum y ≡ false)
-    → infix_term_text x ≡ before ++ in_parens (is_sum c || is_product c) (infix_term_text c) → infix_term_text y ≡ before ++ infix_term_text c
-    → in_parens (is_sum (cond b x y)) (infix_term_text (cond b x y)) ≡ before ++ in_parens b (infix_term_text c)
-kept before c x y true e n m p q = rw n (append-nil (infix_term_text x) ∙ p ∙ rw e refl)
-kept before c x y false e n m p q = rw (m e) (append-nil (infix_term_text y) ∙ q ∙ rw (append-nil (infix_term_text c)) refl)
+kept : (before : List ℕ) (c x y : Expression (List ℕ)) (b : Bool) → is_sum c ≡ b → is_sum x ≡ false → (is_sum c ≡ false → is_sum y ≡ false)
+    → infix_expression_text x ≡ before ++ in_parens (is_sum c || is_product c) (infix_expression_text c)
+    → infix_expression_text y ≡ before ++ infix_expression_text c
+    → in_parens (is_sum (cond b x y)) (infix_expression_text (cond b x y)) ≡ before ++ in_parens b (infix_expression_text c)
+kept before c x y true e n m p q = rw n (append-nil (infix_expression_text x) ∙ p ∙ rw e refl)
+kept before c x y false e n m p q = rw (m e) (append-nil (infix_expression_text y) ∙ q ∙ rw (append-nil (infix_expression_text c)) refl)
 
-hung_text : (make : Term (List ℕ) → Term (List ℕ)) (before : List ℕ) → ((t : Term (List ℕ)) → is_sum (make t) ≡ false)
-    → ((t : Term (List ℕ)) → infix_term_text (make t) ≡ before ++ in_parens (is_sum t || is_product t) (infix_term_text t)) → (t : Term (List ℕ))
-    → infix_term_text (hung make t) ≡ before ++ infix_term_text t
-hung_text make before n h (Sum c d) = ap (λ (w : List ℕ). w ++ (codes " + " ++ in_parens (is_sum d) (infix_term_text d))) (hung_text make before n h c)
-    ∙ append_assoc before (infix_term_text c) _
-hung_text make before n h (Difference c d) = ap (λ (w : List ℕ). w ++ (codes " - " ++ in_parens (is_sum d) (infix_term_text d))) (hung_text make before n h c)
-    ∙ append_assoc before (infix_term_text c) _
+hung_text : (make : Expression (List ℕ) → Expression (List ℕ)) (before : List ℕ) → ((t : Expression (List ℕ)) → is_sum (make t) ≡ false)
+    → ((t : Expression (List ℕ)) → infix_expression_text (make t) ≡ before ++ in_parens (is_sum t || is_product t) (infix_expression_text t))
+    → (t : Expression (List ℕ))
+    → infix_expression_text (hung make t) ≡ before ++ infix_expression_text t
+hung_text make before n h (Sum c d) = ap (λ (w : List ℕ). w ++ (codes " + " ++ in_parens (is_sum d) (infix_expression_text d))) (hung_text make before n h c)
+    ∙ append_assoc before (infix_expression_text c) _
+hung_text make before n h (Difference c d) =
+    ap (λ (w : List ℕ). w ++ (codes " - " ++ in_parens (is_sum d) (infix_expression_text d))) (hung_text make before n h c)
+    ∙ append_assoc before (infix_expression_text c) _
 hung_text make before n h (Product c d) =
-    ap (λ (w : List ℕ). w ++ (codes " * " ++ in_parens (is_sum d || is_product d) (infix_term_text d)))
+    ap (λ (w : List ℕ). w ++ (codes " * " ++ in_parens (is_sum d || is_product d) (infix_expression_text d)))
     (kept before c (make c) (hung make c) (is_sum c) refl (n c) (hung_no_sum make n c) (h c) (hung_text make before n h c))
-    ∙ append_assoc before (in_parens (is_sum c) (infix_term_text c)) _
+    ∙ append_assoc before (in_parens (is_sum c) (infix_expression_text c)) _
 hung_text make before n h (Quotient c d) =
-    ap (λ (w : List ℕ). w ++ (codes " / " ++ in_parens (is_sum d || is_product d) (infix_term_text d)))
+    ap (λ (w : List ℕ). w ++ (codes " / " ++ in_parens (is_sum d || is_product d) (infix_expression_text d)))
     (kept before c (make c) (hung make c) (is_sum c) refl (n c) (hung_no_sum make n c) (h c) (hung_text make before n h c))
-    ∙ append_assoc before (in_parens (is_sum c) (infix_term_text c)) _
+    ∙ append_assoc before (in_parens (is_sum c) (infix_expression_text c)) _
 hung_text make before n h (Remainder c d) =
-    ap (λ (w : List ℕ). w ++ (codes " % " ++ in_parens (is_sum d || is_product d) (infix_term_text d)))
+    ap (λ (w : List ℕ). w ++ (codes " % " ++ in_parens (is_sum d || is_product d) (infix_expression_text d)))
     (kept before c (make c) (hung make c) (is_sum c) refl (n c) (hung_no_sum make n c) (h c) (hung_text make before n h c))
-    ∙ append_assoc before (in_parens (is_sum c) (infix_term_text c)) _
-hung_text make before n h t = h t ∙ ap (λ (w : List ℕ). before ++ w) (append-nil (infix_term_text t))
+    ∙ append_assoc before (in_parens (is_sum c) (infix_expression_text c)) _
+hung_text make before n h t = h t ∙ ap (λ (w : List ℕ). before ++ w) (append-nil (infix_expression_text t))
 
 -- the text of `a * b` without parentheses round the sum a, where make d is `d * b`
-split_left : (make : Term (List ℕ) → Term (List ℕ)) (after : List ℕ) → ((d : Term (List ℕ)) → is_sum (make d) ≡ false)
-    → ((d : Term (List ℕ)) → infix_term_text (make d) ≡ in_parens (is_sum d) (infix_term_text d) ++ after) → (a : Term (List ℕ)) → is_sum a ≡ true
-    → (u : Term (List ℕ)) × (infix_term_text u ≡ infix_term_text a ++ after) × ((is_sum u || is_product u) ≡ true)
+split_left : (make : Expression (List ℕ) → Expression (List ℕ)) (after : List ℕ) → ((d : Expression (List ℕ)) → is_sum (make d) ≡ false)
+    → ((d : Expression (List ℕ)) → infix_expression_text (make d) ≡ in_parens (is_sum d) (infix_expression_text d) ++ after) → (a : Expression (List ℕ))
+    → is_sum a ≡ true
+    → (u : Expression (List ℕ)) × (infix_expression_text u ≡ infix_expression_text a ++ after) × ((is_sum u || is_product u) ≡ true)
 split_left make after n h (Sum c d) e = (
   Sum c (make d),
-  rw n (ap (λ (w : List ℕ). infix_term_text c ++ (codes " + " ++ w)) (append-nil (infix_term_text (make d)) ∙ h d)
-      ∙ sym (append_assoc (infix_term_text c) (codes " + " ++ in_parens (is_sum d) (infix_term_text d)) after)),
+  rw n (ap (λ (w : List ℕ). infix_expression_text c ++ (codes " + " ++ w)) (append-nil (infix_expression_text (make d)) ∙ h d)
+      ∙ sym (append_assoc (infix_expression_text c) (codes " + " ++ in_parens (is_sum d) (infix_expression_text d)) after)),
   refl,
 )
 split_left make after n h (Difference c d) e = (
   Difference c (make d),
-  rw n (ap (λ (w : List ℕ). infix_term_text c ++ (codes " - " ++ w)) (append-nil (infix_term_text (make d)) ∙ h d)
-      ∙ sym (append_assoc (infix_term_text c) (codes " - " ++ in_parens (is_sum d) (infix_term_text d)) after)),
+  rw n (ap (λ (w : List ℕ). infix_expression_text c ++ (codes " - " ++ w)) (append-nil (infix_expression_text (make d)) ∙ h d)
+      ∙ sym (append_assoc (infix_expression_text c) (codes " - " ++ in_parens (is_sum d) (infix_expression_text d)) after)),
   refl,
 )
 split_left make after n h _ e = absurd cc
 
--- ---- another term with a shorter text
+-- ---- another expression with a shorter text
 
-abbrev is_compound : Term (List ℕ) → Bool
+abbrev is_compound : Expression (List ℕ) → Bool
 is_compound t = is_sum t || is_product t
 
--- a term with the text w, which is shorter than that of t; a sum where t is one, and a sum or a product where t is one of these
-record Other (t : Term (List ℕ)) (w : List ℕ) : Type 0 where
-  term : Term (List ℕ)
-  same : infix_term_text term ≡ w
-  shorter : length w < length (infix_term_text t)
-  sum : is_sum t ≡ true → is_sum term ≡ true
-  compound : is_compound t ≡ true → is_compound term ≡ true
+-- an expression with the text w, which is shorter than that of t; a sum where t is one, and a sum or a product where t is one of these
+record Other (t : Expression (List ℕ)) (w : List ℕ) : Type 0 where
+  expression : Expression (List ℕ)
+  same : infix_expression_text expression ≡ w
+  shorter : length w < length (infix_expression_text t)
+  sum : is_sum t ≡ true → is_sum expression ≡ true
+  compound : is_compound t ≡ true → is_compound expression ≡ true
 
-sum_compound : (t : Term (List ℕ)) → is_sum t ≡ true → is_compound t ≡ true
+sum_compound : (t : Expression (List ℕ)) → is_sum t ≡ true → is_compound t ≡ true
 sum_compound t e = rw e refl
 
 right_longer : (a op w : List ℕ) (b : Bool) → b ≡ true → length (a ++ (op ++ w)) < length (a ++ (op ++ in_parens b w))
@@ -130,23 +135,26 @@ front_shorter v w rest h = simp length-append (omega arith)
 index_shorter : (x v w : List ℕ) → length v < length w → length (x ++ (codes "[" ++ (v ++ codes "]"))) < length (x ++ (codes "[" ++ (w ++ codes "]")))
 index_shorter x v w h = simp length-append (omega arith)
 
-added_is : (make : Term (List ℕ) → Term (List ℕ)) (a op : List ℕ)
-    → ((t : Term (List ℕ)) → infix_term_text (make t) ≡ a ++ (op ++ in_parens (is_sum t) (infix_term_text t))) → (t : Term (List ℕ))
-    → infix_term_text (added make t) ≡ a ++ (op ++ infix_term_text t)
-added_is make a op h t = added_text make (a ++ op) (λ v e. h v ∙ rw (e, append-nil (infix_term_text v)) (sym (append_assoc a op (infix_term_text v)))) t
-    ∙ append_assoc a op (infix_term_text t)
+added_is : (make : Expression (List ℕ) → Expression (List ℕ)) (a op : List ℕ)
+    → ((t : Expression (List ℕ)) → infix_expression_text (make t) ≡ a ++ (op ++ in_parens (is_sum t) (infix_expression_text t))) → (t : Expression (List ℕ))
+    → infix_expression_text (added make t) ≡ a ++ (op ++ infix_expression_text t)
+added_is make a op h t = added_text make (a ++ op)
+    (λ v e. h v ∙ rw (e, append-nil (infix_expression_text v)) (sym (append_assoc a op (infix_expression_text v)))) t
+    ∙ append_assoc a op (infix_expression_text t)
 
-added_sum : (make : Term (List ℕ) → Term (List ℕ)) → ((t : Term (List ℕ)) → is_sum (make t) ≡ true) → (t : Term (List ℕ)) → is_sum (added make t) ≡ true
+added_sum : (make : Expression (List ℕ) → Expression (List ℕ)) → ((t : Expression (List ℕ)) → is_sum (make t) ≡ true) → (t : Expression (List ℕ))
+    → is_sum (added make t) ≡ true
 added_sum make n (Sum c d) = refl
 added_sum make n (Difference c d) = refl
 added_sum make n t = n t
 
-hung_is : (make : Term (List ℕ) → Term (List ℕ)) (a op : List ℕ) → ((t : Term (List ℕ)) → is_sum (make t) ≡ false)
-    → ((t : Term (List ℕ)) → infix_term_text (make t) ≡ a ++ (op ++ in_parens (is_compound t) (infix_term_text t))) → (t : Term (List ℕ))
-    → infix_term_text (hung make t) ≡ a ++ (op ++ infix_term_text t)
-hung_is make a op n h t = hung_text make (a ++ op) n (λ v. h v ∙ sym (append_assoc a op _)) t ∙ append_assoc a op (infix_term_text t)
+hung_is : (make : Expression (List ℕ) → Expression (List ℕ)) (a op : List ℕ) → ((t : Expression (List ℕ)) → is_sum (make t) ≡ false)
+    → ((t : Expression (List ℕ)) → infix_expression_text (make t) ≡ a ++ (op ++ in_parens (is_compound t) (infix_expression_text t)))
+    → (t : Expression (List ℕ))
+    → infix_expression_text (hung make t) ≡ a ++ (op ++ infix_expression_text t)
+hung_is make a op n h t = hung_text make (a ++ op) n (λ v. h v ∙ sym (append_assoc a op _)) t ∙ append_assoc a op (infix_expression_text t)
 
-hung_compound : (make : Term (List ℕ) → Term (List ℕ)) → ((t : Term (List ℕ)) → is_compound (make t) ≡ true) → (t : Term (List ℕ))
+hung_compound : (make : Expression (List ℕ) → Expression (List ℕ)) → ((t : Expression (List ℕ)) → is_compound (make t) ≡ true) → (t : Expression (List ℕ))
     → is_compound (hung make t) ≡ true
 hung_compound make n (Sum c d) = refl
 hung_compound make n (Difference c d) = refl
@@ -158,43 +166,51 @@ hung_compound make n t = n t
 -- ---- an operand changes
 
 -- on the right of a sum
-in_added : (make : Term (List ℕ) → Term (List ℕ)) (a op : List ℕ)
-    → ((t : Term (List ℕ)) → infix_term_text (make t) ≡ a ++ (op ++ in_parens (is_sum t) (infix_term_text t))) → ((t : Term (List ℕ)) → is_sum (make t) ≡ true)
-    → (b : Term (List ℕ)) (w : List ℕ) → Other b w → (k : Bool) → is_sum b ≡ k
-    → (u : Term (List ℕ)) × (infix_term_text u ≡ a ++ (op ++ in_parens k w)) × (is_sum u ≡ true)
-in_added make a op h n b w o true e = (make o.term, h o.term ∙ rw (o.sum e, o.same) refl, n o.term)
-in_added make a op h n b w o false e = (added make o.term, added_is make a op h o.term ∙ rw (o.same, append-nil w) refl, added_sum make n o.term)
+in_added : (make : Expression (List ℕ) → Expression (List ℕ)) (a op : List ℕ)
+    → ((t : Expression (List ℕ)) → infix_expression_text (make t) ≡ a ++ (op ++ in_parens (is_sum t) (infix_expression_text t)))
+    → ((t : Expression (List ℕ)) → is_sum (make t) ≡ true)
+    → (b : Expression (List ℕ)) (w : List ℕ) → Other b w → (k : Bool) → is_sum b ≡ k
+    → (u : Expression (List ℕ)) × (infix_expression_text u ≡ a ++ (op ++ in_parens k w)) × (is_sum u ≡ true)
+in_added make a op h n b w o true e = (make o.expression, h o.expression ∙ rw (o.sum e, o.same) refl, n o.expression)
+in_added make a op h n b w o false e =
+    (added make o.expression, added_is make a op h o.expression ∙ rw (o.same, append-nil w) refl, added_sum make n o.expression)
 
 -- on the right of a product, or under a minus
-in_hung : (make : Term (List ℕ) → Term (List ℕ)) (a op : List ℕ) → ((t : Term (List ℕ)) → is_sum (make t) ≡ false)
-    → ((t : Term (List ℕ)) → infix_term_text (make t) ≡ a ++ (op ++ in_parens (is_compound t) (infix_term_text t))) → (b : Term (List ℕ)) (w : List ℕ)
+in_hung : (make : Expression (List ℕ) → Expression (List ℕ)) (a op : List ℕ) → ((t : Expression (List ℕ)) → is_sum (make t) ≡ false)
+    → ((t : Expression (List ℕ)) → infix_expression_text (make t) ≡ a ++ (op ++ in_parens (is_compound t) (infix_expression_text t)))
+    → (b : Expression (List ℕ)) (w : List ℕ)
     → Other b w → (k : Bool) → is_compound b ≡ k
-    → (u : Term (List ℕ)) × (infix_term_text u ≡ a ++ (op ++ in_parens k w)) × (((t : Term (List ℕ)) → is_compound (make t) ≡ true) → is_compound u ≡ true)
-in_hung make a op n h b w o true e = (make o.term, h o.term ∙ rw (o.compound e, o.same) refl, λ c. c o.term)
-in_hung make a op n h b w o false e = (hung make o.term, hung_is make a op n h o.term ∙ rw (o.same, append-nil w) refl, λ c. hung_compound make c o.term)
+    → (u : Expression (List ℕ)) × (infix_expression_text u ≡ a ++ (op ++ in_parens k w))
+    × (((t : Expression (List ℕ)) → is_compound (make t) ≡ true) → is_compound u ≡ true)
+in_hung make a op n h b w o true e = (make o.expression, h o.expression ∙ rw (o.compound e, o.same) refl, λ c. c o.expression)
+in_hung make a op n h b w o false e =
+    (hung make o.expression, hung_is make a op n h o.expression ∙ rw (o.same, append-nil w) refl, λ c. hung_compound make c o.expression)
 
 -- on the left of a product, where it has no parentheses
-in_bare_left : (make : Term (List ℕ) → Term (List ℕ)) (after : List ℕ) → ((d : Term (List ℕ)) → is_sum (make d) ≡ false)
-    → ((d : Term (List ℕ)) → is_compound (make d) ≡ true) → ((d : Term (List ℕ)) → infix_term_text (make d) ≡ in_parens (is_sum d) (infix_term_text d) ++ after)
-    → (v : Term (List ℕ)) (k : Bool) → is_sum v ≡ k
-    → (u : Term (List ℕ)) × (infix_term_text u ≡ infix_term_text v ++ after) × (is_compound u ≡ true)
+in_bare_left : (make : Expression (List ℕ) → Expression (List ℕ)) (after : List ℕ) → ((d : Expression (List ℕ)) → is_sum (make d) ≡ false)
+    → ((d : Expression (List ℕ)) → is_compound (make d) ≡ true)
+    → ((d : Expression (List ℕ)) → infix_expression_text (make d) ≡ in_parens (is_sum d) (infix_expression_text d) ++ after)
+    → (v : Expression (List ℕ)) (k : Bool) → is_sum v ≡ k
+    → (u : Expression (List ℕ)) × (infix_expression_text u ≡ infix_expression_text v ++ after) × (is_compound u ≡ true)
 in_bare_left make after n c h v true e = let s = split_left make after n h v e in (s.0, s.1, s.2)
-in_bare_left make after n c h v false e = (make v, h v ∙ rw (e, append-nil (infix_term_text v)) refl, c v)
+in_bare_left make after n c h v false e = (make v, h v ∙ rw (e, append-nil (infix_expression_text v)) refl, c v)
 
 -- on the left of a product
-in_left : (make : Term (List ℕ) → Term (List ℕ)) (after : List ℕ) → ((d : Term (List ℕ)) → is_sum (make d) ≡ false)
-    → ((d : Term (List ℕ)) → is_compound (make d) ≡ true) → ((d : Term (List ℕ)) → infix_term_text (make d) ≡ in_parens (is_sum d) (infix_term_text d) ++ after)
-    → (a : Term (List ℕ)) (w : List ℕ) → Other a w → (k : Bool) → is_sum a ≡ k
-    → (u : Term (List ℕ)) × (infix_term_text u ≡ in_parens k w ++ after) × (is_compound u ≡ true)
-in_left make after n c h a w o true e = (make o.term, h o.term ∙ rw (o.sum e, o.same) refl, c o.term)
-in_left make after n c h a w o false e = let s = in_bare_left make after n c h o.term (is_sum o.term) refl in (s.0, s.1 ∙ rw (o.same, append-nil w) refl, s.2)
+in_left : (make : Expression (List ℕ) → Expression (List ℕ)) (after : List ℕ) → ((d : Expression (List ℕ)) → is_sum (make d) ≡ false)
+    → ((d : Expression (List ℕ)) → is_compound (make d) ≡ true)
+    → ((d : Expression (List ℕ)) → infix_expression_text (make d) ≡ in_parens (is_sum d) (infix_expression_text d) ++ after)
+    → (a : Expression (List ℕ)) (w : List ℕ) → Other a w → (k : Bool) → is_sum a ≡ k
+    → (u : Expression (List ℕ)) × (infix_expression_text u ≡ in_parens k w ++ after) × (is_compound u ≡ true)
+in_left make after n c h a w o true e = (make o.expression, h o.expression ∙ rw (o.sum e, o.same) refl, c o.expression)
+in_left make after n c h a w o false e = let s =
+    in_bare_left make after n c h o.expression (is_sum o.expression) refl in (s.0, s.1 ∙ rw (o.same, append-nil w) refl, s.2)
 
 -- ---- operations
 
 -- a sum of two operands by this operator
-record Adds (make : Term (List ℕ) → Term (List ℕ) → Term (List ℕ)) (op : List ℕ) : Type 0 where
-  text : (a b : Term (List ℕ)) → infix_term_text (make a b) ≡ infix_term_text a ++ (op ++ in_parens (is_sum b) (infix_term_text b))
-  is : (a b : Term (List ℕ)) → is_sum (make a b) ≡ true
+record Adds (make : Expression (List ℕ) → Expression (List ℕ) → Expression (List ℕ)) (op : List ℕ) : Type 0 where
+  text : (a b : Expression (List ℕ)) → infix_expression_text (make a b) ≡ infix_expression_text a ++ (op ++ in_parens (is_sum b) (infix_expression_text b))
+  is : (a b : Expression (List ℕ)) → is_sum (make a b) ≡ true
 
 sum_adds : Adds Sum (codes " + ")
 sum_adds = record { text = λ a b. refl; is = λ a b. refl }
@@ -202,46 +218,50 @@ sum_adds = record { text = λ a b. refl; is = λ a b. refl }
 difference_adds : Adds Difference (codes " - ")
 difference_adds = record { text = λ a b. refl; is = λ a b. refl }
 
-adds_right : (make : Term (List ℕ) → Term (List ℕ) → Term (List ℕ)) (op : List ℕ) → Adds make op → (a b : Term (List ℕ)) → is_sum b ≡ true
-    → Other (make a b) (infix_term_text a ++ (op ++ infix_term_text b))
+adds_right : (make : Expression (List ℕ) → Expression (List ℕ) → Expression (List ℕ)) (op : List ℕ) → Adds make op → (a b : Expression (List ℕ))
+    → is_sum b ≡ true
+    → Other (make a b) (infix_expression_text a ++ (op ++ infix_expression_text b))
 adds_right make op f a b e = record {
-  term = added (make a) b;
-  same = added_is (make a) (infix_term_text a) op (f.text a) b;
-  shorter = subst (λ v. length (infix_term_text a ++ (op ++ infix_term_text b)) < length v) (sym (f.text a b))
-      (right_longer (infix_term_text a) op (infix_term_text b) (is_sum b) e);
+  expression = added (make a) b;
+  same = added_is (make a) (infix_expression_text a) op (f.text a) b;
+  shorter = subst (λ v. length (infix_expression_text a ++ (op ++ infix_expression_text b)) < length v) (sym (f.text a b))
+      (right_longer (infix_expression_text a) op (infix_expression_text b) (is_sum b) e);
   sum = λ h. added_sum (make a) (f.is a) b;
   compound = λ h. sum_compound _ (added_sum (make a) (f.is a) b);
 }
 
-in_adds_left : (make : Term (List ℕ) → Term (List ℕ) → Term (List ℕ)) (op : List ℕ) → Adds make op → (a b : Term (List ℕ)) (w : List ℕ) → Other a w
-    → Other (make a b) (w ++ (op ++ in_parens (is_sum b) (infix_term_text b)))
+in_adds_left : (make : Expression (List ℕ) → Expression (List ℕ) → Expression (List ℕ)) (op : List ℕ) → Adds make op → (a b : Expression (List ℕ)) (w : List ℕ)
+    → Other a w
+    → Other (make a b) (w ++ (op ++ in_parens (is_sum b) (infix_expression_text b)))
 in_adds_left make op f a b w o = record {
-  term = make o.term b;
-  same = f.text o.term b ∙ ap (λ (v : List ℕ). v ++ (op ++ in_parens (is_sum b) (infix_term_text b))) o.same;
-  shorter = subst (λ v. length (w ++ (op ++ in_parens (is_sum b) (infix_term_text b))) < length v) (sym (f.text a b))
-      (front_shorter w (infix_term_text a) _ o.shorter);
-  sum = λ h. f.is o.term b;
-  compound = λ h. sum_compound _ (f.is o.term b);
+  expression = make o.expression b;
+  same = f.text o.expression b ∙ ap (λ (v : List ℕ). v ++ (op ++ in_parens (is_sum b) (infix_expression_text b))) o.same;
+  shorter = subst (λ v. length (w ++ (op ++ in_parens (is_sum b) (infix_expression_text b))) < length v) (sym (f.text a b))
+      (front_shorter w (infix_expression_text a) _ o.shorter);
+  sum = λ h. f.is o.expression b;
+  compound = λ h. sum_compound _ (f.is o.expression b);
 }
 
-in_adds_right : (make : Term (List ℕ) → Term (List ℕ) → Term (List ℕ)) (op : List ℕ) → Adds make op → (a b : Term (List ℕ)) (w : List ℕ) → Other b w
-    → Other (make a b) (infix_term_text a ++ (op ++ in_parens (is_sum b) w))
+in_adds_right : (make : Expression (List ℕ) → Expression (List ℕ) → Expression (List ℕ)) (op : List ℕ) → Adds make op
+    → (a b : Expression (List ℕ)) (w : List ℕ) → Other b w
+    → Other (make a b) (infix_expression_text a ++ (op ++ in_parens (is_sum b) w))
 in_adds_right make op f a b w o =
-    let s = in_added (make a) (infix_term_text a) op (f.text a) (f.is a) b w o (is_sum b) refl in
+    let s = in_added (make a) (infix_expression_text a) op (f.text a) (f.is a) b w o (is_sum b) refl in
     record {
-      term = s.0;
+      expression = s.0;
       same = s.1;
-      shorter = subst (λ v. length (infix_term_text a ++ (op ++ in_parens (is_sum b) w)) < length v) (sym (f.text a b))
-          (right_shorter (infix_term_text a) op w (infix_term_text b) (is_sum b) o.shorter);
+      shorter = subst (λ v. length (infix_expression_text a ++ (op ++ in_parens (is_sum b) w)) < length v) (sym (f.text a b))
+          (right_shorter (infix_expression_text a) op w (infix_expression_text b) (is_sum b) o.shorter);
       sum = λ h. s.2;
       compound = λ h. sum_compound s.0 s.2;
     }
 
 -- a product, a quotient or a remainder of two operands by this operator
-record Multiplies (make : Term (List ℕ) → Term (List ℕ) → Term (List ℕ)) (op : List ℕ) : Type 0 where
-  text : (a b : Term (List ℕ)) → infix_term_text (make a b) ≡ in_parens (is_sum a) (infix_term_text a) ++ (op ++ in_parens (is_compound b) (infix_term_text b))
-  no_sum : (a b : Term (List ℕ)) → is_sum (make a b) ≡ false
-  is : (a b : Term (List ℕ)) → is_compound (make a b) ≡ true
+record Multiplies (make : Expression (List ℕ) → Expression (List ℕ) → Expression (List ℕ)) (op : List ℕ) : Type 0 where
+  text : (a b : Expression (List ℕ))
+      → infix_expression_text (make a b) ≡ in_parens (is_sum a) (infix_expression_text a) ++ (op ++ in_parens (is_compound b) (infix_expression_text b))
+  no_sum : (a b : Expression (List ℕ)) → is_sum (make a b) ≡ false
+  is : (a b : Expression (List ℕ)) → is_compound (make a b) ≡ true
 
 product_multiplies : Multiplies Product (codes " * ")
 product_multiplies = record { text = λ a b. refl; no_sum = λ a b. refl; is = λ a b. refl }
@@ -252,64 +272,68 @@ quotient_multiplies = record { text = λ a b. refl; no_sum = λ a b. refl; is = 
 remainder_multiplies : Multiplies Remainder (codes " % ")
 remainder_multiplies = record { text = λ a b. refl; no_sum = λ a b. refl; is = λ a b. refl }
 
-never : (t u : Term (List ℕ)) → is_sum t ≡ false → is_sum t ≡ true → is_sum u ≡ true
+never : (t u : Expression (List ℕ)) → is_sum t ≡ false → is_sum t ≡ true → is_sum u ≡ true
 never t u e h = absurd cc
 
-multiplies_left : (make : Term (List ℕ) → Term (List ℕ) → Term (List ℕ)) (op : List ℕ) → Multiplies make op → (a b : Term (List ℕ)) → is_sum a ≡ true
-    → Other (make a b) (infix_term_text a ++ (op ++ in_parens (is_compound b) (infix_term_text b)))
+multiplies_left : (make : Expression (List ℕ) → Expression (List ℕ) → Expression (List ℕ)) (op : List ℕ) → Multiplies make op → (a b : Expression (List ℕ))
+    → is_sum a ≡ true
+    → Other (make a b) (infix_expression_text a ++ (op ++ in_parens (is_compound b) (infix_expression_text b)))
 multiplies_left make op f a b e =
-    let after = op ++ in_parens (is_compound b) (infix_term_text b) in
+    let after = op ++ in_parens (is_compound b) (infix_expression_text b) in
     let s = split_left (λ v. make v b) after (λ v. f.no_sum v b) (λ v. f.text v b) a e in
     record {
-      term = s.0;
+      expression = s.0;
       same = s.1;
-      shorter = subst (λ v. length (infix_term_text a ++ after) < length v) (sym (f.text a b)) (left_longer (infix_term_text a) after (is_sum a) e);
+      shorter = subst (λ v. length (infix_expression_text a ++ after) < length v) (sym (f.text a b)) (left_longer (infix_expression_text a) after (is_sum a) e);
       sum = never (make a b) s.0 (f.no_sum a b);
       compound = λ h. s.2;
     }
 
-multiplies_right : (make : Term (List ℕ) → Term (List ℕ) → Term (List ℕ)) (op : List ℕ) → Multiplies make op → (a b : Term (List ℕ)) → is_compound b ≡ true
-    → Other (make a b) (in_parens (is_sum a) (infix_term_text a) ++ (op ++ infix_term_text b))
+multiplies_right : (make : Expression (List ℕ) → Expression (List ℕ) → Expression (List ℕ)) (op : List ℕ) → Multiplies make op → (a b : Expression (List ℕ))
+    → is_compound b ≡ true
+    → Other (make a b) (in_parens (is_sum a) (infix_expression_text a) ++ (op ++ infix_expression_text b))
 multiplies_right make op f a b e =
-    let before = in_parens (is_sum a) (infix_term_text a) in
+    let before = in_parens (is_sum a) (infix_expression_text a) in
     record {
-      term = hung (make a) b;
+      expression = hung (make a) b;
       same = hung_is (make a) before op (f.no_sum a) (f.text a) b;
-      shorter = subst (λ v. length (before ++ (op ++ infix_term_text b)) < length v) (sym (f.text a b))
-          (right_longer before op (infix_term_text b) (is_compound b) e);
+      shorter = subst (λ v. length (before ++ (op ++ infix_expression_text b)) < length v) (sym (f.text a b))
+          (right_longer before op (infix_expression_text b) (is_compound b) e);
       sum = never (make a b) (hung (make a) b) (f.no_sum a b);
       compound = λ h. hung_compound (make a) (f.is a) b;
     }
 
-in_multiplies_left : (make : Term (List ℕ) → Term (List ℕ) → Term (List ℕ)) (op : List ℕ) → Multiplies make op → (a b : Term (List ℕ)) (w : List ℕ) → Other a w
-    → Other (make a b) (in_parens (is_sum a) w ++ (op ++ in_parens (is_compound b) (infix_term_text b)))
+in_multiplies_left : (make : Expression (List ℕ) → Expression (List ℕ) → Expression (List ℕ)) (op : List ℕ) → Multiplies make op
+    → (a b : Expression (List ℕ)) (w : List ℕ) → Other a w
+    → Other (make a b) (in_parens (is_sum a) w ++ (op ++ in_parens (is_compound b) (infix_expression_text b)))
 in_multiplies_left make op f a b w o =
-    let after = op ++ in_parens (is_compound b) (infix_term_text b) in
+    let after = op ++ in_parens (is_compound b) (infix_expression_text b) in
     let s = in_left (λ v. make v b) after (λ v. f.no_sum v b) (λ v. f.is v b) (λ v. f.text v b) a w o (is_sum a) refl in
     record {
-      term = s.0;
+      expression = s.0;
       same = s.1;
       shorter = subst (λ v. length (in_parens (is_sum a) w ++ after) < length v) (sym (f.text a b))
-          (left_shorter w (infix_term_text a) after (is_sum a) o.shorter);
+          (left_shorter w (infix_expression_text a) after (is_sum a) o.shorter);
       sum = never (make a b) s.0 (f.no_sum a b);
       compound = λ h. s.2;
     }
 
-in_multiplies_right : (make : Term (List ℕ) → Term (List ℕ) → Term (List ℕ)) (op : List ℕ) → Multiplies make op → (a b : Term (List ℕ)) (w : List ℕ) → Other b w
-    → Other (make a b) (in_parens (is_sum a) (infix_term_text a) ++ (op ++ in_parens (is_compound b) w))
+in_multiplies_right : (make : Expression (List ℕ) → Expression (List ℕ) → Expression (List ℕ)) (op : List ℕ) → Multiplies make op
+    → (a b : Expression (List ℕ)) (w : List ℕ) → Other b w
+    → Other (make a b) (in_parens (is_sum a) (infix_expression_text a) ++ (op ++ in_parens (is_compound b) w))
 in_multiplies_right make op f a b w o =
-    let before = in_parens (is_sum a) (infix_term_text a) in
+    let before = in_parens (is_sum a) (infix_expression_text a) in
     let s = in_hung (make a) before op (f.no_sum a) (f.text a) b w o (is_compound b) refl in
     record {
-      term = s.0;
+      expression = s.0;
       same = s.1;
       shorter = subst (λ v. length (before ++ (op ++ in_parens (is_compound b) w)) < length v) (sym (f.text a b))
-          (right_shorter before op w (infix_term_text b) (is_compound b) o.shorter);
+          (right_shorter before op w (infix_expression_text b) (is_compound b) o.shorter);
       sum = never (make a b) s.0 (f.no_sum a b);
       compound = λ h. s.2 (f.is a);
     }
 
-bare : (t : Term (List ℕ)) (text : List ℕ) → BareTerm t text → Other t text
+bare : (t : Expression (List ℕ)) (text : List ℕ) → BareExpression t text → Other t text
 bare _ _ (sum_right a b e) = adds_right Sum _ sum_adds a b e
 bare _ _ (in_sum_left a b w d) = in_adds_left Sum _ sum_adds a b w (bare a w d)
 bare _ _ (in_sum_right a b w d) = in_adds_right Sum _ sum_adds a b w (bare b w d)
@@ -329,34 +353,35 @@ bare _ _ (remainder_right a b e) = multiplies_right Remainder _ remainder_multip
 bare _ _ (in_remainder_left a b w d) = in_multiplies_left Remainder _ remainder_multiplies a b w (bare a w d)
 bare _ _ (in_remainder_right a b w d) = in_multiplies_right Remainder _ remainder_multiplies a b w (bare b w d)
 bare _ _ (under_minus a e) = record {
-  term = hung (λ v. Negative v) a;
+  expression = hung (λ v. Negative v) a;
   same = hung_is (λ v. Negative v) [] (codes "-") (λ v. refl) (λ v. refl) a;
-  shorter = right_longer [] (codes "-") (infix_term_text a) (is_sum a || is_product a) e;
+  shorter = right_longer [] (codes "-") (infix_expression_text a) (is_sum a || is_product a) e;
   sum = λ h. absurd cc;
   compound = λ h. absurd cc;
 }
 bare _ _ (in_negative a w d) = let o = bare a w d in
     let s = in_hung (λ v. Negative v) [] (codes "-") (λ v. refl) (λ v. refl) a w o (is_compound a) refl in record {
-      term = s.0;
+      expression = s.0;
       same = s.1;
-      shorter = right_shorter [] (codes "-") w (infix_term_text a) (is_compound a) o.shorter;
+      shorter = right_shorter [] (codes "-") w (infix_expression_text a) (is_compound a) o.shorter;
       sum = λ h. absurd cc;
       compound = λ h. absurd cc;
     }
 bare _ _ (in_index x a w d) = let o = bare a w d in record {
-  term = Read x o.term;
+  expression = Read x o.expression;
   same = ap (λ (v : List ℕ). x ++ (codes "[" ++ (v ++ codes "]"))) o.same;
-  shorter = index_shorter x w (infix_term_text a) o.shorter;
+  shorter = index_shorter x w (infix_expression_text a) o.shorter;
   sum = λ h. absurd cc;
   compound = λ h. absurd cc;
 }
 
-pub bare_term : (t : Term (List ℕ)) (text : List ℕ) → BareTerm t text → IsTextOfAnother t text
-bare_term t text d =
+pub bare_expression : (t : Expression (List ℕ)) (text : List ℕ) → BareExpression t text → IsTextOfAnother t text
+bare_expression t text d =
     let o = bare t text d in (
-      o.term,
+      o.expression,
       o.same,
-      λ s. let same : length text ≡ length (infix_term_text t) = ap length (sym o.same) ∙ ap (λ (v : Term (List ℕ)). length (infix_term_text v)) s in
+      λ s. let same : length text ≡ length (infix_expression_text t) =
+          ap length (sym o.same) ∙ ap (λ (v : Expression (List ℕ)). length (infix_expression_text v)) s in
           omega (arith, o.shorter),
     )
 
@@ -566,16 +591,16 @@ bare_guard _ _ (in_or_right a b w d) = let o = bare_guard b w d in
       compound = λ h. or_joined s.0 s.2;
     }
 bare_guard _ _ (in_test_left r a b w d) = let o = bare a w d in record {
-  guard = Test (record { relation = r; left = o.term; right = b });
-  same = ap (λ (v : List ℕ). v ++ (relation_text r ++ infix_term_text b)) o.same;
-  shorter = front_shorter w (infix_term_text a) _ o.shorter;
+  guard = Test (record { relation = r; left = o.expression; right = b });
+  same = ap (λ (v : List ℕ). v ++ (relation_text r ++ infix_expression_text b)) o.same;
+  shorter = front_shorter w (infix_expression_text a) _ o.shorter;
   disjunction = λ h. absurd cc;
   compound = λ h. absurd cc;
 }
 bare_guard _ _ (in_test_right r a b w d) = let o = bare b w d in record {
-  guard = Test (record { relation = r; left = a; right = o.term });
-  same = ap (λ (v : List ℕ). infix_term_text a ++ (relation_text r ++ v)) o.same;
-  shorter = test_shorter (infix_term_text a) (relation_text r) w (infix_term_text b) o.shorter;
+  guard = Test (record { relation = r; left = a; right = o.expression });
+  same = ap (λ (v : List ℕ). infix_expression_text a ++ (relation_text r ++ v)) o.same;
+  shorter = test_shorter (infix_expression_text a) (relation_text r) w (infix_expression_text b) o.shorter;
   disjunction = λ h. absurd cc;
   compound = λ h. absurd cc;
 }

@@ -1,7 +1,7 @@
 -- Where a part ends without a token of its own, what follows reads alike.
 use Rattle.std.proofs.Common.{◌≡◌, ℕ, List, [], ◌∷◌, Some, Result, refl, sym, ◌∙◌}
 use Rattle.fs_model.specs.declared.parts.Rel.{Rel}
-use Rattle.fs_model.specs.Terms.{Term, Guard, Variable, Test}
+use Rattle.fs_model.specs.Expressions.{Expression, Guard, Variable, Test}
 use Rattle.fs_model.specs.Source.{Source}
 use Rattle.fs_grammar.specs.declared.fault.TextFault.{TextFault}
 use Rattle.fs_grammar.specs.declared.token.TokenKind.{TokenKind}
@@ -28,7 +28,7 @@ same_reads t a b f h e d = record { so = λ column n g. same_reading _ t a b (f.
 -- ---- parts that end without a token of their own
 
 -- a literal ends where its second sum does
-pub literal_ends : {line free : ℕ} {bytes : List ℕ} {v : Result Source TextFault} (t : TokenKind) (r : Rel) (l s : Term (List ℕ)) (k : UnitContext)
+pub literal_ends : {line free : ℕ} {bytes : List ℕ} {v : Result Source TextFault} (t : TokenKind) (r : Rel) (l s : Expression (List ℕ)) (k : UnitContext)
     → Follows bytes t → IsNoSum (Some t) → Reads line free bytes (literal_done r l s k) v → Reads line free bytes (after_sum s (right r l k)) v
 literal_ends t r l s k f h = same_reads t (after_sum s (right r l k)) (literal_done r l s k) f (λ n. literal_steps n t r l s k h)
     (sym (unit_stops (Test (record { relation = r; left = l; right = s })) k))
@@ -39,7 +39,8 @@ pub conjunction_ends : {line free : ℕ} {bytes : List ℕ} {v : Result Source T
 conjunction_ends t c k f h = same_reads t (after_conjunction c k) (conjunction_done c k) f (λ n. conjunction_steps n t c k h) (sym (conjunction_stops c k))
 
 -- a product ends where it does not go on
-pub product_ends : {line free : ℕ} {bytes : List ℕ} {v : Result Source TextFault} (t : TokenKind) (p : Term (List ℕ)) (k : ProductContext) → Follows bytes t
+pub product_ends : {line free : ℕ} {bytes : List ℕ} {v : Result Source TextFault} (t : TokenKind) (p : Expression (List ℕ)) (k : ProductContext)
+    → Follows bytes t
     → IsNoProduct (Some t) → Reads line free bytes (product_done p k) v → Reads line free bytes (after_product p k) v
 product_ends t p k f h = same_reads t (after_product p k) (product_done p k) f (λ n. product_steps n t p k h) (sym (product_stops p k))
 

@@ -2,23 +2,23 @@
 use Rattle.std.proofs.Common.{◌≡◌, ℕ, suc, ◌+◌, ◌≤◌, Bool, true, false, ◌||◌, List, [], ◌∷◌, ◌++◌, Some, Result, codes, refl, append-nil, append_assoc}
 use Rattle.std.proofs.Common.{zero-add, arith}
 use Rattle.std.proofs.lemmas.Bool.{and_parts, or_parts}
-use Rattle.fs_model.specs.Terms.{Literal, Guard, Test, Not, And, Or}
+use Rattle.fs_model.specs.Expressions.{Literal, Guard, Test, Not, And, Or}
 use Rattle.fs_model.specs.Source.{Source}
-use Rattle.fs_model.specs.WellFormed.{is_and, is_or, bracket, operators_of_term, operators_of_guard, is_natural_term, is_natural_guard}
+use Rattle.fs_model.specs.WellFormed.{is_and, is_or, bracket, operators_of_expression, operators_of_guard, is_natural_expression, is_natural_guard}
 use Rattle.fs_grammar.specs.declared.fault.TextFault.{TextFault}
 use Rattle.fs_grammar.specs.declared.token.TokenKind.{TokenKind}
 use Rattle.fs_grammar.specs.declared.token.TokenKind.TheVariants as tokens
 use Rattle.fs_grammar.specs.PartEnds.{IsNoSum, IsNoProduct, IsNoIndex, IsNoAnd}
 use Rattle.fs_grammar.specs.Grammar.{UnitContext, negates, first_of_all, and_after, ConjunctionContext, first_of_any, or_after, GuardContext, braces, left}
 use Rattle.fs_grammar.specs.Grammar.{right, at_unit, at_guard, at_sum, after_conjunction, after_guard, after_sum, unit_done}
-use Rattle.fs_write.specs.Canonical.{in_braces, relation_text, infix_term_text, guard_text}
-use Rattle.fs_write.specs.Spellable.{is_spellable_term, is_spellable_guard}
+use Rattle.fs_write.specs.Canonical.{in_braces, relation_text, infix_expression_text, guard_text}
+use Rattle.fs_write.specs.Spellable.{is_spellable_expression, is_spellable_guard}
 use Rattle.fs_write.proofs.Steps.{Reads, Follows, joined}
 use Rattle.fs_write.proofs.Ends.{unit_begins, literal_ends, conjunction_ends}
 use Rattle.fs_write.proofs.Words.{opens, opens_append}
 use Rattle.fs_write.proofs.Punctuation.{open_brace_lexeme, close_brace_lexeme, bang_lexeme, punctuation_reads, mark_reads, punctuation_follows, double_reads}
 use Rattle.fs_write.proofs.Punctuation.{relation_reads, relation_follows}
-use Rattle.fs_write.proofs.TermTexts.{TermReads, term_reads, term_opens}
+use Rattle.fs_write.proofs.ExpressionTexts.{ExpressionReads, expression_reads, expression_opens}
 
 -- a token with which no part of a literal goes on
 pub record EndsLiteral (u : TokenKind) : Type 0 where
@@ -101,22 +101,23 @@ conjunction_operand g a = as_conjunction g (is_or g) a (λ e. e)
 
 -- ---- what a guard is made of
 
-test_reads : (l : Literal (List ℕ)) → TermReads l.left → TermReads l.right → GuardReads (Test l)
+test_reads : (l : Literal (List ℕ)) → ExpressionReads l.left → ExpressionReads l.right → GuardReads (Test l)
 test_reads l x y = unit_guard (Test l) (record {
   reads = λ line remains free rest u k r h f e d.
-      let b = operators_of_term l.right in
+      let b = operators_of_expression l.right in
       let last : Reads line remains rest (after_sum l.right (right l.relation l.left k)) r = literal_ends u l.relation l.left l.right k f e.sum d in
-      let after : Reads line (b + remains) (infix_term_text l.right ++ rest) (at_sum (right l.relation l.left k)) r =
+      let after : Reads line (b + remains) (infix_expression_text l.right ++ rest) (at_sum (right l.relation l.left k)) r =
       y.sum.reads line remains (b + remains) rest u (at_sum (right l.relation l.left k))
       (right l.relation l.left k) r (omega arith) f e.index e.product (λ n v q. refl) last
       in
-      let crossed : Reads line (suc (b + remains)) (relation_text l.relation ++ (infix_term_text l.right ++ rest)) (after_sum l.left (left k)) r =
-      relation_reads l.relation (infix_term_text l.right ++ rest) (after_sum l.left (left k)) (at_sum (right l.relation l.left k)) refl (omega arith) after
+      let crossed : Reads line (suc (b + remains)) (relation_text l.relation ++ (infix_expression_text l.right ++ rest)) (after_sum l.left (left k)) r =
+      relation_reads l.relation (infix_expression_text l.right ++ rest) (after_sum l.left (left k)) (at_sum (right l.relation l.left k)) refl (omega arith)
+      after
       in
-      joined (infix_term_text l.left) (relation_text l.relation ++ infix_term_text l.right) rest
-      (rw (append_assoc (relation_text l.relation) (infix_term_text l.right) rest)
-      (x.sum.reads line (suc (b + remains)) free (relation_text l.relation ++ (infix_term_text l.right ++ rest)) (tokens.Relation l.relation) (at_unit k)
-      (left k) r (omega arith) (relation_follows l.relation (infix_term_text l.right ++ rest)) tt tt (unit_begins k) crossed));
+      joined (infix_expression_text l.left) (relation_text l.relation ++ infix_expression_text l.right) rest
+      (rw (append_assoc (relation_text l.relation) (infix_expression_text l.right) rest)
+      (x.sum.reads line (suc (b + remains)) free (relation_text l.relation ++ (infix_expression_text l.right ++ rest)) (tokens.Relation l.relation) (at_unit k)
+      (left k) r (omega arith) (relation_follows l.relation (infix_expression_text l.right ++ rest)) tt tt (unit_begins k) crossed));
 })
 
 not_reads : (g : Guard (List ℕ)) → GuardReads g → opens (in_braces (is_and g || is_or g) (guard_text g)) ≡ true → GuardReads (Not g)
@@ -170,9 +171,9 @@ braces_open true w h = refl
 braces_open false w h = opens_append w [] h
 
 guard_opens : (g : Guard (List ℕ)) → is_natural_guard g ≡ true → is_spellable_guard g ≡ true → opens (guard_text g) ≡ true
-guard_opens (Test l) h s = opens_append (infix_term_text l.left) _
-    (term_opens l.left (and_parts (is_natural_term l.left) (is_natural_term l.right) h).0
-    (and_parts (is_spellable_term l.left) (is_spellable_term l.right) s).0)
+guard_opens (Test l) h s = opens_append (infix_expression_text l.left) _
+    (expression_opens l.left (and_parts (is_natural_expression l.left) (is_natural_expression l.right) h).0
+    (and_parts (is_spellable_expression l.left) (is_spellable_expression l.right) s).0)
 guard_opens (Not g) h s = refl
 guard_opens (And a b) h s = opens_append (in_braces (is_or a) (guard_text a)) _
     (braces_open (is_or a) (guard_text a)
@@ -183,9 +184,9 @@ guard_opens (Or a b) h s = opens_append (guard_text a) _
 -- each guard's text reads as the guard
 pub guard_reads : (g : Guard (List ℕ)) → is_natural_guard g ≡ true → is_spellable_guard g ≡ true → GuardReads g
 guard_reads (Test l) h s =
-    let n = and_parts (is_natural_term l.left) (is_natural_term l.right) h in
-    let e = and_parts (is_spellable_term l.left) (is_spellable_term l.right) s in
-    test_reads l (term_reads l.left n.0 e.0) (term_reads l.right n.1 e.1)
+    let n = and_parts (is_natural_expression l.left) (is_natural_expression l.right) h in
+    let e = and_parts (is_spellable_expression l.left) (is_spellable_expression l.right) s in
+    test_reads l (expression_reads l.left n.0 e.0) (expression_reads l.right n.1 e.1)
 guard_reads (Not g) h s = not_reads g (guard_reads g h s) (braces_open (is_and g || is_or g) (guard_text g) (guard_opens g h s))
 guard_reads (And a b) h s = let n = and_parts (is_natural_guard a) (is_natural_guard b) h in
     let e = and_parts (is_spellable_guard a) (is_spellable_guard b) s in and_reads a b (guard_reads a n.0 e.0) (guard_reads b n.1 e.1)

@@ -7,7 +7,7 @@ pub mod Steps
 pub mod Ends
 pub mod Words
 pub mod Punctuation
-pub mod TermTexts
+pub mod ExpressionTexts
 pub mod GuardTexts
 pub mod LineTexts
 pub mod WholeTexts

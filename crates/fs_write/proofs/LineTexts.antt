@@ -4,10 +4,10 @@ use Rattle.std.proofs.Common.{subst, append-nil, append_assoc, add-zero, arith}
 use Rattle.std.specs.List.{flat_map, list_all, list_any}
 use Rattle.std.proofs.lemmas.Bool.{and_parts, leb-true}
 use Rattle.fs_model.specs.Words.{is_word_byte, is_name}
-use Rattle.fs_model.specs.Terms.{Term, Guard, Assignment, Assign, ArrayWrite, Emit}
+use Rattle.fs_model.specs.Expressions.{Expression, Guard, Assignment, Assign, ArrayWrite, Emit}
 use Rattle.fs_model.specs.Source.{SourceTransition, Source}
 use Rattle.fs_model.specs.Limits.{most_operators}
-use Rattle.fs_model.specs.WellFormed.{operators_of_term, operators_of_guard, is_natural_term, is_natural_guard, is_well_formed_condition}
+use Rattle.fs_model.specs.WellFormed.{operators_of_expression, operators_of_guard, is_natural_expression, is_natural_guard, is_well_formed_condition}
 use Rattle.fs_model.specs.WellFormed.{is_well_formed_assignment, is_well_formed_transition}
 use Rattle.fs_grammar.specs.declared.fault.TextFault.{TextFault}
 use Rattle.fs_grammar.specs.declared.format.Format.TheVariants.{Two}
@@ -20,15 +20,15 @@ use Rattle.fs_grammar.specs.Grammar.{at_equals, after_guard, after_sum, step}
 use Rattle.fs_grammar.specs.Grammar as grammar
 use Rattle.fs_grammar.proofs.Appending.{assignments_twice, transitions_twice}
 use Rattle.fs_write.specs.NeededFormats.{is_emit, emits_in_transition}
-use Rattle.fs_write.specs.Canonical.{infix_term_text, guard_text, assignment_text, after_comma, comma_list, assignments_text, when_text, line_text}
-use Rattle.fs_write.specs.Spellable.{is_spellable_term, is_spellable_assignment, is_spellable_condition, is_spellable_transition}
+use Rattle.fs_write.specs.Canonical.{infix_expression_text, guard_text, assignment_text, after_comma, comma_list, assignments_text, when_text, line_text}
+use Rattle.fs_write.specs.Spellable.{is_spellable_expression, is_spellable_assignment, is_spellable_condition, is_spellable_transition}
 use Rattle.fs_write.specs.NeededFormats.{is_emit, emits_in_transition}
 use Rattle.fs_write.specs.CanonicalLines.{lines_from}
 use Rattle.fs_write.proofs.Steps.{Reads, Follows, begins_no, joined, plain_room, border_room, space_reads, newline_reads}
 use Rattle.fs_write.proofs.Allowed.{Allows, allows_left, allows_right}
 use Rattle.fs_write.proofs.Words.{one_token, name_reads}
 use Rattle.fs_write.proofs.Punctuation.{open_bracket_lexeme, punctuation_reads, mark_reads}
-use Rattle.fs_write.proofs.TermTexts.{TermReads, term_reads}
+use Rattle.fs_write.proofs.ExpressionTexts.{ExpressionReads, expression_reads}
 use Rattle.fs_write.proofs.GuardTexts.{guard_reads}
 
 -- ---- assignments
@@ -50,28 +50,29 @@ semicolon_steps n o (Assign x e) = refl
 semicolon_steps n o (ArrayWrite x i e) = refl
 semicolon_steps n o (Emit x e) = refl
 
-assign_reads : {line_number : ℕ} {r : Result Source TextFault} (x : List ℕ) (e : Term (List ℕ)) (rest : List ℕ) (u : TokenKind) (o : OpenTransition)
-    → is_name x ≡ true → TermReads e → operators_of_term e ≤ 128 → Follows rest u → IsNoIndex (Some u) → IsNoProduct (Some u)
+assign_reads : {line_number : ℕ} {r : Result Source TextFault} (x : List ℕ) (e : Expression (List ℕ)) (rest : List ℕ) (u : TokenKind) (o : OpenTransition)
+    → is_name x ≡ true → ExpressionReads e → operators_of_expression e ≤ 128 → Follows rest u → IsNoIndex (Some u) → IsNoProduct (Some u)
     → Reads line_number 0 rest (valued o (Assign x e)) r → Reads line_number 128 (assignment_text (Assign x e) ++ rest) (at_assignment o) r
 assign_reads {line_number} {r} x e rest u o h t few f i p d =
-    let after : Reads line_number 128 (infix_term_text e ++ rest) (at_sum (value o (scalar x))) r =
+    let after : Reads line_number 128 (infix_expression_text e ++ rest) (at_sum (value o (scalar x))) r =
     t.sum.reads line_number 0 128 rest u (at_sum (value o (scalar x))) (value o (scalar x)) r (omega arith) f i p (λ n v q. refl) d in
-    let body = infix_term_text e ++ rest in
+    let body = infix_expression_text e ++ rest in
     let equals : Reads line_number 128 (codes " = " ++ body) (after_assignment_name o x) r =
     space_reads (61 ∷ 32 ∷ body)
     (mark_reads 61 (32 ∷ body) tokens.Equals (after_assignment_name o x) (at_sum (value o (scalar x))) refl refl refl refl refl refl (space_reads body after))
     in
-    joined x (codes " = " ++ infix_term_text e) rest (name_reads x (codes " = " ++ body) (at_assignment o) (after_assignment_name o x) h refl refl equals)
+    joined x (codes " = " ++ infix_expression_text e) rest (name_reads x (codes " = " ++ body) (at_assignment o) (after_assignment_name o x) h refl refl equals)
 
-write_reads : {line_number : ℕ} {r : Result Source TextFault} (x : List ℕ) (j e : Term (List ℕ)) (rest : List ℕ) (u : TokenKind) (o : OpenTransition)
-    → is_name x ≡ true → TermReads j → TermReads e → 1 + (operators_of_term j + operators_of_term e) ≤ 128 → Follows rest u → IsNoIndex (Some u)
+write_reads : {line_number : ℕ} {r : Result Source TextFault} (x : List ℕ) (j e : Expression (List ℕ)) (rest : List ℕ) (u : TokenKind) (o : OpenTransition)
+    → is_name x ≡ true → ExpressionReads j → ExpressionReads e → 1 + (operators_of_expression j + operators_of_expression e) ≤ 128 → Follows rest u
+    → IsNoIndex (Some u)
     → IsNoProduct (Some u)
     → Reads line_number 0 rest (valued o (ArrayWrite x j e)) r → Reads line_number 128 (assignment_text (ArrayWrite x j e) ++ rest) (at_assignment o) r
 write_reads {line_number} {r} x j e rest u o h s t few f i p d =
-    let operator_count = operators_of_term e in
-    let after : Reads line_number operator_count (infix_term_text e ++ rest) (at_sum (value o (element x j))) r =
+    let operator_count = operators_of_expression e in
+    let after : Reads line_number operator_count (infix_expression_text e ++ rest) (at_sum (value o (element x j))) r =
     t.sum.reads line_number 0 operator_count rest u (at_sum (value o (element x j))) (value o (element x j)) r (omega arith) f i p (λ n v q. refl) d in
-    let body = infix_term_text e ++ rest in
+    let body = infix_expression_text e ++ rest in
     let equals : Reads line_number operator_count (codes " = " ++ body) (at_equals o (element x j)) r =
     space_reads (61 ∷ 32 ∷ body)
     (mark_reads 61 (32 ∷ body) tokens.Equals (at_equals o (element x j)) (at_sum (value o (element x j))) refl refl refl refl refl refl
@@ -79,49 +80,51 @@ write_reads {line_number} {r} x j e rest u o h s t few f i p d =
     in
     let close : Reads line_number operator_count (codes "] = " ++ body) (after_sum j (write_index o x)) r =
     mark_reads 93 (codes " = " ++ body) tokens.CloseBracket (after_sum j (write_index o x)) (at_equals o (element x j)) refl refl refl refl refl refl equals in
-    let inside : Reads line_number (operators_of_term j + operator_count) (infix_term_text j ++ (codes "] = " ++ body)) (at_sum (write_index o x)) r =
-    s.sum.reads line_number operator_count (operators_of_term j + operator_count) (codes "] = " ++ body) tokens.CloseBracket (at_sum (write_index o x))
+    let inside : Reads line_number (operators_of_expression j + operator_count) (infix_expression_text j ++ (codes "] = " ++ body)) (at_sum (write_index o x)) r =
+    s.sum.reads line_number operator_count (operators_of_expression j + operator_count) (codes "] = " ++ body) tokens.CloseBracket (at_sum (write_index o x))
     (write_index o x) r (omega arith) (record { first = λ q n. refl; stops = refl }) tt tt (λ n v q. refl) close
     in
-    let tail = (infix_term_text j ++ (codes "] = " ++ infix_term_text e)) ++ rest in
+    let tail = (infix_expression_text j ++ (codes "] = " ++ infix_expression_text e)) ++ rest in
     let opened : Reads line_number 128 (91 ∷ tail) (after_assignment_name o x) r =
     punctuation_reads 91 tail tokens.OpenBracket (after_assignment_name o x) (at_sum (write_index o x))
-    (open_bracket_lexeme tail) refl refl refl refl refl (omega arith) (joined (infix_term_text j) (codes "] = " ++ infix_term_text e) rest inside)
+    (open_bracket_lexeme tail) refl refl refl refl refl (omega arith) (joined (infix_expression_text j) (codes "] = " ++ infix_expression_text e) rest inside)
     in
-    joined x (codes "[" ++ (infix_term_text j ++ (codes "] = " ++ infix_term_text e))) rest
+    joined x (codes "[" ++ (infix_expression_text j ++ (codes "] = " ++ infix_expression_text e))) rest
     (name_reads x (91 ∷ tail) (at_assignment o) (after_assignment_name o x) h refl refl opened)
 
-emit_reads : {line_number : ℕ} {r : Result Source TextFault} (x : List ℕ) (e : Term (List ℕ)) (rest : List ℕ) (u : TokenKind) (o : OpenTransition)
-    → o.state.format ≡ Two → is_name x ≡ true → TermReads e → operators_of_term e ≤ 128 → Follows rest u → IsNoIndex (Some u) → IsNoProduct (Some u)
+emit_reads : {line_number : ℕ} {r : Result Source TextFault} (x : List ℕ) (e : Expression (List ℕ)) (rest : List ℕ) (u : TokenKind) (o : OpenTransition)
+    → o.state.format ≡ Two → is_name x ≡ true → ExpressionReads e → operators_of_expression e ≤ 128 → Follows rest u → IsNoIndex (Some u) → IsNoProduct (Some u)
     → Reads line_number 0 rest (valued o (Emit x e)) r → Reads line_number 128 (assignment_text (Emit x e) ++ rest) (at_assignment o) r
 emit_reads {line_number} {r} x e rest u o two h t few f i p d =
-    let after : Reads line_number 128 (infix_term_text e ++ rest) (at_sum (value o (port x))) r =
+    let after : Reads line_number 128 (infix_expression_text e ++ rest) (at_sum (value o (port x))) r =
     t.sum.reads line_number 0 128 rest u (at_sum (value o (port x))) (value o (port x)) r (omega arith) f i p (λ n v q. refl) d in
-    let body = infix_term_text e ++ rest in
+    let body = infix_expression_text e ++ rest in
     let name : Reads line_number 128 (x ++ (32 ∷ body)) (at_port o) r =
     name_reads x (32 ∷ body) (at_port o) (at_sum (value o (port x))) h refl refl (space_reads body after) in
-    let tail = (x ++ (codes " " ++ infix_term_text e)) ++ rest in
+    let tail = (x ++ (codes " " ++ infix_expression_text e)) ++ rest in
     one_token 101 (codes "mit") (32 ∷ tail) tokens.Emit (at_assignment o) (at_port o) refl refl refl (plain_room tokens.Emit 128 refl refl) (rw two refl)
-    (space_reads tail (joined x (codes " " ++ infix_term_text e) rest name))
+    (space_reads tail (joined x (codes " " ++ infix_expression_text e) rest name))
 
 assignment_reads : {line_number : ℕ} {r : Result Source TextFault} (a : Assignment (List ℕ)) (rest : List ℕ) (u : TokenKind) (o : OpenTransition)
     → Allows o.state.format (is_emit a) → is_well_formed_assignment a ≡ true → is_spellable_assignment a ≡ true → Follows rest u → IsNoIndex (Some u)
     → IsNoProduct (Some u)
     → Reads line_number 0 rest (valued o a) r → Reads line_number 128 (assignment_text a ++ rest) (at_assignment o) r
 assignment_reads (Assign x e) rest u o k h l f i p d =
-    let n = and_parts (is_natural_term e) (nat_le (operators_of_term e) most_operators) h in
-    let w = and_parts (is_name x) (is_spellable_term e) l in
-    assign_reads x e rest u o w.0 (term_reads e n.0 w.1) (leb-true (operators_of_term e) 128 n.1) f i p d
+    let n = and_parts (is_natural_expression e) (nat_le (operators_of_expression e) most_operators) h in
+    let w = and_parts (is_name x) (is_spellable_expression e) l in
+    assign_reads x e rest u o w.0 (expression_reads e n.0 w.1) (leb-true (operators_of_expression e) 128 n.1) f i p d
 assignment_reads (ArrayWrite x j e) rest u o k h l f i p d =
-    let n = and_parts (is_natural_term j && is_natural_term e) (nat_le (1 + (operators_of_term j + operators_of_term e)) most_operators) h in
-    let m = and_parts (is_natural_term j) (is_natural_term e) n.0 in
-    let w = and_parts (is_name x) (is_spellable_term j && is_spellable_term e) l in
-    let v = and_parts (is_spellable_term j) (is_spellable_term e) w.1 in
-    write_reads x j e rest u o w.0 (term_reads j m.0 v.0) (term_reads e m.1 v.1) (leb-true (1 + (operators_of_term j + operators_of_term e)) 128 n.1) f i p d
+    let n = and_parts (is_natural_expression j && is_natural_expression e)
+    (nat_le (1 + (operators_of_expression j + operators_of_expression e)) most_operators) h in
+    let m = and_parts (is_natural_expression j) (is_natural_expression e) n.0 in
+    let w = and_parts (is_name x) (is_spellable_expression j && is_spellable_expression e) l in
+    let v = and_parts (is_spellable_expression j) (is_spellable_expression e) w.1 in
+    write_reads x j e rest u o w.0 (expression_reads j m.0 v.0) (expression_reads e m.1 v.1)
+    (leb-true (1 + (operators_of_expression j + operators_of_expression e)) 128 n.1) f i p d
 assignment_reads (Emit x e) rest u o k h l f i p d =
-    let n = and_parts (is_natural_term e) (nat_le (operators_of_term e) most_operators) h in
-    let w = and_parts (is_name x) (is_spellable_term e) l in
-    emit_reads x e rest u o (k refl) w.0 (term_reads e n.0 w.1) (leb-true (operators_of_term e) 128 n.1) f i p d
+    let n = and_parts (is_natural_expression e) (nat_le (operators_of_expression e) most_operators) h in
+    let w = and_parts (is_name x) (is_spellable_expression e) l in
+    emit_reads x e rest u o (k refl) w.0 (expression_reads e n.0 w.1) (leb-true (operators_of_expression e) 128 n.1) f i p d
 
 -- ---- the assignments of a transition
 
@@ -259,7 +262,8 @@ pub lines_read : {r : Result Source TextFault} (line_number : ℕ) (ls : List So
     → Reads (line_number + length ls) 0 rest (at_transition (with_transitions d (lines_from line_number ls))) r
     → Reads line_number 0 (flat_map line_text ls ++ rest) (at_transition d) r
 lines_read {r} line_number [] d rest k h s c =
-    let same : with_transitions d [] ≡ d = ap (λ (l : List SourceTransition). record d { state = record d.state { lines = l } }) (append-nil d.state.lines) in
+    let same : with_transitions d [] ≡ d =
+    ap (λ (l : List SourceTransition). record d { state = record d.state { transitions = l } }) (append-nil d.state.transitions) in
     subst (λ (q : OpenState). Reads line_number 0 rest (at_transition q) r) same (rw add-zero at c)
 lines_read {r} line_number (l ∷ ls) d rest k h s c =
     let n = and_parts (is_well_formed_transition l) (list_all is_well_formed_transition ls) h in

@@ -3,7 +3,7 @@ use Rattle.std.proofs.Common.{ℕ, ◌+◌, List, [], ◌∷◌, ◌++◌, map, 
 use Rattle.std.proofs.lemmas.List.{map-append}
 use Rattle.fs_model.specs.declared.parts.Role.{Role}
 use Rattle.fs_model.specs.declared.parts.Sort.{Sort}
-use Rattle.fs_model.specs.Terms.{Term, Read, Sum, Difference, Product, Quotient, Remainder, Guard, Test, And, Or, Assignment}
+use Rattle.fs_model.specs.Expressions.{Expression, Read, Sum, Difference, Product, Quotient, Remainder, Guard, Test, And, Or, Assignment}
 use Rattle.fs_model.specs.Source.{Declaration, SourceTransition, SourceState, Source}
 use Rattle.fs_grammar.specs.declared.format.Format.{Format}
 use Rattle.fs_grammar.specs.declared.token.TokenKind.TheVariants.{Fsmd, Number, Reset, Goto, When, Name, Semicolon, Comma, Equals, OpenParen, CloseParen}
@@ -33,7 +33,7 @@ joined P n a b h = subst P (sym (map-append (word_moved n) a b)) h
 -- ---- sums
 
 mutual
-  factor_moves : (n : ℕ) (f : Term (List ℕ)) (a : List Word) → IsFactor f a → IsFactor f (words_moved n a)
+  factor_moves : (n : ℕ) (f : Expression (List ℕ)) (a : List Word) → IsFactor f a → IsFactor f (words_moved n a)
   factor_moves n _ _ (number i v) = number (n + i) v
   factor_moves n _ _ (variable i x) = variable (n + i) x
   factor_moves n _ _ (read i j k x {s} {a} d) =
@@ -43,7 +43,7 @@ mutual
   factor_moves n _ _ (group i j {s} {a} d) = joined (λ ws. IsFactor s (at (n + i) OpenParen ∷ ws)) n a (at j CloseParen ∷ [])
       (group (n + i) (n + j) (sum_moves n s a d))
 
-  product_moves : (n : ℕ) (p : Term (List ℕ)) (a : List Word) → IsProduct p a → IsProduct p (words_moved n a)
+  product_moves : (n : ℕ) (p : Expression (List ℕ)) (a : List Word) → IsProduct p a → IsProduct p (words_moved n a)
   product_moves n _ _ (factor {f} {a} d) = factor (factor_moves n f a d)
   product_moves n _ _ (times i {p} {f} {a} {b} d e) = joined (IsProduct (Product p f)) n a (at i Star ∷ b)
       (times (n + i) (product_moves n p a d) (factor_moves n f b e))
@@ -52,7 +52,7 @@ mutual
   product_moves n _ _ (remainder_of i {p} {f} {a} {b} d e) = joined (IsProduct (Remainder p f)) n a (at i Percent ∷ b)
       (remainder_of (n + i) (product_moves n p a d) (factor_moves n f b e))
 
-  sum_moves : (n : ℕ) (s : Term (List ℕ)) (a : List Word) → IsSum s a → IsSum s (words_moved n a)
+  sum_moves : (n : ℕ) (s : Expression (List ℕ)) (a : List Word) → IsSum s a → IsSum s (words_moved n a)
   sum_moves n _ _ (product {p} {a} d) = product (product_moves n p a d)
   sum_moves n _ _ (plus i {s} {p} {a} {b} d e) = joined (IsSum (Sum s p)) n a (at i Plus ∷ b) (plus (n + i) (sum_moves n s a d) (product_moves n p b e))
   sum_moves n _ _ (minus i {s} {p} {a} {b} d e) = joined (IsSum (Difference s p)) n a (at i Minus ∷ b)

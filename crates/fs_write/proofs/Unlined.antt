@@ -8,7 +8,7 @@ use Rattle.std.proofs.lemmas.Option.{slice_get-map}
 use Rattle.fs_model.proofs.Lists.{length_map, map_map}
 use Rattle.fs_model.specs.declared.parts.VarInfo.{VarInfo}
 use Rattle.fs_model.specs.Limits.{most_variables, most_states, most_branches, most_emits}
-use Rattle.fs_model.specs.Terms.{Transition}
+use Rattle.fs_model.specs.Expressions.{Transition}
 use Rattle.fs_model.specs.Source.{Declaration, SourceTransition, SourceState, Source}
 use Rattle.fs_model.specs.Machines.{State, Fsmd}
 use Rattle.fs_model.specs.Trees.{tree_of_transitions, count_leaves}
@@ -17,7 +17,7 @@ use Rattle.fs_rules.specs.declared.check.CheckRule.TheVariants.{TwiceNamed, Unkn
 use Rattle.fs_rules.specs.declared.check.CheckRule.TheVariants.{TooManyBranches, UnknownState, TooMany, TooManyEmits}
 use Rattle.fs_rules.specs.declared.check.CheckFault.{CheckFault}
 use Rattle.fs_rules.specs.MachineOfParts.{place_or_end, declared_by, variables_of, names_of, state_names, transition_spelled, state_spelled, machine_of}
-use Rattle.fs_rules.specs.SoundParts.{all_differ, assigned_in, emit_count}
+use Rattle.fs_model.specs.SoundMachines.{all_differ, assigned_in, emit_count}
 use Rattle.fs_rules.specs.Rules.{at_lines, broken_where, declared_names, declared_states, repeated_lines, line_past_limit, uses_unknown, uses_wrong_sort}
 use Rattle.fs_rules.specs.Rules.{changes_input}
 use Rattle.fs_rules.specs.Rules.{transition_faults, lacks_else, after_else, transitions_faults, state_faults, plain_faults, branches_too_often, branch_faults}
@@ -41,7 +41,8 @@ lines_stay vs ns ls = map_map (transition_spelled vs ns) transition_at_line_0 ls
 
 states_stay : (vs ns : List (List ℕ)) (ss : List SourceState) → map (state_spelled vs ns) (map state_at_line_0 ss) ≡ map (state_spelled vs ns) ss
 states_stay vs ns [] = refl
-states_stay vs ns (s ∷ ss) = ap₂ (λ (ls : List (Transition ℕ ℕ)) (rest : List State). record { name = s.name; lines = ls } ∷ rest) (lines_stay vs ns s.lines)
+states_stay vs ns (s ∷ ss) = ap₂ (λ (ls : List (Transition ℕ ℕ)) (rest : List State). record { name = s.name; transitions = ls } ∷ rest)
+    (lines_stay vs ns s.transitions)
     (states_stay vs ns ss)
 
 -- the machine of these variables and names of states
@@ -164,10 +165,11 @@ transitions_unlined vs ns ls =
 
 state_unlined : (vs : List VarInfo) (ns : List (List ℕ)) (s : SourceState) → state_faults vs ns (state_at_line_0 s) ≡ unlined (state_faults vs ns s)
 state_unlined vs ns s =
-    both_unlined _ _ _ _ (same_unlined (lacks_else (map transition_at_line_0 s.lines)) (lacks_else s.lines) NoElse s.line (lacks_unlined s.lines))
+    both_unlined _ _ _ _ (same_unlined (lacks_else (map transition_at_line_0 s.transitions)) (lacks_else s.transitions) NoElse s.line
+    (lacks_unlined s.transitions))
     (both_unlined _ _ _ _
-    (listed_unlined AfterElse (after_else false (map transition_at_line_0 s.lines)) (after_else false s.lines) (after_unlined false s.lines))
-    (transitions_unlined vs ns s.lines))
+    (listed_unlined AfterElse (after_else false (map transition_at_line_0 s.transitions)) (after_else false s.transitions) (after_unlined false s.transitions))
+    (transitions_unlined vs ns s.transitions))
 
 states_unlined : (vs : List VarInfo) (ns : List (List ℕ)) (ss : List SourceState)
     → flat_map (state_faults vs ns) (map state_at_line_0 ss) ≡ unlined (flat_map (state_faults vs ns) ss)
@@ -215,7 +217,7 @@ branch_fault vs ns s = broken_where (branches_too_often vs ns s) TooManyBranches
 branch_unlined : (vs ns : List (List ℕ)) (s : SourceState) → branch_fault vs ns (state_at_line_0 s) ≡ unlined (branch_fault vs ns s)
 branch_unlined vs ns s =
     same_unlined (branches_too_often vs ns (state_at_line_0 s)) (branches_too_often vs ns s) TooManyBranches s.line
-    (ap (λ (ls : List (Transition ℕ ℕ)). nat_lt most_branches (count_leaves (tree_of_transitions ls))) (lines_stay vs ns s.lines))
+    (ap (λ (ls : List (Transition ℕ ℕ)). nat_lt most_branches (count_leaves (tree_of_transitions ls))) (lines_stay vs ns s.transitions))
 
 branches_unlined : (s : Source) → branch_faults (without_lines s) ≡ unlined (branch_faults s)
 branches_unlined s =
@@ -258,8 +260,8 @@ transitions_same n ls = map_map transition_at_line_0 (transition_moved n) ls
 
 states_same : (n : ℕ) (ss : List SourceState) → map state_at_line_0 (map (state_moved n) ss) ≡ map state_at_line_0 ss
 states_same n [] = refl
-states_same n (s ∷ ss) = ap₂ (λ (ls : List SourceTransition) (rest : List SourceState). record { line = 0; name = s.name; lines = ls } ∷ rest)
-    (transitions_same n s.lines) (states_same n ss)
+states_same n (s ∷ ss) = ap₂ (λ (ls : List SourceTransition) (rest : List SourceState). record { line = 0; name = s.name; transitions = ls } ∷ rest)
+    (transitions_same n s.transitions) (states_same n ss)
 
 pub moved_same : (n : ℕ) (s : Source) → without_lines (lines_moved n s) ≡ without_lines s
 moved_same n s =

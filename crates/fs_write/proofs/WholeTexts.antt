@@ -49,25 +49,26 @@ states_read line_number f [] s p k a g e h w =
     let same : p ≡ with_states p [] = ap (λ (l : List SourceState). record p { states = l }) (sym (append-nil p.states)) in
     subst (λ (q : Source). Reads line_number 0 [] s (Ok q)) same (end_reads s p (g line_number) e)
 states_read line_number f (t ∷ ss) s p k a g e h w =
-    let n = and_parts (list_all is_well_formed_transition t.lines) (list_all is_well_formed_state ss) h in
+    let n = and_parts (list_all is_well_formed_transition t.transitions) (list_all is_well_formed_state ss) h in
     let v = and_parts (is_spellable_state t) (list_all is_spellable_state ss) w in
-    let u = and_parts (is_name t.name) (list_all is_spellable_transition t.lines) v.0 in
+    let u = and_parts (is_name t.name) (list_all is_spellable_transition t.transitions) v.0 in
     let rest = flat_map state_text ss in
-    let d : OpenState = record { format = f; source = p; state = record { line = line_number; name = t.name; lines = [] } } in
-    let c : OpenState = with_transitions d (lines_from (line_number + 1) t.lines) in
+    let d : OpenState = record { format = f; source = p; state = record { line = line_number; name = t.name; transitions = [] } } in
+    let c : OpenState = with_transitions d (lines_from (line_number + 1) t.transitions) in
     let one : List SourceState = c.state ∷ [] in
-    let after : Reads (line_number + 1 + length t.lines) 0 rest (at_transition c)
-    (Ok (with_states (with_open_state c) (states_from (line_number + 1 + length t.lines) ss))) =
-    states_read (line_number + 1 + length t.lines) f ss (at_transition c) (with_open_state c) (allows_right f (emits_in_state t) (list_any emits_in_state ss) k)
+    let after : Reads (line_number + 1 + length t.transitions) 0 rest (at_transition c)
+    (Ok (with_states (with_open_state c) (states_from (line_number + 1 + length t.transitions) ss))) =
+    states_read (line_number + 1 + length t.transitions) f ss (at_transition c) (with_open_state c)
+    (allows_right f (emits_in_state t) (list_any emits_in_state ss) k)
     (λ m. refl) (λ m. refl) refl n.1 v.1
     in
-    let whole : Reads (line_number + 1 + length t.lines) 0 rest (at_transition c) (Ok (with_states p (states_from line_number (t ∷ ss)))) =
-    subst (λ (q : Source). Reads (line_number + 1 + length t.lines) 0 rest (at_transition c) (Ok q))
-    (with_states_two p one (states_from (line_number + 1 + length t.lines) ss)) after
+    let whole : Reads (line_number + 1 + length t.transitions) 0 rest (at_transition c) (Ok (with_states p (states_from line_number (t ∷ ss)))) =
+    subst (λ (q : Source). Reads (line_number + 1 + length t.transitions) 0 rest (at_transition c) (Ok q))
+    (with_states_two p one (states_from (line_number + 1 + length t.transitions) ss)) after
     in
-    let lines : Reads (line_number + 1) 0 (flat_map line_text t.lines ++ rest) (at_transition d) (Ok (with_states p (states_from line_number (t ∷ ss)))) =
-    lines_read (line_number + 1) t.lines d rest (allows_left f (emits_in_state t) (list_any emits_in_state ss) k) n.0 u.1 whole in
-    let body = flat_map line_text t.lines ++ rest in
+    let lines : Reads (line_number + 1) 0 (flat_map line_text t.transitions ++ rest) (at_transition d) (Ok (with_states p (states_from line_number (t ∷ ss)))) =
+    lines_read (line_number + 1) t.transitions d rest (allows_left f (emits_in_state t) (list_any emits_in_state ss) k) n.0 u.1 whole in
+    let body = flat_map line_text t.transitions ++ rest in
     let colon : Reads line_number 0 (58 ∷ 10 ∷ body) (after_state_name d) (Ok (with_states p (states_from line_number (t ∷ ss)))) =
     one_token 58 [] (10 ∷ body) tokens.Colon (after_state_name d) (at_transition d) refl refl refl (border_room tokens.Colon 0 refl refl) refl
     (newline_reads body (weaker body 0 128 (omega arith) lines))

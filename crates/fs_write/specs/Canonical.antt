@@ -8,8 +8,9 @@ use Rattle.fs_model.specs.declared.parts.Role.{Role}
 use Rattle.fs_model.specs.declared.parts.Role.TheVariants.{Input, Output, Local}
 use Rattle.fs_model.specs.declared.parts.Sort.{Sort}
 use Rattle.fs_model.specs.declared.parts.Sort.TheVariants as sorts
-use Rattle.fs_model.specs.Terms.{Term, Number, Variable, Read, Sum, Difference, Product, Quotient, Remainder, Negative, Guard}
-use Rattle.fs_model.specs.Terms.{Test, Not, And, Or, Assignment, Assign, ArrayWrite, Emit}
+use Rattle.fs_model.specs.Expressions.{Expression, Number, Variable, Read, Sum, Difference, Product, Quotient, Remainder}
+use Rattle.fs_model.specs.Expressions.{Negative, Guard}
+use Rattle.fs_model.specs.Expressions.{Test, Not, And, Or, Assignment, Assign, ArrayWrite, Emit}
 use Rattle.fs_model.specs.Source.{Declaration, SourceTransition, SourceState, Source}
 use Rattle.fs_model.specs.WellFormed.{is_sum, is_product, is_and, is_or}
 use Rattle.fs_grammar.specs.declared.format.Format.{Format}
@@ -29,7 +30,7 @@ abbrev pub in_braces : Bool → List ℕ → List ℕ
 in_braces needed text = bracket_text needed (codes "{") ++ (text ++ bracket_text needed (codes "}"))
 
 -- an operator between two operands
-abbrev pub operator_text : Term (List ℕ) → List ℕ
+abbrev pub operator_text : Expression (List ℕ) → List ℕ
 operator_text (Sum a b) = codes " + "
 operator_text (Difference a b) = codes " - "
 operator_text (Product a b) = codes " * "
@@ -37,20 +38,20 @@ operator_text (Quotient a b) = codes " / "
 operator_text (Remainder a b) = codes " % "
 operator_text _ = []
 
--- a term, with a space on each side of an operator between two operands
-abbrev pub infix_term_text : Term (List ℕ) → List ℕ
-infix_term_text (Number n) = signed_decimal n
-infix_term_text (Variable x) = x
-infix_term_text (Read x i) = x ++ (codes "[" ++ (infix_term_text i ++ codes "]"))
-infix_term_text (Sum a b) = infix_term_text a ++ (codes " + " ++ in_parens (is_sum b) (infix_term_text b))
-infix_term_text (Difference a b) = infix_term_text a ++ (codes " - " ++ in_parens (is_sum b) (infix_term_text b))
-infix_term_text (Product a b) = in_parens (is_sum a) (infix_term_text a)
-    ++ (codes " * " ++ in_parens (is_sum b || is_product b) (infix_term_text b))
-infix_term_text (Quotient a b) = in_parens (is_sum a) (infix_term_text a)
-    ++ (codes " / " ++ in_parens (is_sum b || is_product b) (infix_term_text b))
-infix_term_text (Remainder a b) = in_parens (is_sum a) (infix_term_text a)
-    ++ (codes " % " ++ in_parens (is_sum b || is_product b) (infix_term_text b))
-infix_term_text (Negative a) = codes "-" ++ in_parens (is_sum a || is_product a) (infix_term_text a)
+-- an expression, with a space on each side of an operator between two operands
+abbrev pub infix_expression_text : Expression (List ℕ) → List ℕ
+infix_expression_text (Number n) = signed_decimal n
+infix_expression_text (Variable x) = x
+infix_expression_text (Read x i) = x ++ (codes "[" ++ (infix_expression_text i ++ codes "]"))
+infix_expression_text (Sum a b) = infix_expression_text a ++ (codes " + " ++ in_parens (is_sum b) (infix_expression_text b))
+infix_expression_text (Difference a b) = infix_expression_text a ++ (codes " - " ++ in_parens (is_sum b) (infix_expression_text b))
+infix_expression_text (Product a b) = in_parens (is_sum a) (infix_expression_text a)
+    ++ (codes " * " ++ in_parens (is_sum b || is_product b) (infix_expression_text b))
+infix_expression_text (Quotient a b) = in_parens (is_sum a) (infix_expression_text a)
+    ++ (codes " / " ++ in_parens (is_sum b || is_product b) (infix_expression_text b))
+infix_expression_text (Remainder a b) = in_parens (is_sum a) (infix_expression_text a)
+    ++ (codes " % " ++ in_parens (is_sum b || is_product b) (infix_expression_text b))
+infix_expression_text (Negative a) = codes "-" ++ in_parens (is_sum a || is_product a) (infix_expression_text a)
 
 -- a relation, with a space on each side
 abbrev pub relation_text : Rel → List ℕ
@@ -63,16 +64,16 @@ relation_text Ge = codes " >= "
 
 -- a guard
 abbrev pub guard_text : Guard (List ℕ) → List ℕ
-guard_text (Test l) = infix_term_text l.left ++ (relation_text l.relation ++ infix_term_text l.right)
+guard_text (Test l) = infix_expression_text l.left ++ (relation_text l.relation ++ infix_expression_text l.right)
 guard_text (Not g) = codes "!" ++ in_braces (is_and g || is_or g) (guard_text g)
 guard_text (And a b) = in_braces (is_or a) (guard_text a) ++ (codes " && " ++ in_braces (is_and b || is_or b) (guard_text b))
 guard_text (Or a b) = guard_text a ++ (codes " || " ++ in_braces (is_or b) (guard_text b))
 
 -- an assignment to a scalar, or to an array at an index, or an emit to a port
 abbrev pub assignment_text : Assignment (List ℕ) → List ℕ
-assignment_text (Assign x e) = x ++ (codes " = " ++ infix_term_text e)
-assignment_text (ArrayWrite x i e) = x ++ (codes "[" ++ (infix_term_text i ++ (codes "] = " ++ infix_term_text e)))
-assignment_text (Emit x e) = codes "emit " ++ (x ++ (codes " " ++ infix_term_text e))
+assignment_text (Assign x e) = x ++ (codes " = " ++ infix_expression_text e)
+assignment_text (ArrayWrite x i e) = x ++ (codes "[" ++ (infix_expression_text i ++ (codes "] = " ++ infix_expression_text e)))
+assignment_text (Emit x e) = codes "emit " ++ (x ++ (codes " " ++ infix_expression_text e))
 
 -- a text that is not the first of a list
 abbrev pub after_comma : List ℕ → List ℕ
@@ -101,7 +102,7 @@ line_text l = codes "  "
 
 -- a state's name on a line of its own, and its transitions
 abbrev pub state_text : SourceState → List ℕ
-state_text s = codes "state " ++ (s.name ++ (codes ":\n" ++ flat_map line_text s.lines))
+state_text s = codes "state " ++ (s.name ++ (codes ":\n" ++ flat_map line_text s.transitions))
 
 -- the word of a role
 abbrev pub role_text : Role → List ℕ

@@ -15,8 +15,8 @@ lines_from n (l ∷ ls) = record { line = n; content = l.content } ∷ lines_fro
 -- states from line n on, each with its transitions on the lines after it
 abbrev pub states_from : ℕ → List SourceState → List SourceState
 states_from n [] = []
-states_from n (s ∷ ss) = record { line = n; name = s.name; lines = lines_from (n + 1) s.lines }
-    ∷ states_from (n + 1 + length s.lines) ss
+states_from n (s ∷ ss) = record { line = n; name = s.name; transitions = lines_from (n + 1) s.transitions }
+    ∷ states_from (n + 1 + length s.transitions) ss
 
 -- line 1 is the head; the declarations, the reset state and the states come after it
 abbrev pub with_canonical_lines : Source → Source
@@ -34,7 +34,7 @@ abbrev pub transition_at_line_0 : SourceTransition → SourceTransition
 transition_at_line_0 l = record { line = 0; content = l.content }
 
 abbrev pub state_at_line_0 : SourceState → SourceState
-state_at_line_0 s = record { line = 0; name = s.name; lines = map transition_at_line_0 s.lines }
+state_at_line_0 s = record { line = 0; name = s.name; transitions = map transition_at_line_0 s.transitions }
 
 -- parts with every line set to 0: two parts that agree here are the same but for lines
 abbrev pub without_lines : Source → Source

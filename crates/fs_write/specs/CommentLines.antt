@@ -14,7 +14,7 @@ transition_moved n l = record { line = n + l.line; content = l.content }
 
 -- a state and its transitions, n lines further down
 abbrev pub state_moved : ℕ → SourceState → SourceState
-state_moved n s = record { line = n + s.line; name = s.name; lines = map (transition_moved n) s.lines }
+state_moved n s = record { line = n + s.line; name = s.name; transitions = map (transition_moved n) s.transitions }
 
 -- parts, each n lines further down
 abbrev pub lines_moved : ℕ → Source → Source

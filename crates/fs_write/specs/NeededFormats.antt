@@ -1,7 +1,7 @@
 -- The format that parts need.
 use Rattle.std.specs.Prelude.{ℕ, Bool, true, false, ◌||◌, cond, List}
 use Rattle.std.specs.List.{list_any}
-use Rattle.fs_model.specs.Terms.{Assignment, Assign, ArrayWrite, Emit}
+use Rattle.fs_model.specs.Expressions.{Assignment, Assign, ArrayWrite, Emit}
 use Rattle.fs_model.specs.Source.{Declaration, SourceTransition, SourceState, Source}
 use Rattle.fs_model.specs.Runs.{is_port}
 use Rattle.fs_grammar.specs.declared.format.Format.{Format}
@@ -22,7 +22,7 @@ emits_in_transition l = list_any is_emit l.content.assignments
 
 -- a state with such a transition
 abbrev pub emits_in_state : SourceState → Bool
-emits_in_state s = list_any emits_in_transition s.lines
+emits_in_state s = list_any emits_in_transition s.transitions
 
 -- parts with a declaration of ports or an emit
 abbrev pub has_ports : Source → Bool

@@ -5,7 +5,7 @@ ghost use Rattle.fs_model.specs.View.{named_guard};
 ghost use Rattle.fs_write.specs.Canonical.{relation_text, guard_text, when_text};
 ghost use Rattle.fs_write.specs.Spellable.{is_spellable_guard, is_spellable_condition};
 
-use crate::terms::{bracket, write_expr, write_three, write_two};
+use crate::expressions::{bracket, write_expr, write_three, write_two};
 use fs_model::parts::{Guard, Rel};
 use fs_model::well_formed::{is_and, is_or};
 use std::alloc::AllocError;

@@ -1,13 +1,13 @@
 //! Laws of the canonical text, as contracts of functions that do nothing.
 
 ghost use Rattle.std.specs.Prelude.{◌≡◌, ℕ, List, IsTrue, Ok};
-ghost use Rattle.fs_model.specs.Terms.{Term, Guard};
+ghost use Rattle.fs_model.specs.Expressions.{Expression, Guard};
 ghost use Rattle.fs_model.specs.Source.{Source};
 ghost use Rattle.fs_model.specs.WellFormed.{is_well_formed};
 ghost use Rattle.fs_grammar.specs.Grammar.{at_start, reading};
 ghost use Rattle.fs_lex.specs.Scan.{tokens_of};
 ghost use Rattle.fs_write.specs.Canonical.{canonical};
-ghost use Rattle.fs_write.specs.Bare.{BareTerm, BareGuard, IsTextOfAnother, IsTextOfAnotherGuard};
+ghost use Rattle.fs_write.specs.Bare.{BareExpression, BareGuard, IsTextOfAnother, IsTextOfAnotherGuard};
 ghost use Rattle.fs_write.specs.Spellable.{is_spellable};
 ghost use Rattle.fs_write.specs.CanonicalLines.{with_canonical_lines, without_lines};
 
@@ -37,8 +37,8 @@ pub fn writing_again_changes_nothing()
 {}
 
 /// No brackets that are written round an operand can be left out, however deep it stands: without
-/// them the text is that of another term or guard.
+/// them the text is that of another expression or guard.
 pub fn no_bracket_can_be_left_out()
-    ensures terms { (t : Term (List ℕ)) (text : List ℕ) → BareTerm t text → IsTextOfAnother t text }
+    ensures expressions { (t : Expression (List ℕ)) (text : List ℕ) → BareExpression t text → IsTextOfAnother t text }
     ensures guards { (g : Guard (List ℕ)) (text : List ℕ) → BareGuard g text → IsTextOfAnotherGuard g text }
 {}

@@ -22,12 +22,12 @@ ghost use Rattle.fs_lex.specs.Scan.{tokens_of};
 ghost use Rattle.fs_write.specs.Canonical.{canonical};
 ghost use Rattle.fs_write.specs.CanonicalLines.{with_canonical_lines};
 
+mod expressions;
 mod formats;
 mod guards;
 pub mod laws;
 pub mod reading_laws;
 mod states;
-mod terms;
 
 use fs_model::parts::Parts;
 use std::alloc::Global;

@@ -9,9 +9,9 @@ ghost use Rattle.fs_write.specs.Canonical.{role_text, declaration_words, declara
 ghost use Rattle.fs_write.specs.Spellable.{is_spellable_assignment, is_spellable_transition, is_spellable_state};
 ghost use Rattle.fs_write.specs.Spellable.{is_spellable_declaration, is_spellable};
 
+use crate::expressions::{write_expr, write_three, write_two};
 use crate::formats::format_for;
 use crate::guards::write_condition;
-use crate::terms::{write_expr, write_three, write_two};
 use fs_grammar::format::Format;
 use fs_model::name::Name;
 use fs_model::parts::{Assign, Decl, Parts, RawLine, RawState, Role, Sort};

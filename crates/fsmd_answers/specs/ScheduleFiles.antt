@@ -9,7 +9,7 @@ use Rattle.hls_unit_counts.specs.declared.faults.Fault.{Fault}
 use Rattle.hls_unit_counts.specs.declared.faults.Fault.TheVariants as faults
 use Rattle.hls_unit_counts.specs.Counts.{Units}
 use Rattle.hls_unit_counts.specs.Refusals.{SpellsCounts, HasFaultyCount}
-use Rattle.hls_line_filling.specs.Over.{over_in}
+use Rattle.hls_block_filling.specs.Over.{over_in}
 use Rattle.fsmd_synthesis_answers.specs.ScheduleAnswers.{IsScheduleText}
 use Rattle.fsmd_replies.specs.declared.answer.Operand.{Operand}
 use Rattle.fsmd_replies.specs.AskedFiles.{operand}

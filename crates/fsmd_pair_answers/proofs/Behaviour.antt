@@ -1,6 +1,6 @@
 -- Counterexamples: machines with the same behaviour have none, and others at most one.
 use Rattle.std.proofs.Common.{◌≡◌, ℕ, ◌<◌, List, sym, ◌∙◌, ap, subst, arith}
-use Rattle.fs_ast.specs.SoundParts.{IsSound}
+use Rattle.fs_model.specs.SoundMachines.{IsSound}
 use Rattle.fs_model.specs.Machines.{Fsmd}
 use Rattle.fs_model.specs.Runs.{Inputs, Content, SameBehaviour, start, output}
 use Rattle.fs_model.proofs.Determined.{goes_once}

@@ -5,4 +5,3 @@ pub mod Named
 pub mod Once
 pub mod Ranks
 mod Shown
-pub use Rattle.search_laws.proofs.Interfaces

@@ -3,5 +3,3 @@ pub mod PairAnswerLaws
 pub mod Verdicts
 pub use Rattle.search_laws.specs.Certificates
 pub use Rattle.search_laws.specs.SearchOutcomes
-pub use Rattle.cert_bisimulation.specs.Alike
-pub use Rattle.fsmd_replies.specs.ObstacleTexts

@@ -1,6 +1,6 @@
 -- What holds of answers.
 use Rattle.std.specs.Prelude.{◌≡◌, ◌⊎◌, ℕ, ◌-◌, true, false, List, Option, Some, None, length, map, slice_get}
-use Rattle.fs_ast.specs.SoundParts.{IsSound}
+use Rattle.fs_model.specs.SoundMachines.{IsSound}
 use Rattle.fs_model.specs.declared.parts.VarInfo.{VarInfo}
 use Rattle.fs_model.specs.Machines.{Fsmd}
 use Rattle.fs_model.specs.Runs.{SameBehaviour, is_output}

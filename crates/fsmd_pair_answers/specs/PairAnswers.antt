@@ -1,6 +1,6 @@
 -- Which answer two machines get.
 use Rattle.std.specs.Prelude.{◌≡◌, ◌⊎◌, ◌<◌, ℕ, Bool, true, false, IsTrue, List, map}
-use Rattle.fs_ast.specs.SoundParts.{IsSound}
+use Rattle.fs_model.specs.SoundMachines.{IsSound}
 use Rattle.fs_model.specs.Machines.{Fsmd}
 use Rattle.fs_runs.specs.Outcomes.{output_names}
 use Rattle.fs_run_text.specs.ItemTexts.{input_names}

@@ -6,7 +6,7 @@ ghost use Rattle.fsmd_replies.specs.ScheduleTexts.{report_line};
 
 use std::alloc::{AllocError, Global};
 
-// What is told of a straight line behind the name of its first state.
+// What is told of a basic block behind the name of its first state.
 fn lengths_text(alloc: Global, before: u32, after: u32, chain: u32) -> Result<String, AllocError>
     ensures { IfOk result
         (λ text. string_bytes text ≡ codes ": "
@@ -15,7 +15,7 @@ fn lengths_text(alloc: Global, before: u32, after: u32, chain: u32) -> Result<St
     format!(in alloc; ": {before} to {after}, chain {chain}\n")
 }
 
-/// Adds what is told of a straight line: the name of its first state, its length before and now, and its chain. The one refusal
+/// Adds what is told of a basic block: the name of its first state, its length before and now, and its chain. The one refusal
 /// is out of memory.
 pub fn write_report_line(
     alloc: Global,

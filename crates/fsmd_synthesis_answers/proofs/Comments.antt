@@ -13,7 +13,7 @@ use Rattle.fs_model.proofs.Lists.{length_map}
 use Rattle.fs_model.specs.Machines.{State, Fsmd}
 use Rattle.fs_model.specs.Source.{Source}
 use Rattle.fs_model.specs.Words.{is_letter, is_word_byte, is_word, is_reserved, is_name}
-use Rattle.fs_ast.specs.SoundParts.{IsSound}
+use Rattle.fs_model.specs.SoundMachines.{IsSound}
 use Rattle.fs_ast.specs.StoredBranches.{state_name_of}
 use Rattle.fs_lex.specs.Lexemes.{is_in_comment}
 use Rattle.fs_lex.specs.MachineTexts.{TextSpells}

@@ -14,9 +14,9 @@ use Rattle.fs_write.proofs.Again.{only_lines}
 use Rattle.fs_write.specs.CommentLines.{lines_moved}
 use Rattle.fs_write.proofs.Unlined.{same_machine, same_law, moved_same}
 use Rattle.hls_unit_counts.specs.Counts.{Units}
-use Rattle.hls_sched.specs.Over.{over_in}
-use Rattle.hls_line_filling.specs.Schedules.{IsWithin, schedule_of}
-use Rattle.hls_line_filling.specs.Sources.{scheduled_source}
+use Rattle.hls_block_filling.specs.Over.{over_in}
+use Rattle.hls_block_filling.specs.Schedules.{IsWithin, schedule_of}
+use Rattle.hls_block_filling.specs.Sources.{scheduled_source}
 use Rattle.hls_sched.specs.declared.scheduling.LineReport.{LineReport}
 use Rattle.hls_sched.specs.Reports.{Report, report_of, reports, KeepsLengths}
 use Rattle.fsmd_synthesis_answers.specs.ScheduleAnswers.{report_text, IsScheduleText}

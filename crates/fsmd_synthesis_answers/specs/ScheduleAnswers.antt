@@ -10,9 +10,9 @@ use Rattle.fs_ast.specs.StoredBranches.{state_name_of}
 use Rattle.fs_lex.specs.MachineTexts.{TextSpells}
 use Rattle.fs_write.specs.Canonical.{canonical}
 use Rattle.hls_unit_counts.specs.Counts.{Units}
-use Rattle.hls_sched.specs.Over.{over_in}
-use Rattle.hls_line_filling.specs.Schedules.{IsWithin, schedule_of}
-use Rattle.hls_line_filling.specs.Sources.{scheduled_source}
+use Rattle.hls_block_filling.specs.Over.{over_in}
+use Rattle.hls_block_filling.specs.Schedules.{IsWithin, schedule_of}
+use Rattle.hls_block_filling.specs.Sources.{scheduled_source}
 use Rattle.hls_sched.specs.Reports.{Report, reports, KeepsLengths}
 use Rattle.fsmd_replies.specs.ScheduleTexts.{report_line}
 

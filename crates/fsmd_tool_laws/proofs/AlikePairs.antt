@@ -4,7 +4,7 @@ use Rattle.std.specs.Prelude.{is_some}
 use Rattle.fsmd_words.specs.AskedWords.{Generate}
 use Rattle.fs_model.specs.declared.parts.VarInfo.{VarInfo}
 use Rattle.fs_model.specs.Machines.{Fsmd}
-use Rattle.fs_rules.specs.SoundParts.{names_differ}
+use Rattle.fs_model.specs.SoundMachines.{names_differ}
 use Rattle.fs_rules.specs.Rules.{declared_names}
 use Rattle.fs_rules.proofs.Naming.{names_declared}
 use Rattle.fs_ast.proofs.Kept.{differ, all_kept}

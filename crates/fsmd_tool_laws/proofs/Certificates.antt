@@ -15,7 +15,7 @@ use Rattle.cert_writer.specs.CertificateLimits.{most_certificate_bytes}
 use Rattle.cert_facts.specs.declared.faults.CertError.{CertError}
 use Rattle.cert_facts.specs.declared.faults.CertError.TheVariants.{NotJson, Shape, UnknownState, NotCutpoint, UnknownName, SortOf, NotSolved, TwiceNode}
 use Rattle.cert_facts.specs.declared.faults.CertError.TheVariants.{NumberTooBig, TooMany, NoMemory, BadTerm, NotNormal}
-use Rattle.cert_text.specs.JsonParts.{file_format}
+use Rattle.cert_facts.specs.JsonParts.{file_format}
 use Rattle.cert_text.specs.CertificateNames.{place_named, find_in}
 use Rattle.cert_text.specs.TextMeanings.{AreRead}
 use Rattle.cert_text.specs.TextFunctions.{meanings_by}

@@ -9,7 +9,7 @@ use Rattle.fs_ast.specs.StoredBranches.{state_name_of}
 use Rattle.fs_pair.specs.Interfaces.{interface_fault}
 use Rattle.hls_unit_counts.specs.declared.units.Unit.{Unit as Kind}
 use Rattle.hls_unit_counts.specs.Counts.{Units}
-use Rattle.hls_line_filling.specs.Over.{over_in}
+use Rattle.hls_block_filling.specs.Over.{over_in}
 use Rattle.fsmd_replies.specs.declared.answer.Operand.{Operand}
 use Rattle.fsmd_replies.specs.declared.answer.Status.{Status}
 use Rattle.fsmd_replies.specs.declared.answer.Status.TheVariants as statuses

@@ -11,7 +11,7 @@ use Rattle.hls_unit_counts.specs.declared.faults.Fault.{Fault}
 use Rattle.hls_unit_counts.specs.Counts.{Units, count_file_fault, counts_in}
 use Rattle.base_json_files.proofs.Once.{one_value}
 use Rattle.hls_unit_counts.specs.Refusals.{ValueSpellsCounts, SpellsCounts, HasFaultyCount}
-use Rattle.hls_line_filling.specs.Over.{over_in}
+use Rattle.hls_block_filling.specs.Over.{over_in}
 use Rattle.fsmd_replies.specs.declared.answer.Answer.{Answer}
 use Rattle.fsmd_replies.specs.declared.answer.Answer.TheVariants.{Text, Over}
 use Rattle.fsmd_replies.specs.AskedFiles.{operand}

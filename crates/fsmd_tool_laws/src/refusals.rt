@@ -9,7 +9,7 @@ ghost use Rattle.fs_ast.specs.StoredBranches.{state_name_of};
 ghost use Rattle.fs_pair.specs.Interfaces.{interface_fault};
 ghost use Rattle.hls_unit_counts.specs.declared.units.Unit.{Unit as Kind};
 ghost use Rattle.hls_unit_counts.specs.Counts.{Units};
-ghost use Rattle.hls_line_filling.specs.Over.{over_in};
+ghost use Rattle.hls_block_filling.specs.Over.{over_in};
 ghost use Rattle.fsmd_replies.specs.declared.answer.Status.TheVariants.{BadInput};
 ghost use Rattle.fsmd_replies.specs.declared.answer.Answer.{Answer};
 ghost use Rattle.fsmd_replies.specs.declared.answer.Answer.TheVariants.{Over};

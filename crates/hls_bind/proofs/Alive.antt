@@ -9,7 +9,7 @@ use Rattle.std.proofs.lemmas.List.Elements.{Contains-append_left, Contains-appen
 use Rattle.std.proofs.lemmas.Bool.{eqb-false, eqb-true}
 use Rattle.fs_model.specs.Machines.{Fsmd, State, transitions_of}
 use Rattle.fs_model.specs.Trees.{branches_of}
-use Rattle.fs_ast.specs.SoundParts.{IsSound, branch_count, assigned_in}
+use Rattle.fs_model.specs.SoundMachines.{IsSound, branch_count, assigned_in}
 use Rattle.fs_cut.specs.Paths.{branch_at, target_of}
 use Rattle.fs_cut.proofs.Branches.{no_branch, target_in}
 use Rattle.fs_variable_sets.specs.declared.VariableSet.{VariableSet}
@@ -46,7 +46,7 @@ record IsOfBranch (m : Fsmd) (f : Transfer) : Type 0 where
   numbered : branch < branch_count m state
   is : f ≡ transfer_by state (branch_at m state branch)
 
-state_inside : (ss : List State) (q : ℕ) → length ss ≤ q → (slice_index_or ss q (record { name = []; lines = [] })).lines ≡ []
+state_inside : (ss : List State) (q : ℕ) → length ss ≤ q → (slice_index_or ss q (record { name = []; transitions = [] })).transitions ≡ []
 state_inside [] q h = refl
 state_inside (s ∷ ss) zero h = absurd (omega (arith, h))
 state_inside (s ∷ ss) (suc q) h = state_inside ss q (omega (arith, h))

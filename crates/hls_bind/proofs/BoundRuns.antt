@@ -12,14 +12,14 @@ use Rattle.fs_model.specs.declared.parts.Role.TheVariants.{Input, Output, Local}
 use Rattle.fs_model.specs.declared.parts.Sort.{Sort}
 use Rattle.fs_model.specs.declared.parts.Sort.TheVariants.{Scalar, Array, Port}
 use Rattle.fs_model.specs.declared.parts.VarInfo.{VarInfo}
-use Rattle.fs_model.specs.Terms.{Literal, Assignment, Transition}
+use Rattle.fs_model.specs.Expressions.{Literal, Assignment, Transition}
 use Rattle.fs_model.specs.Machines.{Fsmd, State, transitions_of}
 use Rattle.fs_model.specs.Stores.{Store}
 use Rattle.fs_model.specs.Meaning.{act_all}
 use Rattle.fs_model.specs.Runs.{AfterStep, ReachesReset, FirstReturn, Run, Inputs, Content, start, first_scalar, first_array, is_input, is_scalar, is_array}
 use Rattle.fs_model.specs.Runs.{SameBehaviour}
 use Rattle.fs_model.specs.Trees.{Branch, branches_of, branch_holds}
-use Rattle.fs_ast.specs.SoundParts.{IsSound, branch_count, array_at, has_sort, arrays_in_condition, arrays_in_assignments}
+use Rattle.fs_model.specs.SoundMachines.{IsSound, branch_count, array_at, has_sort, arrays_in_condition, arrays_in_assignments}
 use Rattle.fs_cut.specs.Paths.{branch_at, target_of, store_after}
 use Rattle.fs_cut.specs.Cuts.{branch_taken}
 use Rattle.fs_model.proofs.Passing.{branches_pass, condition_uses}
@@ -54,8 +54,8 @@ no_array (Some v) h i = no_array_by (is_local v.role) v.sort h i
 
 -- ---- machines over other numbers
 pub lines_over : (f : ℕ → ℕ) (ss : List State) (q : ℕ)
-    → (slice_index_or (map (state_over f) ss) q (record { name = []; lines = [] })).lines
-    ≡ map (transition_over f (λ r. r)) (slice_index_or ss q (record { name = []; lines = [] })).lines
+    → (slice_index_or (map (state_over f) ss) q (record { name = []; transitions = [] })).transitions
+    ≡ map (transition_over f (λ r. r)) (slice_index_or ss q (record { name = []; transitions = [] })).transitions
 lines_over f [] q = refl
 lines_over f (s ∷ ss) zero = refl
 lines_over f (s ∷ ss) (suc q) = lines_over f ss q
@@ -118,7 +118,7 @@ module _ (f : ℕ → ℕ) (bound : ℕ → Bool) (m k : Fsmd) (sound : IsSound 
 
   -- ---- branches of the other machine
   branches_over : (q : ℕ) → branches_of (transitions_of k q) ≡ map (branch_over f) (branches_of (transitions_of m q))
-  branches_over q = ap (λ (ss : List State). branches_of (slice_index_or ss q (record { name = []; lines = [] })).lines) ren.states
+  branches_over q = ap (λ (ss : List State). branches_of (slice_index_or ss q (record { name = []; transitions = [] })).transitions) ren.states
       ∙ ap branches_of (lines_over f m.states q) ∙ over_branches f (transitions_of m q)
 
   branch_is : (q j : ℕ) → branch_at k q j ≡ branch_over f (branch_at m q j)

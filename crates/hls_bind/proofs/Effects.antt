@@ -7,11 +7,11 @@ use Rattle.std.proofs.lemmas.Bool.Decides.{nat_tests}
 use Rattle.std.proofs.lemmas.List.Folds.{list_all-append}
 use Rattle.std.proofs.lemmas.Bool.{or_from, not-true, eqb-false, eqb-true, eq-eqb}
 use Rattle.fs_model.proofs.Booleans.{and_first, and_second}
-use Rattle.fs_model.specs.Terms.{Term, Literal, Assignment, Assign, ArrayWrite, Emit}
+use Rattle.fs_model.specs.Expressions.{Expression, Literal, Assignment, Assign, ArrayWrite, Emit}
 use Rattle.fs_model.specs.Stores.{Store}
 use Rattle.fs_model.specs.Meaning.{value, literal_holds, act, act_all}
-use Rattle.fs_model.specs.Renamed.{term_over, literal_over, assignment_over}
-use Rattle.fs_ast.specs.SoundParts.{scalars_in, arrays_in, arrays_in_assignment, arrays_in_assignments, assigned_in}
+use Rattle.fs_model.specs.Renamed.{expression_over, literal_over, assignment_over}
+use Rattle.fs_model.specs.SoundMachines.{scalars_in, arrays_in, arrays_in_assignment, arrays_in_assignments, assigned_in}
 use Rattle.hls_bind.specs.Liveness.{read_by_assignment}
 use Rattle.hls_bind.proofs.RegisterMachines.{Agree}
 use Rattle.hls_bind.proofs.Over.{has, read_by_literal, in_front, in_back, first_in, Same, value_over, literal_holds_over}
@@ -78,7 +78,7 @@ module _ (f : ℕ → ℕ) (bound : ℕ → Bool) where
         (and_first (plain_literal l) (list_all plain_literal ls) i)))
         (literals_over ls (reads_back (read_by_literal l) (flat_map read_by_literal ls) h) (and_second (plain_literal l) (list_all plain_literal ls) i))
 
-    value_same : (e : Term ℕ) → Reads (scalars_in e) → list_all unbound (arrays_in e) ≡ true → value e s ≡ value (term_over f e) t
+    value_same : (e : Expression ℕ) → Reads (scalars_in e) → list_all unbound (arrays_in e) ≡ true → value e s ≡ value (expression_over f e) t
     value_same e h i = value_over f s t e (same_in (scalars_in e) (arrays_in e) h i)
 
     -- ---- scalars
@@ -102,7 +102,7 @@ module _ (f : ℕ → ℕ) (bound : ℕ → Bool) where
         scalar_after acts (act (Assign y e) s u) (act (assignment_over f (Assign y e)) t v) x (reads_back (scalars_in e) (flat_map read_by_assignment acts) h)
         (all_back (arrays_in e) (arrays_in_assignments acts) i)
         (λ z g. apart z (in_back (y ∷ []) (assigned_in acts) z g))
-        (λ g. assign_by x y u v (value e s) (value (term_over f e) t) (x == y) refl same (apart y (first_in y (assigned_in acts)))
+        (λ g. assign_by x y u v (value e s) (value (expression_over f e) t) (x == y) refl same (apart y (first_in y (assigned_in acts)))
         (λ n. k (or_from (y == x) (has (assigned_in acts) x) (turned x y n) g)))
     scalar_after (ArrayWrite y j e ∷ acts) u v x h i apart k =
         scalar_after acts (act (ArrayWrite y j e) s u) (act (assignment_over f (ArrayWrite y j e)) t v) x
@@ -133,8 +133,8 @@ module _ (f : ℕ → ℕ) (bound : ℕ → Bool) where
         (reads_back (scalars_in j ++ scalars_in e) (flat_map read_by_assignment acts) h)
         (all_back (arrays_in_assignment (ArrayWrite y j e)) (arrays_in_assignments acts) i) apart
         (ap (λ c. put c (value j s) (value e s) (u.array x)) (test_over f x y (apart y)) ∙ ap (λ a. put (f x == f y) a (value e s) (u.array x)) index
-        ∙ ap (λ b. put (f x == f y) (value (term_over f j) t) b (u.array x)) right_side
-        ∙ ap (λ (g : ℤ → ℤ). put (f x == f y) (value (term_over f j) t) (value (term_over f e) t) g) k)
+        ∙ ap (λ b. put (f x == f y) (value (expression_over f j) t) b (u.array x)) right_side
+        ∙ ap (λ (g : ℤ → ℤ). put (f x == f y) (value (expression_over f j) t) (value (expression_over f e) t) g) k)
     array_after (Emit y e ∷ acts) u v x h i apart k =
         array_after acts (act (Emit y e) s u) (act (assignment_over f (Emit y e)) t v) x (reads_back (scalars_in e) (flat_map read_by_assignment acts) h)
         (all_back (arrays_in e) (arrays_in_assignments acts) i) apart k
@@ -159,4 +159,4 @@ module _ (f : ℕ → ℕ) (bound : ℕ → Bool) where
         port_after acts (act (Emit y e) s u) (act (assignment_over f (Emit y e)) t v) x (reads_back (scalars_in e) (flat_map read_by_assignment acts) h)
         (all_back (arrays_in e) (arrays_in_assignments acts) i) apart
         (ap (λ c. appended c (value e s) (u.port x)) (test_over f x y (apart y)) ∙ ap (λ a. appended (f x == f y) a (u.port x)) same
-        ∙ ap (λ (ps : List ℤ). appended (f x == f y) (value (term_over f e) t) ps) k)
+        ∙ ap (λ (ps : List ℤ). appended (f x == f y) (value (expression_over f e) t) ps) k)

@@ -9,7 +9,7 @@ use Rattle.fs_model.specs.Adding.{AddsIfMade}
 use Rattle.fs_model.specs.declared.name.NoMemory.{NoMemory}
 use Rattle.fs_model.specs.declared.parts.Decl.{Decl}
 use Rattle.fs_model.specs.Source.{Declaration, SourceTransition}
-use Rattle.fs_model.specs.Terms.{Guard, Assignment}
+use Rattle.fs_model.specs.Expressions.{Guard, Assignment}
 use Rattle.fs_model.specs.Renamed.{guard_over, assignment_over}
 use Rattle.fs_model.specs.View.{declaration_of}
 use Rattle.hls_bind.specs.Bindings.{declaration_without_bound, transition_renamed, remaining_declarations}

@@ -9,18 +9,19 @@ use Rattle.fs_ast.specs.MachineOfParts.{names_of, variables_of}
 use Rattle.fs_model.specs.declared.parts.Role.TheVariants.{Local}
 use Rattle.fs_model.specs.declared.parts.Sort.TheVariants.{Scalar}
 use Rattle.fs_model.specs.Limits.{most_operators}
-use Rattle.fs_model.specs.Terms.{Term, Number, Variable, Read, Sum, Difference, Product, Quotient, Remainder, Negative, Guard, Test, Not, And, Or, Assignment}
-use Rattle.fs_model.specs.Terms.{Assign, ArrayWrite, Emit}
-use Rattle.fs_model.specs.Renamed.{term_over, guard_over, assignment_over}
+use Rattle.fs_model.specs.Expressions.{Expression, Number, Variable, Read, Sum, Difference, Product, Quotient, Remainder, Negative, Guard, Test, Not, And, Or}
+use Rattle.fs_model.specs.Expressions.{Assignment}
+use Rattle.fs_model.specs.Expressions.{Assign, ArrayWrite, Emit}
+use Rattle.fs_model.specs.Renamed.{expression_over, guard_over, assignment_over}
 use Rattle.fs_model.specs.Source.{Declaration, SourceTransition, SourceState, Source}
-use Rattle.fs_model.specs.WellFormed.{is_sum, is_product, is_and, is_or, bracket, operators_of_term, operators_of_guard, operators_of_assignment}
-use Rattle.fs_model.specs.WellFormed.{is_natural_term, is_natural_guard, is_natural_assignment, is_well_formed_condition, is_well_formed_assignment}
+use Rattle.fs_model.specs.WellFormed.{is_sum, is_product, is_and, is_or, bracket, operators_of_expression, operators_of_guard, operators_of_assignment}
+use Rattle.fs_model.specs.WellFormed.{is_natural_expression, is_natural_guard, is_natural_assignment, is_well_formed_condition, is_well_formed_assignment}
 use Rattle.fs_model.specs.WellFormed.{is_well_formed_transition, is_well_formed_state, is_well_formed_declaration, is_well_formed}
 use Rattle.hls_bind.specs.Bindings.{bound_name, declaration_without_bound, remaining_declarations, of_registers, transition_renamed, state_renamed}
 use Rattle.hls_bind.specs.Bindings.{bound_parts}
 
 module _ {X Y : Type 0} (f : X → Y) where
-  sums : (e : Term X) → is_sum (term_over f e) ≡ is_sum e
+  sums : (e : Expression X) → is_sum (expression_over f e) ≡ is_sum e
   sums (Number n) = refl
   sums (Variable x) = refl
   sums (Read x i) = refl
@@ -31,7 +32,7 @@ module _ {X Y : Type 0} (f : X → Y) where
   sums (Remainder a b) = refl
   sums (Negative a) = refl
 
-  products : (e : Term X) → is_product (term_over f e) ≡ is_product e
+  products : (e : Expression X) → is_product (expression_over f e) ≡ is_product e
   products (Number n) = refl
   products (Variable x) = refl
   products (Read x i) = refl
@@ -42,7 +43,7 @@ module _ {X Y : Type 0} (f : X → Y) where
   products (Remainder a b) = refl
   products (Negative a) = refl
 
-  compound : (e : Term X) → (is_sum (term_over f e) || is_product (term_over f e)) ≡ (is_sum e || is_product e)
+  compound : (e : Expression X) → (is_sum (expression_over f e) || is_product (expression_over f e)) ≡ (is_sum e || is_product e)
   compound e = ap₂ (λ (c d : Bool). c || d) (sums e) (products e)
 
   ands : (g : Guard X) → is_and (guard_over f g) ≡ is_and g
@@ -67,7 +68,7 @@ module _ {X Y : Type 0} (f : X → Y) where
   one_more : (a b c d : ℕ) → a ≡ b → c ≡ d → 1 + (a + c) ≡ 1 + (b + d)
   one_more a b c d e h = ap₂ (λ (x y : ℕ). 1 + (x + y)) e h
 
-  operators : (e : Term X) → operators_of_term (term_over f e) ≡ operators_of_term e
+  operators : (e : Expression X) → operators_of_expression (expression_over f e) ≡ operators_of_expression e
   operators (Number n) = refl
   operators (Variable x) = refl
   operators (Read x i) = ap (λ n. 1 + n) (operators i)
@@ -92,7 +93,7 @@ module _ {X Y : Type 0} (f : X → Y) where
   both_of : (a b c d : Bool) → a ≡ b → c ≡ d → (a && c) ≡ (b && d)
   both_of a b c d e h = ap₂ (λ (x y : Bool). x && y) e h
 
-  natural : (e : Term X) → is_natural_term (term_over f e) ≡ is_natural_term e
+  natural : (e : Expression X) → is_natural_expression (expression_over f e) ≡ is_natural_expression e
   natural (Number n) = refl
   natural (Variable x) = refl
   natural (Read x i) = natural i
@@ -136,7 +137,7 @@ module _ (r : List ℕ → List ℕ) where
 
   states_formed : (ss : List SourceState) → list_all is_well_formed_state (map (state_renamed r) ss) ≡ list_all is_well_formed_state ss
   states_formed [] = refl
-  states_formed (s ∷ ss) = ap₂ (λ (x y : Bool). x && y) (lines_formed s.lines) (states_formed ss)
+  states_formed (s ∷ ss) = ap₂ (λ (x y : Bool). x && y) (lines_formed s.transitions) (states_formed ss)
 
 -- ---- declarations
 left_by : (e t d r : Bool) (x : Declaration) (ds : List Declaration) → not e ≡ t → is_well_formed_declaration x ≡ (not e && d) → d ≡ true

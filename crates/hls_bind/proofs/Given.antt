@@ -11,7 +11,7 @@ use Rattle.serde_json.specs.Find.{as_str}
 use Rattle.fs_model.specs.declared.parts.VarInfo.{VarInfo}
 use Rattle.fs_model.specs.Words.{is_name}
 use Rattle.fs_ast.specs.MachineOfParts.{names_of}
-use Rattle.fs_ast.specs.SoundParts.{names_differ}
+use Rattle.fs_model.specs.SoundMachines.{names_differ}
 use Rattle.hls_bind.specs.Bindings.{register, is_rising, is_scalar_local, IsBindingOf}
 use Rattle.hls_bind.proofs.Looks.{place_own}
 use Rattle.hls_bind.specs.declared.faults.Fault.{Fault}

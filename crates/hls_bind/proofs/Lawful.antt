@@ -7,12 +7,13 @@ use Rattle.std.proofs.lemmas.List.{map-append}
 use Rattle.fs_model.proofs.Booleans.{and_first, and_second}
 use Rattle.fs_model.specs.declared.parts.Sort.{Sort}
 use Rattle.fs_model.specs.declared.parts.VarInfo.{VarInfo}
-use Rattle.fs_model.specs.Terms.{Term, Number, Variable, Read, Sum, Difference, Product, Quotient, Remainder, Negative, Guard, Test, Not, And, Or, Assignment}
-use Rattle.fs_model.specs.Terms.{Assign, ArrayWrite, Emit, Transition}
-use Rattle.fs_model.specs.Renamed.{term_over, guard_over, assignment_over}
+use Rattle.fs_model.specs.Expressions.{Expression, Number, Variable, Read, Sum, Difference, Product, Quotient, Remainder, Negative, Guard, Test, Not, And, Or}
+use Rattle.fs_model.specs.Expressions.{Assignment}
+use Rattle.fs_model.specs.Expressions.{Assign, ArrayWrite, Emit, Transition}
+use Rattle.fs_model.specs.Renamed.{expression_over, guard_over, assignment_over}
 use Rattle.fs_model.specs.PartFolds.{Listing, scalars, arrays, uses_in, uses_in_guard, uses_in_condition, uses_in_assignment, uses_in_assignments}
-use Rattle.fs_ast.specs.SoundParts.{has_sort, input_at, changed_by, assigned_in, occurs, all_differ, scalars_in_condition, arrays_in_condition}
-use Rattle.fs_ast.specs.SoundParts.{scalars_in_assignments, arrays_in_assignments, port_in, ports_in_assignments}
+use Rattle.fs_model.specs.SoundMachines.{has_sort, input_at, changed_by, assigned_in, occurs, all_differ, scalars_in_condition, arrays_in_condition}
+use Rattle.fs_model.specs.SoundMachines.{scalars_in_assignments, arrays_in_assignments, port_in, ports_in_assignments}
 
 -- ---- tests
 
@@ -22,19 +23,19 @@ module _ (u : Listing ℕ) (f : ℕ → ℕ) (scalar_over : (x : ℕ) → u.of_s
   joined_over : (a b c d : List ℕ) → a ≡ map f c → b ≡ map f d → a ++ b ≡ map f (c ++ d)
   joined_over a b c d e h = ap₂ (λ (x y : List ℕ). x ++ y) e h ∙ sym (map-append f c d)
 
-  term_uses : (e : Term ℕ) → uses_in u (term_over f e) ≡ map f (uses_in u e)
-  term_uses (Number n) = of_numbers n
-  term_uses (Variable x) = scalar_over x
-  term_uses (Read x i) = joined_over _ _ (u.of_array x) (uses_in u i) (array_over x) (term_uses i)
-  term_uses (Sum a b) = joined_over _ _ (uses_in u a) (uses_in u b) (term_uses a) (term_uses b)
-  term_uses (Difference a b) = joined_over _ _ (uses_in u a) (uses_in u b) (term_uses a) (term_uses b)
-  term_uses (Product a b) = joined_over _ _ (uses_in u a) (uses_in u b) (term_uses a) (term_uses b)
-  term_uses (Quotient a b) = joined_over _ _ (uses_in u a) (uses_in u b) (term_uses a) (term_uses b)
-  term_uses (Remainder a b) = joined_over _ _ (uses_in u a) (uses_in u b) (term_uses a) (term_uses b)
-  term_uses (Negative a) = term_uses a
+  expression_uses : (e : Expression ℕ) → uses_in u (expression_over f e) ≡ map f (uses_in u e)
+  expression_uses (Number n) = of_numbers n
+  expression_uses (Variable x) = scalar_over x
+  expression_uses (Read x i) = joined_over _ _ (u.of_array x) (uses_in u i) (array_over x) (expression_uses i)
+  expression_uses (Sum a b) = joined_over _ _ (uses_in u a) (uses_in u b) (expression_uses a) (expression_uses b)
+  expression_uses (Difference a b) = joined_over _ _ (uses_in u a) (uses_in u b) (expression_uses a) (expression_uses b)
+  expression_uses (Product a b) = joined_over _ _ (uses_in u a) (uses_in u b) (expression_uses a) (expression_uses b)
+  expression_uses (Quotient a b) = joined_over _ _ (uses_in u a) (uses_in u b) (expression_uses a) (expression_uses b)
+  expression_uses (Remainder a b) = joined_over _ _ (uses_in u a) (uses_in u b) (expression_uses a) (expression_uses b)
+  expression_uses (Negative a) = expression_uses a
 
   guard_uses : (g : Guard ℕ) → uses_in_guard u (guard_over f g) ≡ map f (uses_in_guard u g)
-  guard_uses (Test l) = joined_over _ _ (uses_in u l.left) (uses_in u l.right) (term_uses l.left) (term_uses l.right)
+  guard_uses (Test l) = joined_over _ _ (uses_in u l.left) (uses_in u l.right) (expression_uses l.left) (expression_uses l.right)
   guard_uses (Not g) = guard_uses g
   guard_uses (And a b) = joined_over _ _ (uses_in_guard u a) (uses_in_guard u b) (guard_uses a) (guard_uses b)
   guard_uses (Or a b) = joined_over _ _ (uses_in_guard u a) (uses_in_guard u b) (guard_uses a) (guard_uses b)
@@ -44,30 +45,31 @@ module _ (u : Listing ℕ) (f : ℕ → ℕ) (scalar_over : (x : ℕ) → u.of_s
   condition_uses (Some g) = guard_uses g
 
   assignment_uses : (a : Assignment ℕ) → uses_in_assignment u (assignment_over f a) ≡ map f (uses_in_assignment u a)
-  assignment_uses (Assign x e) = joined_over _ _ (u.of_scalar x) (uses_in u e) (scalar_over x) (term_uses e)
+  assignment_uses (Assign x e) = joined_over _ _ (u.of_scalar x) (uses_in u e) (scalar_over x) (expression_uses e)
   assignment_uses (ArrayWrite x i e) = joined_over _ _ (u.of_array x) (uses_in u i ++ uses_in u e) (array_over x)
-      (joined_over _ _ (uses_in u i) (uses_in u e) (term_uses i) (term_uses e))
-  assignment_uses (Emit x e) = term_uses e
+      (joined_over _ _ (uses_in u i) (uses_in u e) (expression_uses i) (expression_uses e))
+  assignment_uses (Emit x e) = expression_uses e
 
   assignments_uses : (acts : List (Assignment ℕ)) → uses_in_assignments u (map (assignment_over f) acts) ≡ map f (uses_in_assignments u acts)
   assignments_uses [] = refl
   assignments_uses (a ∷ acts) = joined_over _ _ (uses_in_assignment u a) (uses_in_assignments u acts) (assignment_uses a) (assignments_uses acts)
 
-  pub line_uses : (l : Transition ℕ ℕ)
+  pub transition_uses : (l : Transition ℕ ℕ)
       → (uses_in_condition u (option_map (guard_over f) l.guard) ++ uses_in_assignments u (map (assignment_over f) l.assignments))
       ≡ map f (uses_in_condition u l.guard ++ uses_in_assignments u l.assignments)
-  line_uses l = joined_over _ _ (uses_in_condition u l.guard) (uses_in_assignments u l.assignments) (condition_uses l.guard) (assignments_uses l.assignments)
+  transition_uses l = joined_over _ _ (uses_in_condition u l.guard) (uses_in_assignments u l.assignments) (condition_uses l.guard)
+      (assignments_uses l.assignments)
 
 module _ (f : ℕ → ℕ) where
   pub scalars_over : (l : Transition ℕ ℕ)
       → (scalars_in_condition (option_map (guard_over f) l.guard) ++ scalars_in_assignments (map (assignment_over f) l.assignments))
       ≡ map f (scalars_in_condition l.guard ++ scalars_in_assignments l.assignments)
-  scalars_over l = line_uses scalars f (λ x. refl) (λ x. refl) (λ z. refl) l
+  scalars_over l = transition_uses scalars f (λ x. refl) (λ x. refl) (λ z. refl) l
 
   pub arrays_over : (l : Transition ℕ ℕ)
       → (arrays_in_condition (option_map (guard_over f) l.guard) ++ arrays_in_assignments (map (assignment_over f) l.assignments))
       ≡ map f (arrays_in_condition l.guard ++ arrays_in_assignments l.assignments)
-  arrays_over l = line_uses arrays f (λ x. refl) (λ x. refl) (λ z. refl) l
+  arrays_over l = transition_uses arrays f (λ x. refl) (λ x. refl) (λ z. refl) l
 
   port_over : (a : Assignment ℕ) → port_in (assignment_over f a) ≡ map f (port_in a)
   port_over (Assign x e) = refl

@@ -3,7 +3,7 @@ use Rattle.std.proofs.Common.{◌≡◌, ℕ, ◌<◌, List, ap, sym, ◌∙◌,
 use Rattle.std.specs.Prelude.{◌&&◌, nat_lt}
 use Rattle.std.proofs.lemmas.Bool.{and_parts, lt-ltb}
 use Rattle.fs_model.proofs.Booleans.{and_true, or_false}
-use Rattle.fs_ast.specs.SoundParts.{occurs}
+use Rattle.fs_model.specs.SoundMachines.{occurs}
 use Rattle.fs_variable_sets.proofs.Members.{in_all}
 use Rattle.hls_bind.specs.BranchFlows.{has_below_128}
 

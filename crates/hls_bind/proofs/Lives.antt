@@ -2,7 +2,7 @@
 use Rattle.std.proofs.Common.{◌≡◌, ℕ, ◌<◌, List, [], ◌∷◌, sym, refl, subst, Bool, true, false}
 use Rattle.std.specs.Prelude.{◌≢◌}
 use Rattle.fs_model.specs.Machines.{Fsmd}
-use Rattle.fs_ast.specs.SoundParts.{branch_count}
+use Rattle.fs_model.specs.SoundMachines.{branch_count}
 use Rattle.fs_cut.specs.Paths.{branch_at, target_of}
 use Rattle.hls_bind.specs.Liveness.{reads, writes, PassesUnwritten, IsLive}
 use Rattle.hls_bind.specs.Closed.{IsClosedUnderFlow}

@@ -9,7 +9,7 @@ use Rattle.fs_model.proofs.Lists.{bytes_eq-true, bytes_eq-self}
 use Rattle.fs_model.specs.declared.parts.VarInfo.{VarInfo}
 use Rattle.fs_model.specs.Stores.{Store}
 use Rattle.fs_model.specs.Runs.{Content, content, output_from, is_output}
-use Rattle.fs_ast.specs.SoundParts.{names_differ}
+use Rattle.fs_model.specs.SoundMachines.{names_differ}
 use Rattle.fs_ast.specs.MachineOfParts.{place_or_end, names_of}
 
 -- the first variable of a name

@@ -11,7 +11,7 @@ use Rattle.fs_model.specs.Trees.{Branch, branches_of}
 use Rattle.fs_model.specs.View.{branch_of}
 use Rattle.std.proofs.lemmas.List.{get_or-map}
 use Rattle.fs_model.proofs.Lists.{drop_next}
-use Rattle.fs_ast.specs.SoundParts.{IsSound, branch_count, assigned_in}
+use Rattle.fs_model.specs.SoundMachines.{IsSound, branch_count, assigned_in}
 use Rattle.fs_cut.specs.Paths.{branch_at}
 use Rattle.fs_cut.proofs.Branches.{no_branch}
 use Rattle.fs_cut.proofs.Loops.{target_is_in, count_is}

@@ -8,7 +8,7 @@ use Rattle.std.specs.Str.{bytes_eq}
 use Rattle.std.proofs.lemmas.Slice.Eq.{bytes_eq-Decides}
 use Rattle.std.proofs.lemmas.Bool.Decides.{nat_tests}
 use Rattle.fs_model.specs.Machines.{Fsmd}
-use Rattle.fs_ast.specs.SoundParts.{IsSound, branch_count, assigned_in}
+use Rattle.fs_model.specs.SoundMachines.{IsSound, branch_count, assigned_in}
 use Rattle.fs_cut.specs.Paths.{branch_at, target_of}
 use Rattle.fs_cut.proofs.Branches.{target_in}
 use Rattle.hls_bind.specs.Liveness.{writes, IsLive}

@@ -16,7 +16,7 @@ use Rattle.fs_model.proofs.Booleans.{and_first, and_second}
 use Rattle.fs_model.proofs.Lists.{bytes_eq-true, bytes_eq-self}
 use Rattle.fs_model.specs.declared.parts.VarInfo.{VarInfo}
 use Rattle.fs_ast.specs.MachineOfParts.{place_or_end, names_of}
-use Rattle.fs_ast.specs.SoundParts.{names_differ}
+use Rattle.fs_model.specs.SoundMachines.{names_differ}
 use Rattle.fs_ast.proofs.Repeats.{is_listed, kept_absent, kept_differ}
 use Rattle.hls_bind.specs.Bindings.{register, IsBindingOf, AreRegisters}
 use Rattle.hls_bind.proofs.Looks.{place_own}

@@ -1,18 +1,19 @@
--- Terms, trees and branches over other numbers of variables.
+-- Expressions, trees and branches over other numbers of variables.
 use Rattle.std.proofs.Common.{◌≡◌, ℕ, List, [], ◌∷◌, ◌++◌, map, ap, ap₂, sym, refl, ◌∙◌, arith, Option, Some, None, Bool, true, ◌+ℤ◌, ◌-ℤ◌, ◌*ℤ◌, neg_ℤ, ℤ}
 use Rattle.std.specs.Prelude.{◌==◌, option_map}
 use Rattle.std.proofs.lemmas.List.Folds.{list_any-append}
 use Rattle.std.proofs.lemmas.Bool.{or_left, or_right}
 use Rattle.fs_model.specs.Division.{quotient, remainder}
-use Rattle.fs_model.specs.Terms.{Term, Number, Variable, Read, Sum, Difference, Product, Quotient, Remainder, Negative, Literal, Guard, Test, Not, And, Or}
-use Rattle.fs_model.specs.Terms.{Transition}
+use Rattle.fs_model.specs.Expressions.{Expression, Number, Variable, Read, Sum, Difference, Product, Quotient, Remainder, Negative, Literal, Guard, Test, Not}
+use Rattle.fs_model.specs.Expressions.{And, Or}
+use Rattle.fs_model.specs.Expressions.{Transition}
 use Rattle.fs_model.specs.Stores.{Store}
 use Rattle.fs_model.specs.Meaning.{value, relates, literal_holds}
 use Rattle.fs_model.specs.Trees.{Tree, Empty, Leaf, Node, Branch, tree_of_guard, tree_of_condition, tree_of_transitions, leaves, branches_of, negated_literal}
-use Rattle.fs_ast.specs.SoundParts.{scalars_in, arrays_in}
-use Rattle.fs_ast.specs.SoundParts.{occurs}
+use Rattle.fs_model.specs.SoundMachines.{scalars_in, arrays_in}
+use Rattle.fs_model.specs.SoundMachines.{occurs}
 use Rattle.fs_model.specs.PartFolds.{scalars, uses_in_literal}
-use Rattle.fs_model.specs.Renamed.{term_over, literal_over, guard_over, assignment_over, transition_over}
+use Rattle.fs_model.specs.Renamed.{expression_over, literal_over, guard_over, assignment_over, transition_over}
 
 -- ---- members
 abbrev pub has : List ℕ → ℕ → Bool
@@ -43,13 +44,14 @@ module _ (f : ℕ → ℕ) (s t : Store) where
   pub right : (a b c d : List ℕ) → Same (a ++ b) (c ++ d) → Same b d
   right a b c d h = record { numbers = λ x e. h.numbers x (in_back a b x e); entries = λ x e. h.entries x (in_back c d x e) }
 
-  module _ (op : ℤ → ℤ → ℤ) (a b : Term ℕ) (h : Same (scalars_in a ++ scalars_in b) (arrays_in a ++ arrays_in b)) where
-    two : (Same (scalars_in a) (arrays_in a) → value a s ≡ value (term_over f a) t) → (Same (scalars_in b) (arrays_in b) → value b s ≡ value (term_over f b) t)
-        → op (value a s) (value b s) ≡ op (value (term_over f a) t) (value (term_over f b) t)
+  module _ (op : ℤ → ℤ → ℤ) (a b : Expression ℕ) (h : Same (scalars_in a ++ scalars_in b) (arrays_in a ++ arrays_in b)) where
+    two : (Same (scalars_in a) (arrays_in a) → value a s ≡ value (expression_over f a) t)
+        → (Same (scalars_in b) (arrays_in b) → value b s ≡ value (expression_over f b) t)
+        → op (value a s) (value b s) ≡ op (value (expression_over f a) t) (value (expression_over f b) t)
     two p q = ap₂ op (p (left (scalars_in a) (scalars_in b) (arrays_in a) (arrays_in b) h))
         (q (right (scalars_in a) (scalars_in b) (arrays_in a) (arrays_in b) h))
 
-  pub value_over : (e : Term ℕ) → Same (scalars_in e) (arrays_in e) → value e s ≡ value (term_over f e) t
+  pub value_over : (e : Expression ℕ) → Same (scalars_in e) (arrays_in e) → value e s ≡ value (expression_over f e) t
   value_over (Number n) h = refl
   value_over (Variable x) h = h.numbers x (first_in x [])
   value_over (Read x i) h =

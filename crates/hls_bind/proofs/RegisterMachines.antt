@@ -4,14 +4,14 @@ use Rattle.fs_model.specs.Machines.{Fsmd, State}
 use Rattle.fs_model.specs.Stores.{Store}
 use Rattle.fs_model.specs.Runs.{output}
 use Rattle.fs_model.specs.Renamed.{transition_over}
-use Rattle.fs_ast.specs.SoundParts.{branch_count}
+use Rattle.fs_model.specs.SoundMachines.{branch_count}
 use Rattle.fs_cut.specs.Paths.{branch_at, target_of}
 use Rattle.hls_bind.specs.Liveness.{writes, IsLive}
 use Rattle.hls_bind.specs.Bindings.{is_scalar_local}
 
 -- the same state over other numbers of variables
 abbrev pub state_over : (ℕ → ℕ) → State → State
-state_over f s = record { name = s.name; lines = map (transition_over f (λ q. q)) s.lines }
+state_over f s = record { name = s.name; transitions = map (transition_over f (λ q. q)) s.transitions }
 
 -- two stores that hold the same for each variable that isn't bound
 pub record Agree (f : ℕ → ℕ) (bound : ℕ → Bool) (s t : Store) : Type 0 where

@@ -7,16 +7,18 @@ use Rattle.std.proofs.lemmas.List.Folds.{list_all-append}
 use Rattle.std.proofs.lemmas.Option.{slice_get_within}
 use Rattle.fs_model.proofs.Booleans.{and_first, and_second}
 use Rattle.fs_model.specs.declared.parts.VarInfo.{VarInfo}
-use Rattle.fs_model.specs.Terms.{Term, Number, Variable, Read, Sum, Difference, Product, Quotient, Remainder, Negative, Guard, Test, Not, And, Or, Assignment}
-use Rattle.fs_model.specs.Terms.{Assign, ArrayWrite, Emit, Transition}
+use Rattle.fs_model.specs.Expressions.{Expression, Number, Variable, Read, Sum, Difference, Product, Quotient, Remainder, Negative, Guard, Test, Not, And, Or}
+use Rattle.fs_model.specs.Expressions.{Assignment}
+use Rattle.fs_model.specs.Expressions.{Assign, ArrayWrite, Emit, Transition}
 use Rattle.fs_model.specs.Source.{SourceTransition, SourceState, Source}
 use Rattle.fs_model.specs.Machines.{Fsmd, State}
 use Rattle.fs_model.specs.declared.parts.Sort.{Sort}
 use Rattle.fs_model.specs.Runs.{SameBehaviour, is_scalar, is_array, is_port}
-use Rattle.fs_model.specs.Renamed.{term_over, guard_over, assignment_over, transition_over}
-use Rattle.fs_ast.specs.SoundParts.{IsSound, scalar_at, array_at, port_at, has_sort, port_in, ports_in_assignments, scalars_in, arrays_in, scalars_in_guard}
-use Rattle.fs_ast.specs.SoundParts.{arrays_in_guard, scalars_in_condition, arrays_in_condition, scalars_in_assignment, arrays_in_assignment}
-use Rattle.fs_ast.specs.SoundParts.{scalars_in_assignments, arrays_in_assignments}
+use Rattle.fs_model.specs.Renamed.{expression_over, guard_over, assignment_over, transition_over}
+use Rattle.fs_model.specs.SoundMachines.{IsSound, scalar_at, array_at, port_at, has_sort, port_in, ports_in_assignments, scalars_in, arrays_in}
+use Rattle.fs_model.specs.SoundMachines.{scalars_in_guard}
+use Rattle.fs_model.specs.SoundMachines.{arrays_in_guard, scalars_in_condition, arrays_in_condition, scalars_in_assignment, arrays_in_assignment}
+use Rattle.fs_model.specs.SoundMachines.{scalars_in_assignments, arrays_in_assignments}
 use Rattle.fs_ast.specs.MachineOfParts.{place_or_end, names_of, variables_of, state_names, state_spelled, machine_of}
 use Rattle.hls_bind.proofs.RegisterMachines.{state_over, IsBoundBy, NeverClobbers}
 use Rattle.hls_bind.specs.Bindings.{register, is_bound, bound_name, transition_renamed, state_renamed, bound_parts, IsBindingOf, AreRegisters}
@@ -44,36 +46,41 @@ module _ (g g' : List ℕ → ℕ) (r : List ℕ → List ℕ) (f : ℕ → ℕ)
     and_second (list_all A c) (list_all A d) (sym (list_all-append A c d) ∙ h.1),
   )
 
-  abbrev of_term : Term (List ℕ) → Type 0
-  of_term e = Fine (scalars_in (term_over g e)) (arrays_in (term_over g e))
+  abbrev of_expression : Expression (List ℕ) → Type 0
+  of_expression e = Fine (scalars_in (expression_over g e)) (arrays_in (expression_over g e))
 
-  abbrev Turns : Term (List ℕ) → Type 0
-  Turns e = of_term e → term_over g' (term_over r e) ≡ term_over f (term_over g e)
+  abbrev Turns : Expression (List ℕ) → Type 0
+  Turns e = of_expression e → expression_over g' (expression_over r e) ≡ expression_over f (expression_over g e)
 
-  two : (op : Term ℕ → Term ℕ → Term ℕ) (a b : Term (List ℕ))
-      → Fine (scalars_in (term_over g a) ++ scalars_in (term_over g b)) (arrays_in (term_over g a) ++ arrays_in (term_over g b)) → Turns a → Turns b
-      → op (term_over g' (term_over r a)) (term_over g' (term_over r b)) ≡ op (term_over f (term_over g a)) (term_over f (term_over g b))
-  two op a b h p q = ap₂ op (p (front (scalars_in (term_over g a)) (scalars_in (term_over g b)) (arrays_in (term_over g a)) (arrays_in (term_over g b)) h))
-      (q (back (scalars_in (term_over g a)) (scalars_in (term_over g b)) (arrays_in (term_over g a)) (arrays_in (term_over g b)) h))
+  two : (op : Expression ℕ → Expression ℕ → Expression ℕ) (a b : Expression (List ℕ))
+      → Fine (scalars_in (expression_over g a) ++ scalars_in (expression_over g b)) (arrays_in (expression_over g a) ++ arrays_in (expression_over g b))
+      → Turns a → Turns b
+      → op (expression_over g' (expression_over r a)) (expression_over g' (expression_over r b))
+      ≡ op (expression_over f (expression_over g a)) (expression_over f (expression_over g b))
+  two op a b h p q = ap₂ op (p (front (scalars_in (expression_over g a)) (scalars_in (expression_over g b)) (arrays_in (expression_over g a))
+      (arrays_in (expression_over g b)) h))
+      (q (back (scalars_in (expression_over g a)) (scalars_in (expression_over g b)) (arrays_in (expression_over g a)) (arrays_in (expression_over g b)) h))
 
-  term : (e : Term (List ℕ)) → Turns e
-  term (Number n) h = refl
-  term (Variable x) h = ap (λ (y : ℕ). Variable y) (as_scalar x (and_first (S (g x)) true h.0))
-  term (Read x i) h = ap₂ (λ (y : ℕ) (j : Term ℕ). Read y j) (as_array x (and_first (A (g x)) (list_all A (arrays_in (term_over g i))) h.1))
-      (term i (h.0, and_second (A (g x)) (list_all A (arrays_in (term_over g i))) h.1))
-  term (Sum a b) h = two (λ x y. Sum x y) a b h (term a) (term b)
-  term (Difference a b) h = two (λ x y. Difference x y) a b h (term a) (term b)
-  term (Product a b) h = two (λ x y. Product x y) a b h (term a) (term b)
-  term (Quotient a b) h = two (λ x y. Quotient x y) a b h (term a) (term b)
-  term (Remainder a b) h = two (λ x y. Remainder x y) a b h (term a) (term b)
-  term (Negative a) h = ap (λ (x : Term ℕ). Negative x) (term a h)
+  expression : (e : Expression (List ℕ)) → Turns e
+  expression (Number n) h = refl
+  expression (Variable x) h = ap (λ (y : ℕ). Variable y) (as_scalar x (and_first (S (g x)) true h.0))
+  expression (Read x i) h = ap₂ (λ (y : ℕ) (j : Expression ℕ). Read y j) (as_array x (and_first (A (g x)) (list_all A (arrays_in (expression_over g i))) h.1))
+      (expression i (h.0, and_second (A (g x)) (list_all A (arrays_in (expression_over g i))) h.1))
+  expression (Sum a b) h = two (λ x y. Sum x y) a b h (expression a) (expression b)
+  expression (Difference a b) h = two (λ x y. Difference x y) a b h (expression a) (expression b)
+  expression (Product a b) h = two (λ x y. Product x y) a b h (expression a) (expression b)
+  expression (Quotient a b) h = two (λ x y. Quotient x y) a b h (expression a) (expression b)
+  expression (Remainder a b) h = two (λ x y. Remainder x y) a b h (expression a) (expression b)
+  expression (Negative a) h = ap (λ (x : Expression ℕ). Negative x) (expression a h)
 
   guard : (c : Guard (List ℕ)) → Fine (scalars_in_guard (guard_over g c)) (arrays_in_guard (guard_over g c))
       → guard_over g' (guard_over r c) ≡ guard_over f (guard_over g c)
   guard (Test l) h =
-      let i = front (scalars_in (term_over g l.left)) (scalars_in (term_over g l.right)) (arrays_in (term_over g l.left)) (arrays_in (term_over g l.right)) h in
-      let j = back (scalars_in (term_over g l.left)) (scalars_in (term_over g l.right)) (arrays_in (term_over g l.left)) (arrays_in (term_over g l.right)) h in
-      ap₂ (λ (x y : Term ℕ). Test (record { relation = l.relation; left = x; right = y })) (term l.left i) (term l.right j)
+      let i = front (scalars_in (expression_over g l.left)) (scalars_in (expression_over g l.right)) (arrays_in (expression_over g l.left))
+      (arrays_in (expression_over g l.right)) h in
+      let j = back (scalars_in (expression_over g l.left)) (scalars_in (expression_over g l.right)) (arrays_in (expression_over g l.left))
+      (arrays_in (expression_over g l.right)) h in
+      ap₂ (λ (x y : Expression ℕ). Test (record { relation = l.relation; left = x; right = y })) (expression l.left i) (expression l.right j)
   guard (Not c) h = ap (λ (d : Guard ℕ). Not d) (guard c h)
   guard (And c d) h =
       let i = front (scalars_in_guard (guard_over g c)) (scalars_in_guard (guard_over g d)) (arrays_in_guard (guard_over g c))
@@ -95,17 +102,21 @@ module _ (g g' : List ℕ → ℕ) (r : List ℕ → List ℕ) (f : ℕ → ℕ)
 
   assignment : (a : Assignment (List ℕ)) → Fine (scalars_in_assignment (assignment_over g a)) (arrays_in_assignment (assignment_over g a))
       → list_all P (port_in (assignment_over g a)) ≡ true → assignment_over g' (assignment_over r a) ≡ assignment_over f (assignment_over g a)
-  assignment (Assign x e) h o = ap₂ (λ (y : ℕ) (d : Term ℕ). Assign y d) (as_scalar x (and_first (S (g x)) (list_all S (scalars_in (term_over g e))) h.0))
-      (term e (and_second (S (g x)) (list_all S (scalars_in (term_over g e))) h.0, h.1))
+  assignment (Assign x e) h o = ap₂ (λ (y : ℕ) (d : Expression ℕ). Assign y d)
+      (as_scalar x (and_first (S (g x)) (list_all S (scalars_in (expression_over g e))) h.0))
+      (expression e (and_second (S (g x)) (list_all S (scalars_in (expression_over g e))) h.0, h.1))
   assignment (ArrayWrite x i e) h o =
-      let inner : Fine (scalars_in (term_over g i) ++ scalars_in (term_over g e)) (arrays_in (term_over g i) ++ arrays_in (term_over g e)) =
-      (h.0, and_second (A (g x)) (list_all A (arrays_in (term_over g i) ++ arrays_in (term_over g e))) h.1) in
-      let named = as_array x (and_first (A (g x)) (list_all A (arrays_in (term_over g i) ++ arrays_in (term_over g e))) h.1) in
-      let u = front (scalars_in (term_over g i)) (scalars_in (term_over g e)) (arrays_in (term_over g i)) (arrays_in (term_over g e)) inner in
-      let v = back (scalars_in (term_over g i)) (scalars_in (term_over g e)) (arrays_in (term_over g i)) (arrays_in (term_over g e)) inner in
-      ap (λ (y : ℕ). ArrayWrite y (term_over g' (term_over r i)) (term_over g' (term_over r e))) named
-      ∙ ap₂ (λ (j d : Term ℕ). ArrayWrite (f (g x)) j d) (term i u) (term e v)
-  assignment (Emit x e) h o = ap₂ (λ (y : ℕ) (d : Term ℕ). Emit y d) (as_port x (and_first (P (g x)) true o)) (term e h)
+      let inner : Fine (scalars_in (expression_over g i) ++ scalars_in (expression_over g e))
+      (arrays_in (expression_over g i) ++ arrays_in (expression_over g e)) =
+      (h.0, and_second (A (g x)) (list_all A (arrays_in (expression_over g i) ++ arrays_in (expression_over g e))) h.1) in
+      let named = as_array x (and_first (A (g x)) (list_all A (arrays_in (expression_over g i) ++ arrays_in (expression_over g e))) h.1) in
+      let u = front (scalars_in (expression_over g i)) (scalars_in (expression_over g e)) (arrays_in (expression_over g i)) (arrays_in (expression_over g e))
+      inner in
+      let v = back (scalars_in (expression_over g i)) (scalars_in (expression_over g e)) (arrays_in (expression_over g i)) (arrays_in (expression_over g e))
+      inner in
+      ap (λ (y : ℕ). ArrayWrite y (expression_over g' (expression_over r i)) (expression_over g' (expression_over r e))) named
+      ∙ ap₂ (λ (j d : Expression ℕ). ArrayWrite (f (g x)) j d) (expression i u) (expression e v)
+  assignment (Emit x e) h o = ap₂ (λ (y : ℕ) (d : Expression ℕ). Emit y d) (as_port x (and_first (P (g x)) true o)) (expression e h)
 
   assignments : (acts : List (Assignment (List ℕ)))
       → Fine (scalars_in_assignments (map (assignment_over g) acts)) (arrays_in_assignments (map (assignment_over g) acts))
@@ -145,15 +156,15 @@ module _ (g g' : List ℕ → ℕ) (r : List ℕ → List ℕ) (f : ℕ → ℕ)
       (lines to ls (λ m k e. h m (suc k) e))
 
   abbrev spelled_by : (List ℕ → ℕ) → (List ℕ → ℕ) → SourceState → State
-  spelled_by h to s = record { name = s.name; lines = map (λ c. transition_over h to c.content) s.lines }
+  spelled_by h to s = record { name = s.name; transitions = map (λ c. transition_over h to c.content) s.transitions }
 
   pub states : (to : List ℕ → ℕ) (ss : List SourceState)
-      → ((q : ℕ) (l : Transition ℕ ℕ) (k : ℕ) → slice_get (slice_index_or (map (spelled_by g to) ss) q (record { name = []; lines = [] })).lines k
+      → ((q : ℕ) (l : Transition ℕ ℕ) (k : ℕ) → slice_get (slice_index_or (map (spelled_by g to) ss) q (record { name = []; transitions = [] })).transitions k
       ≡ Some l → FineLine l)
       → map (spelled_by g' to) (map (state_renamed r) ss) ≡ map (state_over f) (map (spelled_by g to) ss)
   states to [] h = refl
   states to (s ∷ ss) h = ap₂ (λ (x : State) (xs : List State). x ∷ xs)
-      (ap (λ (ls : List (Transition ℕ ℕ)). record { name = s.name; lines = ls }) (lines to s.lines (h 0))) (states to ss (λ q. h (suc q)))
+      (ap (λ (ls : List (Transition ℕ ℕ)). record { name = s.name; transitions = ls }) (lines to s.transitions (h 0))) (states to ss (λ q. h (suc q)))
 
 same_states : (r : List ℕ → List ℕ) (ss : List SourceState) → state_names (map (state_renamed r) ss) ≡ state_names ss
 same_states r [] = refl

@@ -2,9 +2,9 @@
 use Rattle.std.proofs.Common.{◌≡◌, ℕ, zero, suc, ◌<◌, length, subst, List, [], ◌∷◌, ◌++◌, ap, refl, ◌∙◌, inl, inr, ◌⊎◌, true, Option, Some, None}
 use Rattle.std.specs.Prelude.{not, is_none, slice_get}
 use Rattle.std.specs.List.{slice_index_or}
-use Rattle.fs_model.specs.Terms.{Literal, Guard, Test, Not, And, Or, Assignment, Transition}
+use Rattle.fs_model.specs.Expressions.{Literal, Guard, Test, Not, And, Or, Assignment, Transition}
 use Rattle.fs_model.specs.Trees.{Tree, Empty, Leaf, Node, Branch, tree_of_guard, tree_of_condition, tree_of_transitions, leaves, branches_of, negated_literal}
-use Rattle.fs_ast.specs.SoundParts.{is_open, ends_open}
+use Rattle.fs_model.specs.SoundMachines.{is_open, ends_open}
 use Rattle.std.proofs.lemmas.Option.{slice_get_within}
 use Rattle.fs_model.proofs.Booleans.{and_first, and_second}
 use Rattle.fs_model.proofs.Lists.{slice_get-front}

@@ -20,7 +20,7 @@ use Rattle.fs_model.specs.Source.{Declaration}
 use Rattle.fs_model.specs.Stores.{Store}
 use Rattle.fs_model.specs.Runs.{Content, content, output_from, is_output, is_scalar}
 use Rattle.fs_model.specs.Runs as runs
-use Rattle.fs_ast.specs.SoundParts.{names_differ}
+use Rattle.fs_model.specs.SoundMachines.{names_differ}
 use Rattle.fs_ast.specs.MachineOfParts.{place_or_end, names_of, variables_of, declared_by}
 use Rattle.hls_bind.proofs.RegisterMachines.{Agree}
 use Rattle.hls_bind.specs.Bindings.{is_local, is_scalar_local, register, is_bound, stays, declaration_without_bound, remaining_declarations}

@@ -11,16 +11,17 @@ use Rattle.fs_model.specs.declared.parts.Role.TheVariants.{Input, Output, Local}
 use Rattle.fs_model.specs.declared.parts.Sort.{Sort}
 use Rattle.fs_model.specs.declared.parts.Sort.TheVariants.{Scalar, Array, Port}
 use Rattle.fs_model.specs.declared.parts.VarInfo.{VarInfo}
-use Rattle.fs_model.specs.Terms.{Assignment, Transition}
+use Rattle.fs_model.specs.Expressions.{Assignment, Transition}
 use Rattle.fs_model.specs.Renamed.{guard_over, transition_over}
 use Rattle.fs_model.specs.Source.{Source}
 use Rattle.fs_model.specs.Machines.{Fsmd, State, transitions_of}
 use Rattle.fs_model.specs.Runs.{is_scalar, is_array, is_port, is_input}
 use Rattle.fs_model.specs.Trees.{branches_of}
 use Rattle.fs_ast.specs.MachineOfParts.{variables_of, machine_of}
-use Rattle.fs_ast.specs.SoundParts.{IsSound, IsSoundTransition, names_differ, ends_open, has_sort, scalar_at, array_at, port_at, input_at, is_input_of}
-use Rattle.fs_ast.specs.SoundParts.{assigned_in, occurs, all_differ, scalars_in_condition, arrays_in_condition, scalars_in_assignments, arrays_in_assignments}
-use Rattle.fs_ast.specs.SoundParts.{ports_in_assignments, branch_count, first_transition_target, is_cutpoint, reaches_cutpoint}
+use Rattle.fs_model.specs.SoundMachines.{IsSound, IsSoundTransition, names_differ, ends_open, has_sort, scalar_at, array_at, port_at, input_at, is_input_of}
+use Rattle.fs_model.specs.SoundMachines.{assigned_in, occurs, all_differ, scalars_in_condition, arrays_in_condition, scalars_in_assignments}
+use Rattle.fs_model.specs.SoundMachines.{arrays_in_assignments}
+use Rattle.fs_model.specs.SoundMachines.{ports_in_assignments, branch_count, first_transition_target, is_cutpoint, reaches_cutpoint}
 use Rattle.fs_ast.specs.Rules.{IsEndless, BreaksNoRule}
 use Rattle.fs_ast.proofs.Uses.{emits_over}
 use Rattle.fs_ast.proofs.Kept.{no_state, get_mapped, not_endless}
@@ -77,7 +78,7 @@ open_over g (l ∷ []) = is_none-map (guard_over g) l.guard
 open_over g (l ∷ k ∷ ls) = ap₂ (λ (x y : Bool). not x && y) (is_none-map (guard_over g) l.guard) (open_over g (k ∷ ls))
 
 -- only a state has transitions
-state_in : (ss : List State) (q j : ℕ) (l : Transition ℕ ℕ) → slice_get (slice_index_or ss q no_state).lines j ≡ Some l → q < length ss
+state_in : (ss : List State) (q j : ℕ) (l : Transition ℕ ℕ) → slice_get (slice_index_or ss q no_state).transitions j ≡ Some l → q < length ss
 state_in [] q j l e = absurd (cc e)
 state_in (s ∷ ss) zero j l e = omega arith
 state_in (s ∷ ss) (suc q) j l e = omega (arith, state_in ss q j l e)
@@ -89,7 +90,7 @@ first_over g (l ∷ ls) = refl
 
 module _ (g : ℕ → ℕ) (a c : Fsmd) (reset : c.reset ≡ a.reset) (states : c.states ≡ map (state_over g) a.states) where
   its_lines : (q : ℕ) → transitions_of c q ≡ map (transition_over g (λ r. r)) (transitions_of a q)
-  its_lines q = ap (λ (ss : List State). (slice_index_or ss q (record { name = []; lines = [] })).lines) states ∙ lines_over g a.states q
+  its_lines q = ap (λ (ss : List State). (slice_index_or ss q (record { name = []; transitions = [] })).transitions) states ∙ lines_over g a.states q
 
   same_count : (q : ℕ) → branch_count c q ≡ branch_count a q
   same_count q = ap (λ ls. length (branches_of ls)) (its_lines q) ∙ ap length (over_branches g (transitions_of a q))

@@ -6,7 +6,7 @@ use Rattle.fs_model.specs.Source.{Source}
 use Rattle.fs_model.specs.Runs.{SameBehaviour}
 use Rattle.fs_model.specs.WellFormed.{is_well_formed}
 use Rattle.fs_ast.specs.MachineOfParts.{machine_of, variables_of}
-use Rattle.fs_ast.specs.SoundParts.{IsSound}
+use Rattle.fs_model.specs.SoundMachines.{IsSound}
 use Rattle.fs_ast.specs.Rules.{BreaksNoRule}
 use Rattle.hls_bind.specs.Bindings.{IsBindingOf, bound_parts}
 use Rattle.hls_bind.proofs.Formed.{bound_formed}

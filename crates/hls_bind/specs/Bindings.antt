@@ -73,7 +73,7 @@ abbrev pub transition_renamed : (List ℕ → List ℕ) → SourceTransition →
 transition_renamed f l = record { line = l.line; content = transition_over f (λ s. s) l.content }
 
 abbrev pub state_renamed : (List ℕ → List ℕ) → SourceState → SourceState
-state_renamed f s = record { line = s.line; name = s.name; lines = map (transition_renamed f) s.lines }
+state_renamed f s = record { line = s.line; name = s.name; transitions = map (transition_renamed f) s.transitions }
 
 -- the parts with each bound local replaced by its register; the registers are declared last, at the line of the reset state
 abbrev pub bound_parts : List (ℕ × List ℕ) → (registers : List (List ℕ)) → Source → Source

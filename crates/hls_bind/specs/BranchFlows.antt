@@ -2,7 +2,7 @@
 use Rattle.std.specs.Prelude.{ℕ, zero, suc, Bool, false, List, [], ◌++◌, map}
 use Rattle.fs_model.specs.Machines.{Fsmd, transitions_of}
 use Rattle.fs_model.specs.Trees.{Branch, branches_of}
-use Rattle.fs_ast.specs.SoundParts.{assigned_in}
+use Rattle.fs_model.specs.SoundMachines.{assigned_in}
 use Rattle.fs_variable_sets.specs.Sets.{has_variable, also_all}
 use Rattle.fs_variable_sets.specs.declared.flows.Flow.{Flow}
 use Rattle.hls_bind.specs.Liveness.{read_by}

@@ -4,7 +4,7 @@ use Rattle.std.specs.Prelude.{option_map}
 use Rattle.std.specs.Option.{option_or}
 use Rattle.std.specs.Str.{bytes_eq}
 use Rattle.fs_model.specs.Machines.{Fsmd}
-use Rattle.fs_ast.specs.SoundParts.{assigned_in, branch_count}
+use Rattle.fs_model.specs.SoundMachines.{assigned_in, branch_count}
 use Rattle.fs_cut.specs.Paths.{branch_at, target_of}
 use Rattle.fs_variable_sets.specs.declared.VariableSet.{VariableSet}
 use Rattle.fs_variable_sets.specs.Flows.{has_at}

@@ -1,7 +1,7 @@
 -- Branches that lose one of two locals with one register.
 use Rattle.std.specs.Prelude.{◌≡◌, ◌≢◌, ℕ, ◌<◌, ◌==◌, nat_lt, Bool, true, false, ◌&&◌, ◌||◌, ◌⊎◌, List, Some}
 use Rattle.fs_model.specs.Machines.{Fsmd}
-use Rattle.fs_ast.specs.SoundParts.{branch_count}
+use Rattle.fs_model.specs.SoundMachines.{branch_count}
 use Rattle.fs_cut.specs.Paths.{branch_at, target_of}
 use Rattle.hls_bind.specs.Liveness.{writes, IsLive}
 use Rattle.hls_bind.specs.Bindings.{register}

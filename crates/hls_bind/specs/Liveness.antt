@@ -1,11 +1,11 @@
 -- What branches read and write, and what is live at a state.
 use Rattle.std.specs.Prelude.{◌≡◌, ◌≢◌, ℕ, ◌<◌, Bool, true, false, List, [], ◌∷◌, ◌++◌}
 use Rattle.std.specs.List.{flat_map}
-use Rattle.fs_model.specs.Terms.{Assignment, Assign, ArrayWrite, Emit}
+use Rattle.fs_model.specs.Expressions.{Assignment, Assign, ArrayWrite, Emit}
 use Rattle.fs_model.specs.Machines.{Fsmd}
 use Rattle.fs_model.specs.Trees.{Branch}
 use Rattle.fs_model.specs.PartFolds.{scalars, uses_in_literal}
-use Rattle.fs_ast.specs.SoundParts.{scalars_in, assigned_in, occurs, branch_count}
+use Rattle.fs_model.specs.SoundMachines.{scalars_in, assigned_in, occurs, branch_count}
 use Rattle.fs_cut.specs.Paths.{branch_at, target_of}
 
 -- the scalars that an assignment reads: in its right side, its index or what it emits

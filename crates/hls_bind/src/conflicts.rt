@@ -3,7 +3,7 @@
 ghost use Rattle.std.specs.Prelude.{◌≡◌, ◌<◌, ◌==◌, false, cond, length, map, None, IfOk};
 ghost use Rattle.std.specs.Option.{option_map};
 ghost use Rattle.fs_model.specs.View.{branch_of};
-ghost use Rattle.fs_ast.specs.SoundParts.{branch_count};
+ghost use Rattle.fs_model.specs.SoundMachines.{branch_count};
 ghost use Rattle.fs_cut.specs.Paths.{branch_at};
 ghost use Rattle.fs_variable_sets.specs.Sets.{has_variable};
 ghost use Rattle.fs_variable_sets.specs.Flows.{has_at};

@@ -3,9 +3,9 @@
 ghost use Rattle.std.specs.Prelude.{◌≡◌, ◌++◌, length, map, IfOk};
 ghost use Rattle.std.specs.List.{flat_map};
 ghost use Rattle.std.specs.Result.{OnOk};
-ghost use Rattle.fs_model.specs.View.{term_of, literal_of, shared_literal_of, assignment_of, branch_of};
+ghost use Rattle.fs_model.specs.View.{expression_of, literal_of, shared_literal_of, assignment_of, branch_of};
 ghost use Rattle.fs_model.specs.PartFolds.{scalars, uses_in_literal};
-ghost use Rattle.fs_ast.specs.SoundParts.{scalars_in, assigned_in};
+ghost use Rattle.fs_model.specs.SoundMachines.{scalars_in, assigned_in};
 ghost use Rattle.fs_variable_sets.specs.Sets.{has_variable, also_all};
 ghost use Rattle.hls_bind.specs.Liveness.{read_by_assignment};
 ghost use Rattle.hls_bind.specs.BranchFlows.{has_below_128, transfer_of, transfer_by, transfers_below};
@@ -22,7 +22,7 @@ use std::rc::Rc;
 // A set and the scalars that an expression reads.
 #[tactic(auto, using(fs_variable_sets::proofs::Members::also_joined))]
 fn with_read(set: VariableSet, expr: &Expr<VarId>) -> VariableSet
-    ensures { has_variable result ≡ also_all (scalars_in (term_of expr.now)) (has_variable set) }
+    ensures { has_variable result ≡ also_all (scalars_in (expression_of expr.now)) (has_variable set) }
 {
     match expr {
         Expr::Num(_) => set,

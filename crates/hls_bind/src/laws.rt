@@ -5,7 +5,7 @@ ghost use Rattle.fs_model.specs.Source.{Source};
 ghost use Rattle.fs_model.specs.Machines.{Fsmd};
 ghost use Rattle.fs_model.specs.WellFormed.{is_well_formed};
 ghost use Rattle.fs_model.specs.Runs.{SameBehaviour};
-ghost use Rattle.fs_ast.specs.SoundParts.{IsSound, branch_count};
+ghost use Rattle.fs_model.specs.SoundMachines.{IsSound, branch_count};
 ghost use Rattle.fs_cut.specs.Paths.{branch_at, target_of};
 ghost use Rattle.fs_ast.specs.Rules.{BreaksNoRule};
 ghost use Rattle.fs_ast.specs.MachineOfParts.{machine_of, variables_of};

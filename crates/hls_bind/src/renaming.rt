@@ -76,7 +76,11 @@ fn renamed_condition(
     }
 }
 
-fn renamed_line(alloc: Global, registers: &Registers, line: &RawLine) -> Result<RawLine, NoMemory>
+fn renamed_transition(
+    alloc: Global,
+    registers: &Registers,
+    line: &RawLine,
+) -> Result<RawLine, NoMemory>
     ensures { IfOk result
         (λ l. source_transition_of l ≡ transition_renamed (name_for registers.now) (source_transition_of line.now)) }
 {
@@ -90,7 +94,7 @@ fn renamed_line(alloc: Global, registers: &Registers, line: &RawLine) -> Result<
     })
 }
 
-fn renamed_lines(
+fn renamed_transitions(
     alloc: Global,
     registers: &Registers,
     lines: &[RawLine],
@@ -101,7 +105,7 @@ fn renamed_lines(
 {
     let mut out = Vec::new(alloc);
     for line in lines {
-        push_made(&mut out, renamed_line(alloc, registers, line))?;
+        push_made(&mut out, renamed_transition(alloc, registers, line))?;
     }
     Ok(out)
 }
@@ -114,7 +118,7 @@ fn renamed_state(
     ensures { IfOk result (λ s. source_state_of s ≡ state_renamed (name_for registers.now) (source_state_of state.now)) }
 {
     let name = state.name.try_clone(alloc)?;
-    let lines = renamed_lines(alloc, registers, &state.lines)?;
+    let lines = renamed_transitions(alloc, registers, &state.lines)?;
     Ok(RawState {
         line: state.line,
         name,

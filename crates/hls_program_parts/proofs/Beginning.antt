@@ -2,8 +2,8 @@
 use Rattle.std.proofs.Common.{◌≡◌, ℕ, List, [], ◌∷◌, ◌++◌, Some, None, refl, sym, ap, subst, ◌∙◌, append_assoc}
 use Rattle.std.specs.Prelude.{pos}
 use Rattle.std.proofs.lemmas.List.{append-nil}
-use Rattle.fs_model.specs.Terms.{Assignment}
-use Rattle.fs_model.specs.Terms as terms
+use Rattle.fs_model.specs.Expressions.{Assignment}
+use Rattle.fs_model.specs.Expressions as expressions
 use Rattle.fs_model.specs.Source.{Declaration}
 use Rattle.fs_grammar.specs.declared.format.Format.TheVariants.{One}
 use Rattle.fs_grammar.specs.declared.token.TokenKind.TheVariants.{Prog, If as IfWord, While as WhileWord, Declare, Name, Number, Semicolon, Equals, OpenBracket}
@@ -28,7 +28,7 @@ use Rattle.hls_program_parts.specs.ProgramSpelling.{first_line, IsStatement, ass
 use Rattle.hls_program_parts.specs.ProgramBeginnings.{BeginsProgram}
 use Rattle.hls_program_parts.proofs.Walks.{walk, walk_append}
 use Rattle.hls_program_parts.proofs.Complete.{complete}
-use Rattle.hls_program_parts.proofs.Reached.{IsHead, IsWithin, expression_of, BeforeHole, LeadsDeclaring, Reached}
+use Rattle.hls_program_parts.proofs.Reached.{IsHead, IsWithin, kind_of_hole, BeforeHole, LeadsDeclaring, Reached}
 use Rattle.hls_program_parts.proofs.Sound.{behind_word, within_more, choice_within, block_closed, opened_within, keeps, reached}
 
 pub front : (a b : List Word) → BeginsProgram (a ++ b) → BeginsProgram a
@@ -71,7 +71,7 @@ empty_block : IsBlock End empty
 empty_block = block 0 0 no_statements
 
 -- the sum 0
-zero_sum : IsSum (terms.Number (pos 0)) (at 0 (Number (pos 0)) ∷ [])
+zero_sum : IsSum (expressions.Number (pos 0)) (at 0 (Number (pos 0)) ∷ [])
 zero_sum = product (factor (number 0 (pos 0)))
 
 -- ---- what can be made whole
@@ -97,7 +97,7 @@ assigned_begins o b a h x u p v m q ws e = stated o b a h (Do (first_line u) x E
 placed_begins : (o : Open) (b : Named) (a : List Word) → IsWithin o b a → (d : Destination) (c : List Word) → IsDestination d c → (ws : List Word) → ws ≡ a ++ c
     → BeginsProgram ws
 placed_begins o b a h d c p ws e =
-    assigned_begins o b a h (destination_assignment d (terms.Number (pos 0))) (c ++ (at 0 Equals ∷ at 0 (Number (pos 0)) ∷ []))
+    assigned_begins o b a h (destination_assignment d (expressions.Number (pos 0))) (c ++ (at 0 Equals ∷ at 0 (Number (pos 0)) ∷ []))
     (assign One 0 p zero_sum) c (at 0 Equals ∷ at 0 (Number (pos 0)) ∷ at 0 Semicolon ∷ [])
     (append_assoc c (at 0 Equals ∷ at 0 (Number (pos 0)) ∷ []) (at 0 Semicolon ∷ [])) ws e
 
@@ -114,7 +114,7 @@ indexed o b a h n k x c m s ws e =
     let all : a ++ d ≡ ws ++ (m ++ at 0 CloseBracket ∷ []) = rw e (simp append_assoc) in
     front_as ws (m ++ at 0 CloseBracket ∷ []) (a ++ d) all (placed_begins o b a h (element x s.0) d (element_at n k 0 x s.1) (a ++ d) refl)
 
-hole_begins : (h : Hole) (v c m ws : List Word) → BeforeHole h v → rules.SpellsWhole (rule_of (expression_of h)) (c ++ m) → ws ≡ v ++ c → BeginsProgram ws
+hole_begins : (h : Hole) (v c m ws : List Word) → BeforeHole h v → rules.SpellsWhole (rule_of (kind_of_hole h)) (c ++ m) → ws ≡ v ++ c → BeginsProgram ws
 hole_begins (for_if o b n) v c m ws f s e = chosen o b f.a f.front n c m s ws (behind_word (at n IfWord) v c ws f e)
 hole_begins (for_while o b n) v c m ws f s e = repeated o b f.a f.front n c m s ws (behind_word (at n WhileWord) v c ws f e)
 hole_begins (for_index o b n x) v c m ws f s e = indexed o b f.a f.front n f.back.n x c m s ws (rw (e, f.is, f.back.is, f.back.front) (simp append_assoc))
@@ -159,7 +159,7 @@ begins (after_name o b n x) ws h = placed_begins o b h.a h.front (scalar x) h.b
     (subst (λ (l : List Word). IsDestination (scalar x) l) (sym h.back) (scalar_name n x)) ws h.is
 begins (at_equals o b n d) ws h = placed_begins o b h.a h.front d h.b h.back.spelled ws h.is
 begins (inside h i) ws k =
-    let m = completed (rule_of (expression_of h)) k.b (expression_begins (expression_of h) k.b i k.back) in
+    let m = completed (rule_of (kind_of_hole h)) k.b (expression_begins (kind_of_hole h) k.b i k.back) in
     hole_begins h k.a k.b m.0 ws k.front m.1 k.is
 begins (after h w) ws k = absurd k
 begins (after_yes o b n g y) ws h = closing o (join_blocks b (If n g y End End)) ws (choice_within o b n g y ws h)

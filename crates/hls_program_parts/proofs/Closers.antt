@@ -1,10 +1,10 @@
 -- A sum or a guard that may end does not go on with the token that ends it in a program.
 use Rattle.std.proofs.Common.{◌≡◌, List, ℕ, Some, None, refl, ◌∙◌}
 use Rattle.fs_model.specs.declared.parts.Rel.{Rel}
-use Rattle.fs_model.specs.Terms.{Term, Variable, Negative, Guard, Test, Not, And, Or}
+use Rattle.fs_model.specs.Expressions.{Expression, Variable, Negative, Guard, Test, Not, And, Or}
 use Rattle.fs_grammar.specs.declared.token.TokenKind.{TokenKind}
 use Rattle.fs_grammar.specs.declared.token.TokenKind.TheVariants.{OpenBrace, CloseBracket, Semicolon}
-use Rattle.fs_expression_text.specs.TermOperators.{product_term, sum_term}
+use Rattle.fs_expression_text.specs.ExpressionOperators.{product_expression, sum_expression}
 use Rattle.fs_expression_text.specs.Inside.{UnitContext, ConjunctionContext, GuardContext, FactorContext, ProductContext, SumContext, Inside, negates}
 use Rattle.fs_expression_text.specs.Inside.{first_of_all, and_after, first_of_any, or_after, braces, guard_alone, first_factor, next_factor, negative}
 use Rattle.fs_expression_text.specs.Inside.{first_product, next_product, parens, index, left, right, sum_alone, at_unit, after_conjunction, after_guard}
@@ -17,10 +17,10 @@ use Rattle.fs_expression_text.specs.Inside.{ends_sum, ends_product, ends_multipl
 pub record Closes (t : TokenKind) : Type 0 where
   pub guard : (g : Guard (List ℕ)) → step_guard t g guard_alone ≡ None
   pub conjunction : (c : Guard (List ℕ)) (k : ConjunctionContext) → step_conjunction t c k ≡ step_guarded t (conjunction_done c k)
-  pub closed : (s : Term (List ℕ)) → step_closed t s sum_alone ≡ None
-  pub literal : (r : Rel) (l s : Term (List ℕ)) (k : UnitContext) → step_closed t s (right r l k) ≡ step_joined t (literal_done r l s k)
-  pub sum : (s : Term (List ℕ)) (k : SumContext) → step_sum t s k ≡ step_closed t s k
-  pub product : (p : Term (List ℕ)) (k : ProductContext) → step_product t p k ≡ step_summed t (product_done p k)
+  pub closed : (s : Expression (List ℕ)) → step_closed t s sum_alone ≡ None
+  pub literal : (r : Rel) (l s : Expression (List ℕ)) (k : UnitContext) → step_closed t s (right r l k) ≡ step_joined t (literal_done r l s k)
+  pub sum : (s : Expression (List ℕ)) (k : SumContext) → step_sum t s k ≡ step_closed t s k
+  pub product : (p : Expression (List ℕ)) (k : ProductContext) → step_product t p k ≡ step_summed t (product_done p k)
   pub name : (x : List ℕ) (k : FactorContext) → step_name t x k ≡ step_multiplied t (factor_done (Variable x) k)
 
 pub brace_closes : Closes OpenBrace
@@ -71,21 +71,21 @@ joined_closes t h u (negates k) w e = joined_closes t h (Not u) k w e
 joined_closes t h u (first_of_all k) w e = conjunction_closes t h u k w e
 joined_closes t h u (and_after c k) w e = conjunction_closes t h (And c u) k w e
 
-sum_closes : (t : TokenKind) → Closes t → (s : Term (List ℕ)) (k : SumContext) (w : Whole) → ends_sum s k ≡ Some w → step_sum t s k ≡ None
+sum_closes : (t : TokenKind) → Closes t → (s : Expression (List ℕ)) (k : SumContext) (w : Whole) → ends_sum s k ≡ Some w → step_sum t s k ≡ None
 sum_closes t h s sum_alone w e = h.sum s sum_alone ∙ h.closed s
 sum_closes t h s (right r l k) w e = h.sum s (right r l k) ∙ h.literal r l s k ∙ joined_closes t h (Test (record { relation = r; left = l; right = s })) k w e
 sum_closes t h s (parens k) w e = absurd cc
 sum_closes t h s (index x k) w e = absurd cc
 sum_closes t h s (left k) w e = absurd cc
 
-product_closes : (t : TokenKind) → Closes t → (p : Term (List ℕ)) (k : ProductContext) (w : Whole) → ends_product p k ≡ Some w → step_product t p k ≡ None
+product_closes : (t : TokenKind) → Closes t → (p : Expression (List ℕ)) (k : ProductContext) (w : Whole) → ends_product p k ≡ Some w → step_product t p k ≡ None
 product_closes t h p (first_product k) w e = h.product p (first_product k) ∙ sum_closes t h p k w e
-product_closes t h p (next_product o s k) w e = h.product p (next_product o s k) ∙ sum_closes t h (sum_term o s p) k w e
+product_closes t h p (next_product o s k) w e = h.product p (next_product o s k) ∙ sum_closes t h (sum_expression o s p) k w e
 
-multiplied_closes : (t : TokenKind) → Closes t → (f : Term (List ℕ)) (k : FactorContext) (w : Whole) → ends_multiplied (factor_done f k) ≡ Some w
+multiplied_closes : (t : TokenKind) → Closes t → (f : Expression (List ℕ)) (k : FactorContext) (w : Whole) → ends_multiplied (factor_done f k) ≡ Some w
     → step_multiplied t (factor_done f k) ≡ None
 multiplied_closes t h f (first_factor k) w e = product_closes t h f k w e
-multiplied_closes t h f (next_factor o p k) w e = product_closes t h (product_term o p f) k w e
+multiplied_closes t h f (next_factor o p k) w e = product_closes t h (product_expression o p f) k w e
 multiplied_closes t h f (negative k) w e = multiplied_closes t h (Negative f) k w e
 
 -- what may end does not go on

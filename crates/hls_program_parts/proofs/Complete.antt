@@ -3,7 +3,7 @@ use Rattle.std.proofs.Common.{◌≡◌, ℕ, List, [], ◌∷◌, ◌++◌, Opt
 use Rattle.std.proofs.lemmas.List.{append-nil}
 use Rattle.fs_model.specs.declared.parts.Role.{Role}
 use Rattle.fs_model.specs.declared.parts.Sort.{Sort}
-use Rattle.fs_model.specs.Terms.{Guard, Assignment}
+use Rattle.fs_model.specs.Expressions.{Guard, Assignment}
 use Rattle.fs_model.specs.Source.{Declaration}
 use Rattle.fs_grammar.specs.declared.format.Format.TheVariants.{One}
 use Rattle.fs_grammar.specs.declared.token.TokenKind.{TokenKind}
@@ -15,7 +15,7 @@ use Rattle.fs_grammar.specs.Spelling.{IsDeclaration, declaration, AreDeclaration
 use Rattle.fs_grammar.specs.WordWalks.{and_then}
 use Rattle.fs_expression_text.specs.Inside.{Inside, Whole, whole_sum, whole_guard, whole_at, at_sum, at_guard, sum_alone, guard_alone}
 use Rattle.fs_expression_text.specs.Inside as inner
-use Rattle.fs_phrase_text.specs.Expressions.{Expression, a_sum, a_guard, expression_start, SpellsExpression}
+use Rattle.fs_phrase_text.specs.Expressions.{ExpressionKind, a_sum, a_guard, expression_start, SpellsExpression}
 use Rattle.fs_phrase_text.proofs.SoundExpressions.{walk as walk_inside}
 use Rattle.fs_phrase_text.proofs.CompleteExpressions.{complete as complete_expression}
 use Rattle.fs_phrase_text.specs.Declaring.{Lead}
@@ -64,14 +64,14 @@ inside_walks h [] rest i j e =
     rw same refl
 inside_walks h (at n t ∷ c) rest i j e = inside_next h t c rest j (inner.expression_step i t) (whole_at i) (λ m. inside_walks h c rest m j) e
 
-ended_at : (h : Hole) (e : Expression) (w : Whole) (c rest : List Word) (n : ℕ) (t : TokenKind) → Closes t → (o : Option Inside)
+ended_at : (h : Hole) (e : ExpressionKind) (w : Whole) (c rest : List Word) (n : ℕ) (t : TokenKind) → Closes t → (o : Option Inside)
     → walk_inside c (expression_start e) ≡ o → and_then o whole_at ≡ Some w
     → walk (c ++ at n t ∷ rest) (inside h (expression_start e)) ≡ walk (at n t ∷ rest) (after h w)
 ended_at h e w c rest n t k None q g = absurd cc
 ended_at h e w c rest n t k (Some i) q g = inside_walks h c (at n t ∷ rest) (expression_start e) i q ∙ rw (ends_here t k i w g, g) refl
 
 -- a whole sum or guard leads behind it, where the next word ends it
-pub hole_walks : (h : Hole) (e : Expression) (w : Whole) (c rest : List Word) (n : ℕ) (t : TokenKind) → Closes t → SpellsExpression e w c
+pub hole_walks : (h : Hole) (e : ExpressionKind) (w : Whole) (c rest : List Word) (n : ℕ) (t : TokenKind) → Closes t → SpellsExpression e w c
     → walk (c ++ at n t ∷ rest) (inside h (expression_start e)) ≡ walk (at n t ∷ rest) (after h w)
 hole_walks h e w c rest n t k s = ended_at h e w c rest n t k (walk_inside c (expression_start e)) refl (complete_expression e w c s)
 

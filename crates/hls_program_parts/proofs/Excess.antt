@@ -3,7 +3,7 @@ use Rattle.std.proofs.Common.{◌≡◌, ℕ, ◌≤◌, List, [], ◌∷◌, �
 use Rattle.std.specs.Prelude.{Bool, true, false, nat_le, pos, IfSome, IsTrue}
 use Rattle.std.proofs.lemmas.Bool.{leb-true, and_parts}
 use Rattle.fs_model.proofs.Booleans.{true_and_false}
-use Rattle.fs_model.specs.Terms as terms
+use Rattle.fs_model.specs.Expressions as expressions
 use Rattle.fs_model.specs.Source.{Declaration}
 use Rattle.fs_grammar.specs.declared.format.Format.TheVariants.{One}
 use Rattle.fs_grammar.specs.declared.token.TokenKind.{TokenKind}
@@ -29,7 +29,7 @@ use Rattle.hls_program_parts.specs.ProgramGrammar.{after_yes, at_no, at_end, ste
 use Rattle.hls_program_parts.specs.ProgramBeginnings.{IsInProgramExpression, in_choice, in_repetition, in_assignment}
 use Rattle.hls_program_parts.specs.ProgramLimits.{IsOneTooManyInProgram}
 use Rattle.hls_program_parts.proofs.Walks.{walk}
-use Rattle.hls_program_parts.proofs.Reached.{IsHead, IsWithin, IsChoice, Follows, expression_of, BeforeHole, LeadsInside, Reached}
+use Rattle.hls_program_parts.proofs.Reached.{IsHead, IsWithin, IsChoice, Follows, kind_of_hole, BeforeHole, LeadsInside, Reached}
 use Rattle.hls_program_parts.proofs.Sound.{behind_word, leads_on, reached}
 use Rattle.hls_program_parts.proofs.Tallies.{unit_behind, count_behind, unit_append, guard_unit, operator_counted, declarations_unit, else_unit, InPart}
 use Rattle.hls_program_parts.proofs.Tallies.{part_counts}
@@ -44,10 +44,10 @@ record GoesOnWith (ws : List Word) (w : Word) : Type 0 where
 -- ---- inside a sum or a guard
 
 -- the sum 0
-zero_sum : IsSum (terms.Number (pos 0)) (at 0 (Number (pos 0)) ∷ [])
+zero_sum : IsSum (expressions.Number (pos 0)) (at 0 (Number (pos 0)) ∷ [])
 zero_sum = product (factor (number 0 (pos 0)))
 
-hole_goes : (h : Hole) (w : Word) (v c m ws : List Word) → BeforeHole h v → rules.SpellsWhole (rule_of (expression_of h)) (c ++ (w ∷ m)) → ws ≡ v ++ c
+hole_goes : (h : Hole) (w : Word) (v c m ws : List Word) → BeforeHole h v → rules.SpellsWhole (rule_of (kind_of_hole h)) (c ++ (w ∷ m)) → ws ≡ v ++ c
     → GoesOnWith ws w
 hole_goes (for_if o b n) w v c m ws f s e = record {
   part = c;
@@ -75,7 +75,8 @@ hole_goes (for_index o b n x) w v c m ws f s e =
       expression = subst (λ (l : List Word). IsInProgramExpression l part (w ∷ behind)) (sym all)
           (in_assignment (depth_of o) (in_block o b f.a f.front)
           (subst
-          (λ (l : List Word). IsAssignment One (destination_assignment (element x s.0) (terms.Number (pos 0))) (at n (Name x) ∷ at f.back.n OpenBracket ∷ l))
+          (λ (l : List Word). IsAssignment One (destination_assignment (element x s.0) (expressions.Number (pos 0)))
+          (at n (Name x) ∷ at f.back.n OpenBracket ∷ l))
           words spelled));
     }
 hole_goes (for_value o b n d) w v c m ws f s e =
@@ -93,19 +94,19 @@ hole_goes (for_value o b n d) w v c m ws f s e =
 went_on : (h : Hole) (i j : Inside) (n : ℕ) (t : TokenKind) (ws : List Word) → Cut (BeforeHole h) (LeadsInside h i) ws → inner.expression_step i t ≡ Some j
     → GoesOnWith ws (at n t)
 went_on h i j n t ws k e =
-    let m = completed (rule_of (expression_of h)) (k.b ++ at n t ∷ [])
-    (expression_begins (expression_of h) (k.b ++ at n t ∷ []) j (leads_on h i j n t k.b k.back e)) in
+    let m = completed (rule_of (kind_of_hole h)) (k.b ++ at n t ∷ [])
+    (expression_begins (kind_of_hole h) (k.b ++ at n t ∷ []) j (leads_on h i j n t k.b k.back e)) in
     hole_goes h (at n t) k.a k.b m.0 ws k.front
-    (subst (λ (l : List Word). rules.SpellsWhole (rule_of (expression_of h)) l) (append_assoc k.b (at n t ∷ []) m.0) m.1) k.is
+    (subst (λ (l : List Word). rules.SpellsWhole (rule_of (kind_of_hole h)) l) (append_assoc k.b (at n t ∷ []) m.0) m.1) k.is
 
 -- ---- no brace of a block is counted
 
-guard_brace : (a c ws : List Word) (m : ℕ) (t : TokenKind) (g : terms.Guard (List ℕ)) → ((u : Bool) → unit_behind u (at m t ∷ c) ≡ unit_behind true c)
+guard_brace : (a c ws : List Word) (m : ℕ) (t : TokenKind) (g : expressions.Guard (List ℕ)) → ((u : Bool) → unit_behind u (at m t ∷ c) ≡ unit_behind true c)
     → IsGuard g c → ws ≡ a ++ (at m t ∷ c) → IsTrue (unit_behind false ws) → ⊥
 guard_brace a c ws m t g e p q h = true_and_false (unit_behind false ws) h
     (ap (unit_behind false) q ∙ unit_append a (at m t ∷ c) false ∙ e (unit_behind false a) ∙ guard_unit g c p)
 
-after_counted : (t : TokenKind) (h : Hole) (w : Whole) (n : ℕ) (v c ws : List Word) → BeforeHole h v → SpellsExpression (expression_of h) w c → ws ≡ v ++ c
+after_counted : (t : TokenKind) (h : Hole) (w : Whole) (n : ℕ) (v c ws : List Word) → BeforeHole h v → SpellsExpression (kind_of_hole h) w c → ws ≡ v ++ c
     → IsTrue (is_counted (unit_behind false ws) t) → IfSome (step_after t h w) (λ r. GoesOnWith ws (at n t))
 after_counted OpenBrace (for_if o b m) (whole_guard g) n v c ws f s e k =
     absurd (guard_brace f.a c ws m IfWord g (λ u. refl) s (behind_word (at m IfWord) v c ws f e) k)
@@ -121,7 +122,7 @@ inside_counted : (n : ℕ) (t : TokenKind) (h : Hole) (i : Inside) (ws : List Wo
     (w : Option Whole) → inner.expression_step i t ≡ o → whole_at i ≡ w → IsTrue (is_counted (unit_behind false ws) t)
     → IfSome (step_inside o w h t) (λ r. GoesOnWith ws (at n t))
 inside_counted n t h i ws k (Some j) w e g c = went_on h i j n t ws k e
-inside_counted n t h i ws k None (Some w) e g c = after_counted t h w n k.a k.b ws k.front (sound_expression (expression_of h) k.b i w k.back g) k.is c
+inside_counted n t h i ws k None (Some w) e g c = after_counted t h w n k.a k.b ws k.front (sound_expression (kind_of_hole h) k.b i w k.back g) k.is c
 inside_counted n t h i ws k None None e g c = tt
 
 head_unit : (ds : List Declaration) (ws : List Word) → IsHead ds ws → unit_behind false ws ≡ false
@@ -156,7 +157,8 @@ index_goes : (o : Open) (b : Named) (m n : ℕ) (x : List ℕ) (a ws : List Word
 index_goes o b m n x a ws h e =
     let part : List Word = at m (Name x) ∷ [] in
     let behind : List Word = at 0 (Number (pos 0)) ∷ at 0 CloseBracket ∷ at 0 Equals ∷ at 0 (Number (pos 0)) ∷ [] in
-    let spelled : IsAssignment One (destination_assignment (element x (terms.Number (pos 0))) (terms.Number (pos 0))) (part ++ (at n OpenBracket ∷ behind)) =
+    let spelled : IsAssignment One (destination_assignment (element x (expressions.Number (pos 0))) (expressions.Number (pos 0)))
+    (part ++ (at n OpenBracket ∷ behind)) =
     assign One 0 (element_at m n 0 x zero_sum) zero_sum in
     record {
       part = part;

@@ -3,7 +3,7 @@ use Rattle.std.proofs.Common.{◌≡◌, ℕ, suc, ◌-◌, ◌<◌, List, refl,
 use Rattle.std.specs.Prelude.{◌&&◌, nat_le, max}
 use Rattle.std.proofs.lemmas.Bool.Decides.{nat_tests}
 use Rattle.fs_model.proofs.Booleans.{and_swap}
-use Rattle.fs_model.specs.Terms.{Guard}
+use Rattle.fs_model.specs.Expressions.{Guard}
 use Rattle.hls_program_parts.specs.Programs.{Block, End, Do, If, While, join_blocks}
 use Rattle.hls_program_parts.specs.WellFormedPrograms.{is_program_guard, is_program_block, depth}
 

@@ -3,7 +3,7 @@ use Rattle.std.proofs.Common.{◌≡◌, ℕ, suc, ◌+◌, ◌≤◌, ◌<◌, 
 use Rattle.std.specs.Prelude.{min}
 use Rattle.std.proofs.Math.Nat.{min-eq_left}
 use Rattle.std.proofs.lemmas.List.{nil_from_length}
-use Rattle.fs_model.specs.Terms.{Assignment, Guard, Transition}
+use Rattle.fs_model.specs.Expressions.{Assignment, Guard, Transition}
 use Rattle.hls_program_parts.specs.Programs.{Block, End, Do, If, While, join_blocks}
 use Rattle.hls_program_parts.specs.Compiled.{count, first, always, where_holds, states_of, state_name, named_state, numbered_states}
 use Rattle.fs_model.specs.Source.{SourceState}

@@ -1,7 +1,7 @@
 -- Where the states of a block stand in a machine, and how a run goes through them.
 use Rattle.std.proofs.Common.{◌≡◌, ℕ, zero, suc, ◌+◌, ◌≤◌, List, [], ◌∷◌, ap, sym, refl, ◌∙◌, subst, arith, Some, Bool, true, false}
 use Rattle.std.specs.Prelude.{◌≢◌}
-use Rattle.fs_model.specs.Terms.{Guard, Assignment, Transition}
+use Rattle.fs_model.specs.Expressions.{Guard, Assignment, Transition}
 use Rattle.fs_model.specs.Machines.{Fsmd, transitions_of}
 use Rattle.fs_model.specs.Stores.{Store}
 use Rattle.fs_model.specs.Meaning.{holds, act, act_all, transition_taken}
@@ -45,7 +45,7 @@ module _ (m : Fsmd) (at : ℕ → ℕ) where
       record {
         state = l.target;
         store = act_all l.assignments s s;
-        step = record { line = l; taken = ap (λ (k : List (Transition ℕ ℕ)). transition_taken k s) h.has ∙ taken; target = refl; store = refl };
+        step = record { transition = l; taken = ap (λ (k : List (Transition ℕ ℕ)). transition_taken k s) h.has ∙ taken; target = refl; store = refl };
         after = f.returns;
       },
     );
@@ -78,7 +78,7 @@ module _ (m : Fsmd) (at : ℕ → ℕ) where
   next_of n ls l s e zero h taken r = absurd (h.inner r.0)
   next_of n ls l s e (suc c) h taken r =
       let w = r.1 in
-      let same : w.step.line ≡ l = cc (sym w.step.taken ∙ ap (λ (k : List (Transition ℕ ℕ)). transition_taken k s) h.has ∙ taken) in
+      let same : w.step.transition ≡ l = cc (sym w.step.taken ∙ ap (λ (k : List (Transition ℕ ℕ)). transition_taken k s) h.has ∙ taken) in
       let to : w.state ≡ l.target = w.step.target ∙ ap (λ (k : Transition ℕ ℕ). k.target) same in
       let by : w.store ≡ act_all l.assignments s s = w.step.store ∙ ap (λ (k : Transition ℕ ℕ). act_all k.assignments s s) same in
       record {

@@ -6,7 +6,7 @@ use Rattle.std.specs.List.{slice_index_or}
 use Rattle.std.specs.Str.{bytes_eq}
 use Rattle.std.proofs.lemmas.Slice.Eq.{bytes_eq-Decides}
 use Rattle.std.proofs.lemmas.Fmt.{decimal_injective}
-use Rattle.fs_model.specs.Terms.{Transition}
+use Rattle.fs_model.specs.Expressions.{Transition}
 use Rattle.fs_model.specs.Machines.{Fsmd, State}
 use Rattle.fs_rules.specs.MachineOfParts.{state_names, place_or_end, transition_spelled, state_spelled}
 use Rattle.hls_program_parts.specs.Programs.{Block, End, Do, If, While, block_over}
@@ -61,7 +61,7 @@ pub no_row : Row
 no_row = (0, [])
 
 pub lines_at : (vs ss : List (List ℕ)) (j : ℕ) (xs : List Row) (i : ℕ) (d : State) → i < length xs
-    → (slice_index_or (map (state_spelled vs ss) (numbered_states j xs)) i d).lines ≡ spelled_row vs ss (slice_index_or xs i no_row)
+    → (slice_index_or (map (state_spelled vs ss) (numbered_states j xs)) i d).transitions ≡ spelled_row vs ss (slice_index_or xs i no_row)
 lines_at vs ss j [] i d h = absurd (omega arith)
 lines_at vs ss j (x ∷ xs) zero d h = refl
 lines_at vs ss j (x ∷ xs) (suc i) d h = lines_at vs ss (suc j) xs i d (omega (arith, h))

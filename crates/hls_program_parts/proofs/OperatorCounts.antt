@@ -1,8 +1,8 @@
 -- The operators that a sum, a guard or an assignment needs are among its words.
 use Rattle.std.proofs.Common.{◌≡◌, ℕ, zero, suc, ◌+◌, ◌≤◌, ◌<◌, List, [], ◌∷◌, ◌++◌, refl, ap, cond, arith}
 use Rattle.std.specs.Prelude.{Bool, true, false, ◌||◌, IsTrue}
-use Rattle.fs_model.specs.Terms.{Term, Guard, Assignment}
-use Rattle.fs_model.specs.WellFormed.{is_sum, is_product, is_and, is_or, operators_of_term, operators_of_guard, operators_of_assignment}
+use Rattle.fs_model.specs.Expressions.{Expression, Guard, Assignment}
+use Rattle.fs_model.specs.WellFormed.{is_sum, is_product, is_and, is_or, operators_of_expression, operators_of_guard, operators_of_assignment}
 use Rattle.fs_grammar.specs.declared.format.Format.TheVariants.{One}
 use Rattle.fs_grammar.specs.declared.token.TokenKind.{TokenKind}
 use Rattle.fs_grammar.specs.declared.token.TokenKind.TheVariants.{Equals, CloseParen, CloseBracket, CloseBrace, Plus, Minus, Star, Slash, Percent, AndAnd, OrOr}
@@ -19,7 +19,7 @@ count_append [] b = omega arith
 count_append (at n t ∷ a) b = omega (arith, count_append a b)
 
 mutual
-  factor_counts : (f : Term (List ℕ)) (a : List Word) → IsFactor f a → operators_of_factor f ≤ word_operator_count a
+  factor_counts : (f : Expression (List ℕ)) (a : List Word) → IsFactor f a → operators_of_factor f ≤ word_operator_count a
   factor_counts _ _ (grammar.number n i) = omega arith
   factor_counts _ _ (grammar.variable n x) = omega arith
   factor_counts _ _ (grammar.read n m k x {s} {a} d) = omega (arith, count_append a (at k CloseBracket ∷ []), sum_counts s a d)
@@ -27,13 +27,13 @@ mutual
   factor_counts _ _ (grammar.group n m {s} {a} d) =
       omega (arith, count_append a (at m CloseParen ∷ []), sum_counts s a d, at_most_one (is_sum s || is_product s))
 
-  product_counts : (p : Term (List ℕ)) (a : List Word) → IsProduct p a → operators_of_product p ≤ word_operator_count a
+  product_counts : (p : Expression (List ℕ)) (a : List Word) → IsProduct p a → operators_of_product p ≤ word_operator_count a
   product_counts _ _ (grammar.factor {f} {a} d) = omega (arith, factor_counts f a d, bracket_less-left (is_sum f) (is_product f))
   product_counts _ _ (grammar.times n {p} {f} {a} {b} d e) = omega (arith, count_append a (at n Star ∷ b), product_counts p a d, factor_counts f b e)
   product_counts _ _ (grammar.divides n {p} {f} {a} {b} d e) = omega (arith, count_append a (at n Slash ∷ b), product_counts p a d, factor_counts f b e)
   product_counts _ _ (grammar.remainder_of n {p} {f} {a} {b} d e) = omega (arith, count_append a (at n Percent ∷ b), product_counts p a d, factor_counts f b e)
 
-  sum_counts : (s : Term (List ℕ)) (a : List Word) → IsSum s a → operators_of_term s ≤ word_operator_count a
+  sum_counts : (s : Expression (List ℕ)) (a : List Word) → IsSum s a → operators_of_expression s ≤ word_operator_count a
   sum_counts _ _ (grammar.product {p} {a} d) = omega (arith, product_counts p a d)
   sum_counts _ _ (grammar.plus n {s} {p} {a} {b} d e) = omega (arith, count_append a (at n Plus ∷ b), sum_counts s a d, product_counts p b e)
   sum_counts _ _ (grammar.minus n {s} {p} {a} {b} d e) = omega (arith, count_append a (at n Minus ∷ b), sum_counts s a d, product_counts p b e)

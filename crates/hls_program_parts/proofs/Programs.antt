@@ -1,7 +1,7 @@
 -- A program and its machine do the same.
 use Rattle.std.proofs.Common.{◌≡◌, ℕ, zero, suc, ◌+◌, ◌<◌, ◌≤◌, ◌^◌, List, [], ◌∷◌, length, ap, sym, refl, ◌∙◌, subst, arith, Option, lit<}
 use Rattle.std.specs.List.{slice_index_or}
-use Rattle.fs_model.specs.Terms.{Transition}
+use Rattle.fs_model.specs.Expressions.{Transition}
 use Rattle.fs_model.specs.Machines.{Fsmd, transitions_of}
 use Rattle.fs_model.specs.Stores.{Store}
 use Rattle.fs_model.specs.Meaning.{transition_taken, act_all}
@@ -46,7 +46,7 @@ module _ (p : Program) (few : count p.body < most_states) where
       ap (λ j. place_or_end ss (state_name j)) (sym z) ∙ place_number 0 all n h (omega (arith, h, length_all, few, top))
 
   has_lines : (n : ℕ) → n < length all → transitions_of m (at n) ≡ spelled_row vs ss (slice_index_or all n no_row)
-  has_lines n h = ap (transitions_of m) (at_own n h) ∙ lines_at vs ss 0 all n (record { name = []; lines = [] }) h
+  has_lines n h = ap (transitions_of m) (at_own n h) ∙ lines_at vs ss 0 all n (record { name = []; transitions = [] }) h
 
   stands : (n : ℕ) → 1 ≤ n → n < length all → Stands m at n (spelled_row vs ss (slice_index_or all n no_row))
   stands n h i = record { inner = λ e. omega (arith, h, e, at_own n i, at_own 0 (omega arith)); has = has_lines n i }
@@ -100,7 +100,7 @@ module _ (p : Program) (few : count p.body < most_states) where
       let s = start m ins in
       let l : Transition ℕ ℕ = always (at (first (numbered_body p) 1 0)) [] in
       let w : AfterStep m m.reset s (λ q u. ReachesReset m n q u r.end) = r.goes in
-      let same : w.step.line ≡ l = cc (sym w.step.taken ∙ ap (λ (k : List (Transition ℕ ℕ)). transition_taken k s) first_lines) in
+      let same : w.step.transition ≡ l = cc (sym w.step.taken ∙ ap (λ (k : List (Transition ℕ ℕ)). transition_taken k s) first_lines) in
       let to : w.state ≡ l.target = w.step.target ∙ ap (λ (k : Transition ℕ ℕ). k.target) same in
       let by : w.store ≡ s = w.step.store ∙ ap (λ (k : Transition ℕ ℕ). act_all k.assignments s s) same in
       let rest : ReachesReset m n l.target s r.end = subst (λ (u : Store). ReachesReset m n l.target u r.end) by

@@ -1,7 +1,7 @@
 -- What has been read at each parse state.
 use Rattle.std.specs.Prelude.{◌≡◌, ℕ, Some, List, [], ◌∷◌, ◌++◌}
 use Rattle.fs_model.specs.declared.parts.Role.{Role}
-use Rattle.fs_model.specs.Terms.{Guard}
+use Rattle.fs_model.specs.Expressions.{Guard}
 use Rattle.fs_model.specs.Source.{Declaration}
 use Rattle.fs_grammar.specs.declared.format.Format.TheVariants.{One}
 use Rattle.fs_grammar.specs.declared.token.TokenKind.TheVariants.{Prog, If, Else, While, Declare, Name, Semicolon, Equals, OpenBracket, OpenBrace}
@@ -9,7 +9,7 @@ use Rattle.fs_grammar.specs.Grammar.{Destination}
 use Rattle.fs_grammar.specs.Spelling.{Word, at, IsGuard, IsDestination, AreDeclarations}
 use Rattle.fs_grammar.proofs.Reached.{Cut, Is}
 use Rattle.fs_expression_text.specs.Inside.{Inside}
-use Rattle.fs_phrase_text.specs.Expressions.{Expression, a_sum, a_guard, expression_start}
+use Rattle.fs_phrase_text.specs.Expressions.{ExpressionKind, a_sum, a_guard, expression_start}
 use Rattle.fs_phrase_text.proofs.SoundExpressions.{walk as walk_inside}
 use Rattle.fs_phrase_text.specs.Declaring.{Declaring}
 use Rattle.fs_phrase_text.specs.Declaring as declaring
@@ -71,11 +71,11 @@ pub record Follows (P : List Word → Type 0) (w : ℕ → Word) (ws : List Word
   pub is : ws ≡ a ++ w n ∷ []
 
 -- what is read in a hole
-abbrev pub expression_of : Hole → Expression
-expression_of (for_if o b n) = a_guard
-expression_of (for_while o b n) = a_guard
-expression_of (for_index o b n x) = a_sum
-expression_of (for_value o b n d) = a_sum
+abbrev pub kind_of_hole : Hole → ExpressionKind
+kind_of_hole (for_if o b n) = a_guard
+kind_of_hole (for_while o b n) = a_guard
+kind_of_hole (for_index o b n x) = a_sum
+kind_of_hole (for_value o b n d) = a_sum
 
 -- the words before a sum or a guard
 abbrev pub BeforeHole : Hole → List Word → Type 0
@@ -86,7 +86,7 @@ BeforeHole (for_value o b n d) ws = Cut (IsWithin o b) (Follows (IsDestinationAt
 
 -- words that lead to this state inside
 abbrev pub LeadsInside : Hole → Inside → List Word → Type 0
-LeadsInside h i ws = walk_inside ws (expression_start (expression_of h)) ≡ Some i
+LeadsInside h i ws = walk_inside ws (expression_start (kind_of_hole h)) ≡ Some i
 
 -- a declaration up to this state in it
 pub record LeadsDeclaring (s : Declaring) (ws : List Word) : Type 0 where

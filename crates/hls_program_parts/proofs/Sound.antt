@@ -2,7 +2,7 @@
 use Rattle.std.proofs.Common.{◌≡◌, ℕ, List, [], ◌∷◌, ◌++◌, Option, Some, None, refl, sym, ap, subst, ◌∙◌, append_assoc}
 use Rattle.std.specs.Prelude.{IfSome}
 use Rattle.std.proofs.lemmas.List.{append-nil}
-use Rattle.fs_model.specs.Terms.{Guard}
+use Rattle.fs_model.specs.Expressions.{Guard}
 use Rattle.fs_model.specs.Source.{Declaration}
 use Rattle.fs_grammar.specs.declared.format.Format.TheVariants.{One}
 use Rattle.fs_grammar.specs.declared.token.TokenKind.{TokenKind}
@@ -32,7 +32,7 @@ use Rattle.hls_program_parts.specs.ProgramSpelling.{more_statements, IsProgram, 
 use Rattle.hls_program_parts.proofs.Walks.{walk}
 use Rattle.hls_program_parts.proofs.Complete.{destination_line}
 use Rattle.hls_program_parts.proofs.Reached as before
-use Rattle.hls_program_parts.proofs.Reached.{IsHead, BeforeBlock, IsWithin, IsOpened, IsDestinationAt, IsChoice, expression_of, BeforeHole, LeadsInside}
+use Rattle.hls_program_parts.proofs.Reached.{IsHead, BeforeBlock, IsWithin, IsOpened, IsDestinationAt, IsChoice, kind_of_hole, BeforeHole, LeadsInside}
 use Rattle.hls_program_parts.proofs.Reached.{LeadsDeclaring, Reached}
 
 -- words behind one word that is known
@@ -106,7 +106,7 @@ statement_keeps n CloseBrace o b ws h = block_closed n o b ws h
 statement_keeps n _ o b ws h = tt
 
 -- a sum or a guard has been read, and its next word ends it
-after_keeps : (n : ℕ) (t : TokenKind) (h : Hole) (w : Whole) (v c ws : List Word) → BeforeHole h v → SpellsExpression (expression_of h) w c → ws ≡ v ++ c
+after_keeps : (n : ℕ) (t : TokenKind) (h : Hole) (w : Whole) (v c ws : List Word) → BeforeHole h v → SpellsExpression (kind_of_hole h) w c → ws ≡ v ++ c
     → IfSome (step_after t h w) (λ r. Reached r (ws ++ at n t ∷ []))
 after_keeps n OpenBrace (for_if o b m) (whole_guard g) v c ws f s e = record {
   n = n;
@@ -138,7 +138,7 @@ after_keeps n _ h w v c ws f s e = tt
 
 pub leads_on : (h : Hole) (i j : Inside) (n : ℕ) (t : TokenKind) (c : List Word) → LeadsInside h i c → inner.expression_step i t ≡ Some j
     → LeadsInside h j (c ++ at n t ∷ [])
-leads_on h i j n t c q e = walk_append_inside c (at n t ∷ []) (expression_start (expression_of h)) ∙ rw (q, e) refl
+leads_on h i j n t c q e = walk_append_inside c (at n t ∷ []) (expression_start (kind_of_hole h)) ∙ rw (q, e) refl
 
 inside_keeps : (n : ℕ) (t : TokenKind) (h : Hole) (i : Inside) (ws : List Word) (k : Cut (BeforeHole h) (LeadsInside h i) ws) (o : Option Inside)
     (w : Option Whole) → inner.expression_step i t ≡ o → whole_at i ≡ w → IfSome (step_inside o w h t) (λ r. Reached r (ws ++ at n t ∷ []))
@@ -149,7 +149,7 @@ inside_keeps n t h i ws k (Some j) w e g = record {
   back = leads_on h i j n t k.b k.back e;
   is = snoc ws k.a k.b (at n t) k.is;
 }
-inside_keeps n t h i ws k None (Some w) e g = after_keeps n t h w k.a k.b ws k.front (sound_expression (expression_of h) k.b i w k.back g) k.is
+inside_keeps n t h i ws k None (Some w) e g = after_keeps n t h w k.a k.b ws k.front (sound_expression (kind_of_hole h) k.b i w k.back g) k.is
 inside_keeps n t h i ws k None None e g = tt
 
 pub leads_declaring_on : (n : ℕ) (t : TokenKind) (s : Declaring) (l : Lead) (ws : List Word) (h : LeadsDeclaring s ws) → declaring.declaration_step s t ≡ Some l

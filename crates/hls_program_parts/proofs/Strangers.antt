@@ -1,11 +1,11 @@
 -- The end, and tokens that are faulty by themselves, can follow nowhere.
 use Rattle.std.proofs.Common.{◌≡◌, ℕ, List, Option, Some, None, refl, ◌∙◌}
-use Rattle.fs_model.specs.Terms.{Term, Variable, Negative, Guard, Test, Not, And, Or}
+use Rattle.fs_model.specs.Expressions.{Expression, Variable, Negative, Guard, Test, Not, And, Or}
 use Rattle.fs_grammar.specs.declared.token.Flaw.{Flaw}
 use Rattle.fs_grammar.specs.declared.token.TokenKind.{TokenKind}
 use Rattle.fs_grammar.specs.declared.token.TokenKind.TheVariants.{Bad, End}
 use Rattle.fs_grammar.specs.Faults.{IsLast}
-use Rattle.fs_expression_text.specs.TermOperators.{product_term, sum_term}
+use Rattle.fs_expression_text.specs.ExpressionOperators.{product_expression, sum_expression}
 use Rattle.fs_expression_text.specs.Inside.{UnitContext, ConjunctionContext, GuardContext, FactorContext, ProductContext, SumContext, Inside, negates}
 use Rattle.fs_expression_text.specs.Inside.{first_of_all, and_after, first_of_any, or_after, first_factor, next_factor, negative, first_product, next_product}
 use Rattle.fs_expression_text.specs.Inside.{parens, index, left, right, sum_alone, at_unit, after_conjunction, after_guard, at_factor, after_name}
@@ -23,9 +23,9 @@ record IsStrange (t : TokenKind) : Type 0 where
   factor : (k : FactorContext) → step_factor t k ≡ None
   unit : (k : UnitContext) → step_unit t k ≡ None
   guard : (g : Guard (List ℕ)) (k : GuardContext) → step_guard t g k ≡ None
-  in_parens : (s : Term (List ℕ)) (k : FactorContext) → step_closed t s (parens k) ≡ None
-  in_index : (s : Term (List ℕ)) (x : List ℕ) (k : FactorContext) → step_closed t s (index x k) ≡ None
-  on_left : (s : Term (List ℕ)) (k : UnitContext) → step_closed t s (left k) ≡ None
+  in_parens : (s : Expression (List ℕ)) (k : FactorContext) → step_closed t s (parens k) ≡ None
+  in_index : (s : Expression (List ℕ)) (x : List ℕ) (k : FactorContext) → step_closed t s (index x k) ≡ None
+  on_left : (s : Expression (List ℕ)) (k : UnitContext) → step_closed t s (left k) ≡ None
   behind : (h : Hole) (w : Whole) → step_after t h w ≡ None
 
 end_strange : IsStrange End
@@ -77,20 +77,20 @@ joined_none t h u (negates k) = joined_none t h (Not u) k
 joined_none t h u (first_of_all k) = conjunction_none t h u k
 joined_none t h u (and_after c k) = conjunction_none t h (And c u) k
 
-sum_none : (t : TokenKind) → IsStrange t → (s : Term (List ℕ)) (k : SumContext) → step_sum t s k ≡ None
+sum_none : (t : TokenKind) → IsStrange t → (s : Expression (List ℕ)) (k : SumContext) → step_sum t s k ≡ None
 sum_none t h s (parens k) = h.closes.sum s (parens k) ∙ h.in_parens s k
 sum_none t h s (index x k) = h.closes.sum s (index x k) ∙ h.in_index s x k
 sum_none t h s (left k) = h.closes.sum s (left k) ∙ h.on_left s k
 sum_none t h s (right r l k) = h.closes.sum s (right r l k) ∙ h.closes.literal r l s k ∙ joined_none t h (Test (record { relation = r; left = l; right = s })) k
 sum_none t h s sum_alone = h.closes.sum s sum_alone ∙ h.closes.closed s
 
-product_none : (t : TokenKind) → IsStrange t → (p : Term (List ℕ)) (k : ProductContext) → step_product t p k ≡ None
+product_none : (t : TokenKind) → IsStrange t → (p : Expression (List ℕ)) (k : ProductContext) → step_product t p k ≡ None
 product_none t h p (first_product k) = h.closes.product p (first_product k) ∙ sum_none t h p k
-product_none t h p (next_product o s k) = h.closes.product p (next_product o s k) ∙ sum_none t h (sum_term o s p) k
+product_none t h p (next_product o s k) = h.closes.product p (next_product o s k) ∙ sum_none t h (sum_expression o s p) k
 
-multiplied_none : (t : TokenKind) → IsStrange t → (f : Term (List ℕ)) (k : FactorContext) → step_multiplied t (factor_done f k) ≡ None
+multiplied_none : (t : TokenKind) → IsStrange t → (f : Expression (List ℕ)) (k : FactorContext) → step_multiplied t (factor_done f k) ≡ None
 multiplied_none t h f (first_factor k) = product_none t h f k
-multiplied_none t h f (next_factor o p k) = product_none t h (product_term o p f) k
+multiplied_none t h f (next_factor o p k) = product_none t h (product_expression o p f) k
 multiplied_none t h f (negative k) = multiplied_none t h (Negative f) k
 
 inside_none : (t : TokenKind) → IsStrange t → (i : Inside) → inner.expression_step i t ≡ None

@@ -1,7 +1,7 @@
 -- What the pass over the tokens has counted behind words.
 use Rattle.std.proofs.Common.{◌≡◌, ℕ, ◌+◌, List, [], ◌∷◌, ◌++◌, refl, sym, ap, subst, ◌∙◌, cond, arith}
 use Rattle.std.specs.Prelude.{Bool, true, false, ◌&&◌, nat_le}
-use Rattle.fs_model.specs.Terms.{Term, Guard, Assignment}
+use Rattle.fs_model.specs.Expressions.{Expression, Guard, Assignment}
 use Rattle.fs_model.specs.Source.{Declaration}
 use Rattle.fs_grammar.specs.declared.format.Format.TheVariants.{One}
 use Rattle.fs_grammar.specs.declared.token.TokenKind.{TokenKind}
@@ -77,7 +77,7 @@ last : (n : ℕ) (t : TokenKind) (u v : Bool) → starts_anew u t ≡ false → 
 last n t u v e q = record { calm = (e, tt); leads = q }
 
 mutual
-  factor_calm : (f : Term (List ℕ)) (a : List Word) → IsFactor f a → (u : Bool) → Calm u a false
+  factor_calm : (f : Expression (List ℕ)) (a : List Word) → IsFactor f a → (u : Bool) → Calm u a false
   factor_calm _ _ (grammar.number n i) u = last n (Number i) u false refl refl
   factor_calm _ _ (grammar.variable n x) u = last n (Name x) u false refl refl
   factor_calm _ _ (grammar.read n m k x {s} {a} d) u =
@@ -88,7 +88,7 @@ mutual
   factor_calm _ _ (grammar.group n m {s} {a} d) u = word n OpenParen u false (a ++ at m CloseParen ∷ []) refl
       (join false false false a (at m CloseParen ∷ []) (sum_calm s a d false) (last m CloseParen false false refl refl))
 
-  product_calm : (p : Term (List ℕ)) (a : List Word) → IsProduct p a → (u : Bool) → Calm u a false
+  product_calm : (p : Expression (List ℕ)) (a : List Word) → IsProduct p a → (u : Bool) → Calm u a false
   product_calm _ _ (grammar.factor {f} {a} d) u = factor_calm f a d u
   product_calm _ _ (grammar.times n {p} {f} {a} {b} d e) u = join u false false a (at n Star ∷ b) (product_calm p a d u)
       (word n Star false false b refl (factor_calm f b e false))
@@ -97,7 +97,7 @@ mutual
   product_calm _ _ (grammar.remainder_of n {p} {f} {a} {b} d e) u =
       join u false false a (at n Percent ∷ b) (product_calm p a d u) (word n Percent false false b refl (factor_calm f b e false))
 
-  sum_calm : (s : Term (List ℕ)) (a : List Word) → IsSum s a → (u : Bool) → Calm u a false
+  sum_calm : (s : Expression (List ℕ)) (a : List Word) → IsSum s a → (u : Bool) → Calm u a false
   sum_calm _ _ (grammar.product {p} {a} d) u = product_calm p a d u
   sum_calm _ _ (grammar.plus n {s} {p} {a} {b} d e) u = join u false false a (at n Plus ∷ b) (sum_calm s a d u)
       (word n Plus false false b refl (product_calm p b e false))

@@ -8,7 +8,7 @@ use Rattle.std.proofs.lemmas.List.{append-nil}
 use Rattle.std.proofs.lemmas.List.Folds.{list_all-append}
 use Rattle.fs_model.specs.declared.parts.Role.{Role}
 use Rattle.fs_model.specs.declared.parts.Sort.{Sort}
-use Rattle.fs_model.specs.Terms.{Term, Guard, Assignment}
+use Rattle.fs_model.specs.Expressions.{Expression, Guard, Assignment}
 use Rattle.fs_model.specs.Source.{Declaration}
 use Rattle.fs_model.specs.Limits.{most_operators}
 use Rattle.fs_model.specs.WellFormed.{operators_of_guard, operators_of_assignment}
@@ -27,7 +27,8 @@ use Rattle.fs_lex.specs.Scan.{operators_up_to_token as counted_by_scan, tokens_o
 use Rattle.fs_lex.specs.Kinds.{IsProper}
 use Rattle.fs_lex.proofs.Counted.{AreCounted, tokens_counted}
 use Rattle.hls_program_parts.specs.Programs.{Block, End, Do, If, While, Program}
-use Rattle.hls_program_parts.specs.WellFormedPrograms.{most_depth, is_free, is_program_term, has_program_terms, assigns_program_terms, is_program_guard}
+use Rattle.hls_program_parts.specs.WellFormedPrograms.{most_depth, is_free, is_program_expression, has_program_expressions, assigns_program_expressions}
+use Rattle.hls_program_parts.specs.WellFormedPrograms.{is_program_guard}
 use Rattle.hls_program_parts.specs.WellFormedPrograms.{is_program_assignment, is_program_declaration, depth, is_well_formed_program}
 use Rattle.hls_program_parts.proofs.Fits.{fits, fits_joined, fits_if, fits_while}
 use Rattle.hls_program_parts.specs.ProgramKeywords.{word_or_name, program_kind}
@@ -61,58 +62,59 @@ back [] b h = h
 back (w ∷ a) b h = back a b h.1
 
 mutual
-  factor_terms : (f : Term (List ℕ)) (a : List Word) → IsFactor f a → AreFit a → IsTrue (is_program_term f)
-  factor_terms _ _ (grammar.number n i) h = h.0
-  factor_terms _ _ (grammar.variable n x) h = h.0
-  factor_terms _ _ (grammar.read n m k x {s} {a} d) h = and_from (is_free x) (is_program_term s) h.0
-      (sum_terms s a d (front IsFitWord a (at k CloseBracket ∷ []) h.1.1))
-  factor_terms _ _ (grammar.negative n {f} {a} d) h = factor_terms f a d h.1
-  factor_terms _ _ (grammar.group n m {s} {a} d) h = sum_terms s a d (front IsFitWord a (at m CloseParen ∷ []) h.1)
+  factor_expressions : (f : Expression (List ℕ)) (a : List Word) → IsFactor f a → AreFit a → IsTrue (is_program_expression f)
+  factor_expressions _ _ (grammar.number n i) h = h.0
+  factor_expressions _ _ (grammar.variable n x) h = h.0
+  factor_expressions _ _ (grammar.read n m k x {s} {a} d) h = and_from (is_free x) (is_program_expression s) h.0
+      (sum_expressions s a d (front IsFitWord a (at k CloseBracket ∷ []) h.1.1))
+  factor_expressions _ _ (grammar.negative n {f} {a} d) h = factor_expressions f a d h.1
+  factor_expressions _ _ (grammar.group n m {s} {a} d) h = sum_expressions s a d (front IsFitWord a (at m CloseParen ∷ []) h.1)
 
-  product_terms : (p : Term (List ℕ)) (a : List Word) → IsProduct p a → AreFit a → IsTrue (is_program_term p)
-  product_terms _ _ (grammar.factor {f} {a} d) h = factor_terms f a d h
-  product_terms _ _ (grammar.times n {p} {f} {a} {b} d e) h = and_from (is_program_term p) (is_program_term f)
-      (product_terms p a d (front IsFitWord a (at n Star ∷ b) h)) (factor_terms f b e (back a (at n Star ∷ b) h).1)
-  product_terms _ _ (grammar.divides n {p} {f} {a} {b} d e) h =
-      and_from (is_program_term p) (is_program_term f) (product_terms p a d (front IsFitWord a (at n Slash ∷ b) h))
-      (factor_terms f b e (back a (at n Slash ∷ b) h).1)
-  product_terms _ _ (grammar.remainder_of n {p} {f} {a} {b} d e) h =
-      and_from (is_program_term p) (is_program_term f) (product_terms p a d (front IsFitWord a (at n Percent ∷ b) h))
-      (factor_terms f b e (back a (at n Percent ∷ b) h).1)
+  product_expressions : (p : Expression (List ℕ)) (a : List Word) → IsProduct p a → AreFit a → IsTrue (is_program_expression p)
+  product_expressions _ _ (grammar.factor {f} {a} d) h = factor_expressions f a d h
+  product_expressions _ _ (grammar.times n {p} {f} {a} {b} d e) h = and_from (is_program_expression p) (is_program_expression f)
+      (product_expressions p a d (front IsFitWord a (at n Star ∷ b) h)) (factor_expressions f b e (back a (at n Star ∷ b) h).1)
+  product_expressions _ _ (grammar.divides n {p} {f} {a} {b} d e) h =
+      and_from (is_program_expression p) (is_program_expression f) (product_expressions p a d (front IsFitWord a (at n Slash ∷ b) h))
+      (factor_expressions f b e (back a (at n Slash ∷ b) h).1)
+  product_expressions _ _ (grammar.remainder_of n {p} {f} {a} {b} d e) h =
+      and_from (is_program_expression p) (is_program_expression f) (product_expressions p a d (front IsFitWord a (at n Percent ∷ b) h))
+      (factor_expressions f b e (back a (at n Percent ∷ b) h).1)
 
-  sum_terms : (s : Term (List ℕ)) (a : List Word) → IsSum s a → AreFit a → IsTrue (is_program_term s)
-  sum_terms _ _ (grammar.product {p} {a} d) h = product_terms p a d h
-  sum_terms _ _ (grammar.plus n {s} {p} {a} {b} d e) h = and_from (is_program_term s) (is_program_term p)
-      (sum_terms s a d (front IsFitWord a (at n Plus ∷ b) h)) (product_terms p b e (back a (at n Plus ∷ b) h).1)
-  sum_terms _ _ (grammar.minus n {s} {p} {a} {b} d e) h = and_from (is_program_term s) (is_program_term p)
-      (sum_terms s a d (front IsFitWord a (at n Minus ∷ b) h)) (product_terms p b e (back a (at n Minus ∷ b) h).1)
+  sum_expressions : (s : Expression (List ℕ)) (a : List Word) → IsSum s a → AreFit a → IsTrue (is_program_expression s)
+  sum_expressions _ _ (grammar.product {p} {a} d) h = product_expressions p a d h
+  sum_expressions _ _ (grammar.plus n {s} {p} {a} {b} d e) h = and_from (is_program_expression s) (is_program_expression p)
+      (sum_expressions s a d (front IsFitWord a (at n Plus ∷ b) h)) (product_expressions p b e (back a (at n Plus ∷ b) h).1)
+  sum_expressions _ _ (grammar.minus n {s} {p} {a} {b} d e) h = and_from (is_program_expression s) (is_program_expression p)
+      (sum_expressions s a d (front IsFitWord a (at n Minus ∷ b) h)) (product_expressions p b e (back a (at n Minus ∷ b) h).1)
 
 mutual
-  unit_terms : (u : Guard (List ℕ)) (a : List Word) → IsUnit u a → AreFit a → IsTrue (has_program_terms u)
-  unit_terms _ _ (grammar.not n {u} {a} d) h = unit_terms u a d h.1
-  unit_terms _ _ (grammar.braces n m {g} {a} d) h = guard_terms g a d (front IsFitWord a (at m CloseBrace ∷ []) h.1)
-  unit_terms _ _ (grammar.literal n r {l} {s} {a} {b} d e) h =
-      and_from (is_program_term l) (is_program_term s) (sum_terms l a d (front IsFitWord a (at n (Relation r) ∷ b) h))
-      (sum_terms s b e (back a (at n (Relation r) ∷ b) h).1)
+  unit_expressions : (u : Guard (List ℕ)) (a : List Word) → IsUnit u a → AreFit a → IsTrue (has_program_expressions u)
+  unit_expressions _ _ (grammar.not n {u} {a} d) h = unit_expressions u a d h.1
+  unit_expressions _ _ (grammar.braces n m {g} {a} d) h = guard_expressions g a d (front IsFitWord a (at m CloseBrace ∷ []) h.1)
+  unit_expressions _ _ (grammar.literal n r {l} {s} {a} {b} d e) h =
+      and_from (is_program_expression l) (is_program_expression s) (sum_expressions l a d (front IsFitWord a (at n (Relation r) ∷ b) h))
+      (sum_expressions s b e (back a (at n (Relation r) ∷ b) h).1)
 
-  conjunction_terms : (c : Guard (List ℕ)) (a : List Word) → IsConjunction c a → AreFit a → IsTrue (has_program_terms c)
-  conjunction_terms _ _ (grammar.unit {u} {a} d) h = unit_terms u a d h
-  conjunction_terms _ _ (grammar.and n {c} {u} {a} {b} d e) h =
-      and_from (has_program_terms c) (has_program_terms u) (conjunction_terms c a d (front IsFitWord a (at n AndAnd ∷ b) h))
-      (unit_terms u b e (back a (at n AndAnd ∷ b) h).1)
+  conjunction_expressions : (c : Guard (List ℕ)) (a : List Word) → IsConjunction c a → AreFit a → IsTrue (has_program_expressions c)
+  conjunction_expressions _ _ (grammar.unit {u} {a} d) h = unit_expressions u a d h
+  conjunction_expressions _ _ (grammar.and n {c} {u} {a} {b} d e) h =
+      and_from (has_program_expressions c) (has_program_expressions u) (conjunction_expressions c a d (front IsFitWord a (at n AndAnd ∷ b) h))
+      (unit_expressions u b e (back a (at n AndAnd ∷ b) h).1)
 
-  guard_terms : (g : Guard (List ℕ)) (a : List Word) → IsGuard g a → AreFit a → IsTrue (has_program_terms g)
-  guard_terms _ _ (grammar.conjunction {c} {a} d) h = conjunction_terms c a d h
-  guard_terms _ _ (grammar.or n {g} {c} {a} {b} d e) h = and_from (has_program_terms g) (has_program_terms c)
-      (guard_terms g a d (front IsFitWord a (at n OrOr ∷ b) h)) (conjunction_terms c b e (back a (at n OrOr ∷ b) h).1)
+  guard_expressions : (g : Guard (List ℕ)) (a : List Word) → IsGuard g a → AreFit a → IsTrue (has_program_expressions g)
+  guard_expressions _ _ (grammar.conjunction {c} {a} d) h = conjunction_expressions c a d h
+  guard_expressions _ _ (grammar.or n {g} {c} {a} {b} d e) h = and_from (has_program_expressions g) (has_program_expressions c)
+      (guard_expressions g a d (front IsFitWord a (at n OrOr ∷ b) h)) (conjunction_expressions c b e (back a (at n OrOr ∷ b) h).1)
 
-assignment_terms : (x : Assignment (List ℕ)) (a : List Word) → IsAssignment One x a → AreFit a → IsTrue (assigns_program_terms x)
-assignment_terms _ _ (grammar.assign _ n {e} {b} (grammar.scalar_name m x) q) h = and_from (is_free x) (is_program_term e) h.0 (sum_terms e b q h.1.1)
-assignment_terms _ _ (grammar.assign _ n {e} {b} (grammar.element_at m j k x {s} {a} p) q) h =
+assignment_expressions : (x : Assignment (List ℕ)) (a : List Word) → IsAssignment One x a → AreFit a → IsTrue (assigns_program_expressions x)
+assignment_expressions _ _ (grammar.assign _ n {e} {b} (grammar.scalar_name m x) q) h =
+    and_from (is_free x) (is_program_expression e) h.0 (sum_expressions e b q h.1.1)
+assignment_expressions _ _ (grammar.assign _ n {e} {b} (grammar.element_at m j k x {s} {a} p) q) h =
     let i : AreFit (a ++ at k CloseBracket ∷ []) = front IsFitWord (a ++ at k CloseBracket ∷ []) (at n Equals ∷ b) h.1.1 in
-    and_from (is_free x) (is_program_term s && is_program_term e) h.0
-    (and_from (is_program_term s) (is_program_term e) (sum_terms s a p (front IsFitWord a (at k CloseBracket ∷ []) i))
-    (sum_terms e b q (back (a ++ at k CloseBracket ∷ []) (at n Equals ∷ b) h.1.1).1))
+    and_from (is_free x) (is_program_expression s && is_program_expression e) h.0
+    (and_from (is_program_expression s) (is_program_expression e) (sum_expressions s a p (front IsFitWord a (at k CloseBracket ∷ []) i))
+    (sum_expressions e b q (back (a ++ at k CloseBracket ∷ []) (at n Equals ∷ b) h.1.1).1))
 
 -- ---- declarations
 
@@ -174,7 +176,7 @@ guard_fits : (whole before : List Word) (g : Guard (List ℕ)) (a rest : List Wo
     → AreFit a → IsTrue (is_program_guard g)
 guard_fits whole before g a rest p f keep e h =
     let few : word_operator_count a ≤ 128 = expression_few whole before a rest f keep e in
-    and_from (has_program_terms g) (nat_le (operators_of_guard g) most_operators) (guard_terms g a p h)
+    and_from (has_program_expressions g) (nat_le (operators_of_guard g) most_operators) (guard_expressions g a p h)
     (le-leb (operators_of_guard g) 128 (omega (arith, few, guard_counts g a p)))
 
 assignment_fits : (whole before : List Word) (x : Assignment (List ℕ)) (a rest : List Word) → IsAssignment One x a
@@ -182,7 +184,7 @@ assignment_fits : (whole before : List Word) (x : Assignment (List ℕ)) (a rest
     → AreFit a → IsTrue (is_program_assignment x)
 assignment_fits whole before x a rest p f keep e h =
     let few : word_operator_count a ≤ 128 = expression_few whole before a rest f keep e in
-    and_from (assigns_program_terms x) (nat_le (operators_of_assignment x) most_operators) (assignment_terms x a p h)
+    and_from (assigns_program_expressions x) (nat_le (operators_of_assignment x) most_operators) (assignment_expressions x a p h)
     (le-leb (operators_of_assignment x) 128 (omega (arith, few, assignment_counts x a p)))
 
 nothing_fits : (levels : ℕ) → IsTrue (fits levels End)

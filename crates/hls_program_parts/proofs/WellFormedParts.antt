@@ -6,17 +6,19 @@ use Rattle.std.proofs.lemmas.List.Folds.{list_all-append}
 use Rattle.std.proofs.lemmas.Bool.{and_from}
 use Rattle.fs_model.proofs.Booleans.{and_first, and_second}
 use Rattle.fs_model.specs.Limits.{most_operators}
-use Rattle.fs_model.specs.Terms.{Term, Number, Variable, Read, Sum, Difference, Product, Quotient, Remainder, Negative, Guard, Test, Not, And, Or, Assignment}
-use Rattle.fs_model.specs.Terms.{Assign, ArrayWrite, Emit}
+use Rattle.fs_model.specs.Expressions.{Expression, Number, Variable, Read, Sum, Difference, Product, Quotient, Remainder, Negative, Guard, Test, Not, And, Or}
+use Rattle.fs_model.specs.Expressions.{Assignment}
+use Rattle.fs_model.specs.Expressions.{Assign, ArrayWrite, Emit}
 use Rattle.fs_model.specs.Source.{Declaration}
 use Rattle.fs_model.specs.Runs.{is_port}
-use Rattle.fs_model.specs.WellFormed.{operators_of_guard, operators_of_assignment, is_natural_term, is_natural_guard, is_natural_assignment}
+use Rattle.fs_model.specs.WellFormed.{operators_of_guard, operators_of_assignment, is_natural_expression, is_natural_guard, is_natural_assignment}
 use Rattle.fs_model.specs.WellFormed.{is_well_formed_condition, is_well_formed_assignment, is_well_formed_transition, is_well_formed_state}
 use Rattle.fs_model.specs.WellFormed.{is_well_formed_declaration}
 use Rattle.fs_model.specs.WellFormed as parts
 use Rattle.hls_program_parts.specs.Programs.{Block, End, Do, If, While, Program}
 use Rattle.hls_program_parts.specs.Compiled.{count, first, always, where_holds, states_of, state_name, numbered_states, entry_block, parts_of}
-use Rattle.hls_program_parts.specs.WellFormedPrograms.{most_depth, is_free, is_program_term, has_program_terms, assigns_program_terms, is_program_guard}
+use Rattle.hls_program_parts.specs.WellFormedPrograms.{most_depth, is_free, is_program_expression, has_program_expressions, assigns_program_expressions}
+use Rattle.hls_program_parts.specs.WellFormedPrograms.{is_program_guard}
 use Rattle.hls_program_parts.specs.WellFormedPrograms.{is_program_assignment, is_program_declaration, is_program_block, depth, is_well_formed_program}
 use Rattle.hls_program_parts.proofs.Numbers.{Row}
 
@@ -38,47 +40,51 @@ states_fine n (r ∷ rows) h = and_from (is_fine r) (list_all is_well_formed_sta
     (and_first (is_fine r) (list_all is_fine rows) h) (states_fine (suc n) rows (and_second (is_fine r) (list_all is_fine rows) h))
 
 -- both operands, where both are fit
-operands : (a b : Term (List ℕ)) → (is_program_term a && is_program_term b) ≡ true → (is_program_term a ≡ true → is_natural_term a ≡ true)
-    → (is_program_term b ≡ true → is_natural_term b ≡ true) → (is_natural_term a && is_natural_term b) ≡ true
-operands a b h f g = and_from (is_natural_term a) (is_natural_term b) (f (and_first (is_program_term a) (is_program_term b) h))
-    (g (and_second (is_program_term a) (is_program_term b) h))
+operands : (a b : Expression (List ℕ)) → (is_program_expression a && is_program_expression b) ≡ true
+    → (is_program_expression a ≡ true → is_natural_expression a ≡ true)
+    → (is_program_expression b ≡ true → is_natural_expression b ≡ true) → (is_natural_expression a && is_natural_expression b) ≡ true
+operands a b h f g = and_from (is_natural_expression a) (is_natural_expression b) (f (and_first (is_program_expression a) (is_program_expression b) h))
+    (g (and_second (is_program_expression a) (is_program_expression b) h))
 
-natural_term : (t : Term (List ℕ)) → is_program_term t ≡ true → is_natural_term t ≡ true
-natural_term (Number n) h = h
-natural_term (Variable x) h = refl
-natural_term (Read x i) h = natural_term i (and_second (is_free x) (is_program_term i) h)
-natural_term (Sum a b) h = operands a b h (natural_term a) (natural_term b)
-natural_term (Difference a b) h = operands a b h (natural_term a) (natural_term b)
-natural_term (Product a b) h = operands a b h (natural_term a) (natural_term b)
-natural_term (Quotient a b) h = operands a b h (natural_term a) (natural_term b)
-natural_term (Remainder a b) h = operands a b h (natural_term a) (natural_term b)
-natural_term (Negative a) h = natural_term a h
+natural_expression : (t : Expression (List ℕ)) → is_program_expression t ≡ true → is_natural_expression t ≡ true
+natural_expression (Number n) h = h
+natural_expression (Variable x) h = refl
+natural_expression (Read x i) h = natural_expression i (and_second (is_free x) (is_program_expression i) h)
+natural_expression (Sum a b) h = operands a b h (natural_expression a) (natural_expression b)
+natural_expression (Difference a b) h = operands a b h (natural_expression a) (natural_expression b)
+natural_expression (Product a b) h = operands a b h (natural_expression a) (natural_expression b)
+natural_expression (Quotient a b) h = operands a b h (natural_expression a) (natural_expression b)
+natural_expression (Remainder a b) h = operands a b h (natural_expression a) (natural_expression b)
+natural_expression (Negative a) h = natural_expression a h
 
-natural_guard : (g : Guard (List ℕ)) → has_program_terms g ≡ true → is_natural_guard g ≡ true
-natural_guard (Test l) h = operands l.left l.right h (natural_term l.left) (natural_term l.right)
+natural_guard : (g : Guard (List ℕ)) → has_program_expressions g ≡ true → is_natural_guard g ≡ true
+natural_guard (Test l) h = operands l.left l.right h (natural_expression l.left) (natural_expression l.right)
 natural_guard (Not g) h = natural_guard g h
-natural_guard (And a b) h = and_from (is_natural_guard a) (is_natural_guard b) (natural_guard a (and_first (has_program_terms a) (has_program_terms b) h))
-    (natural_guard b (and_second (has_program_terms a) (has_program_terms b) h))
-natural_guard (Or a b) h = and_from (is_natural_guard a) (is_natural_guard b) (natural_guard a (and_first (has_program_terms a) (has_program_terms b) h))
-    (natural_guard b (and_second (has_program_terms a) (has_program_terms b) h))
+natural_guard (And a b) h = and_from (is_natural_guard a) (is_natural_guard b)
+    (natural_guard a (and_first (has_program_expressions a) (has_program_expressions b) h))
+    (natural_guard b (and_second (has_program_expressions a) (has_program_expressions b) h))
+natural_guard (Or a b) h = and_from (is_natural_guard a) (is_natural_guard b)
+    (natural_guard a (and_first (has_program_expressions a) (has_program_expressions b) h))
+    (natural_guard b (and_second (has_program_expressions a) (has_program_expressions b) h))
 
-natural_assignment : (a : Assignment (List ℕ)) → assigns_program_terms a ≡ true → is_natural_assignment a ≡ true
-natural_assignment (Assign x e) h = natural_term e (and_second (is_free x) (is_program_term e) h)
-natural_assignment (ArrayWrite x i e) h = operands i e (and_second (is_free x) (is_program_term i && is_program_term e) h) (natural_term i) (natural_term e)
+natural_assignment : (a : Assignment (List ℕ)) → assigns_program_expressions a ≡ true → is_natural_assignment a ≡ true
+natural_assignment (Assign x e) h = natural_expression e (and_second (is_free x) (is_program_expression e) h)
+natural_assignment (ArrayWrite x i e) h =
+    operands i e (and_second (is_free x) (is_program_expression i && is_program_expression e) h) (natural_expression i) (natural_expression e)
 natural_assignment (Emit x e) h = absurd (cc h)
 
 assigned : (line : ℕ) (a : Assignment (List ℕ)) (to : List ℕ) → is_program_assignment a ≡ true → is_fine (line, always to (a ∷ []) ∷ []) ≡ true
 assigned line a to h =
     let few = nat_le (operators_of_assignment a) most_operators in
-    let w : is_well_formed_assignment a ≡ true = and_from (is_natural_assignment a) few (natural_assignment a (and_first (assigns_program_terms a) few h))
-    (and_second (assigns_program_terms a) few h) in
+    let w : is_well_formed_assignment a ≡ true = and_from (is_natural_assignment a) few (natural_assignment a (and_first (assigns_program_expressions a) few h))
+    (and_second (assigns_program_expressions a) few h) in
     and_from (is_well_formed_assignment a && true) true (and_from (is_well_formed_assignment a) true w refl) refl
 
 chosen : (line : ℕ) (g : Guard (List ℕ)) (to other : List ℕ) → is_program_guard g ≡ true → is_fine (line, where_holds g to ∷ always other [] ∷ []) ≡ true
 chosen line g to other h =
     let few = nat_le (operators_of_guard g) most_operators in
-    let w : is_well_formed_condition (Some g) ≡ true = and_from (is_natural_guard g) few (natural_guard g (and_first (has_program_terms g) few h))
-    (and_second (has_program_terms g) few h) in
+    let w : is_well_formed_condition (Some g) ≡ true = and_from (is_natural_guard g) few (natural_guard g (and_first (has_program_expressions g) few h))
+    (and_second (has_program_expressions g) few h) in
     and_from (is_well_formed_condition (Some g) && true) true (and_from (is_well_formed_condition (Some g)) true w refl) refl
 
 two : (a b : List Row) → list_all is_fine a ≡ true → list_all is_fine b ≡ true → list_all is_fine (a ++ b) ≡ true

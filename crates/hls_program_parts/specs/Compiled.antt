@@ -1,6 +1,6 @@
 -- The parts to which a program is compiled: a state for each statement, by its number in order of the text, from 1 on.
 use Rattle.std.specs.Prelude.{ℕ, suc, ◌+◌, List, [], ◌∷◌, ◌++◌, map, codes, decimal, Some, None}
-use Rattle.fs_model.specs.Terms.{Guard, Assignment, Transition}
+use Rattle.fs_model.specs.Expressions.{Guard, Assignment, Transition}
 use Rattle.fs_model.specs.Source.{SourceState, Source}
 use Rattle.hls_program_parts.specs.Programs.{Block, End, Do, If, While, Program}
 
@@ -48,7 +48,7 @@ state_name n = codes "k" ++ decimal n
 
 -- a state with its name; its transitions stand on its line
 abbrev pub named_state : ℕ → ℕ × List (Transition (List ℕ) (List ℕ)) → SourceState
-named_state n s = record { line = s.0; name = state_name n; lines = map (λ l. record { line = s.0; content = l }) s.1 }
+named_state n s = record { line = s.0; name = state_name n; transitions = map (λ l. record { line = s.0; content = l }) s.1 }
 
 -- the states with their names, of which n is the first number
 abbrev pub numbered_states : ℕ → List (ℕ × List (Transition (List ℕ) (List ℕ))) → List SourceState

@@ -1,6 +1,6 @@
 -- Words that begin a program, the blocks that are open behind them, and the guard or the assignment that they end in.
 use Rattle.std.specs.Prelude.{ℕ, suc, List, [], ◌∷◌, ◌++◌}
-use Rattle.fs_model.specs.Terms.{Guard, Assignment}
+use Rattle.fs_model.specs.Expressions.{Guard, Assignment}
 use Rattle.fs_model.specs.Source.{Declaration}
 use Rattle.fs_grammar.specs.declared.format.Format.TheVariants.{One}
 use Rattle.fs_grammar.specs.declared.token.TokenKind.TheVariants.{Prog, If, Else, While, Semicolon, OpenBrace}

@@ -1,6 +1,6 @@
 -- Reading a program token by token. A parse state is what has been read and what is still expected.
 use Rattle.std.specs.Prelude.{ℕ, suc, nat_lt, Bool, false, List, [], ◌∷◌, ◌++◌, cond, Option, Some, None, Result, Ok, Err}
-use Rattle.fs_model.specs.Terms.{Guard}
+use Rattle.fs_model.specs.Expressions.{Guard}
 use Rattle.fs_model.specs.Source.{Declaration}
 use Rattle.fs_grammar.specs.declared.fault.TextKind.TheVariants.{Operators, Nested}
 use Rattle.fs_grammar.specs.declared.fault.TextFault.{TextFault}

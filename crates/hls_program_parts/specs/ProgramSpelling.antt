@@ -1,7 +1,7 @@
 -- The grammar of programs: which words spell which parts. Their declarations, sums, guards and assignments are those of machine
 -- texts of format 1, which have no ports.
 use Rattle.std.specs.Prelude.{ℕ, List, [], ◌∷◌, ◌++◌}
-use Rattle.fs_model.specs.Terms.{Guard, Assignment}
+use Rattle.fs_model.specs.Expressions.{Guard, Assignment}
 use Rattle.fs_model.specs.Source.{Declaration}
 use Rattle.fs_grammar.specs.declared.format.Format.TheVariants.{One}
 use Rattle.fs_grammar.specs.declared.token.TokenKind.TheVariants.{Prog, Else, Semicolon, OpenBrace, CloseBrace}

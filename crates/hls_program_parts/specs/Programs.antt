@@ -1,6 +1,6 @@
 -- Programs as plain data. X tells variables apart.
 use Rattle.std.specs.Prelude.{ℕ, List}
-use Rattle.fs_model.specs.Terms.{Guard, Assignment}
+use Rattle.fs_model.specs.Expressions.{Guard, Assignment}
 use Rattle.fs_model.specs.Renamed.{guard_over, assignment_over}
 use Rattle.fs_model.specs.Source.{Declaration}
 

@@ -2,8 +2,9 @@
 use Rattle.std.specs.Prelude.{ℕ, suc, max, nat_le, Bool, true, false, not, ◌&&◌, List, [], ◌∷◌, codes, pos, int_lt}
 use Rattle.std.specs.List.{list_all, list_any}
 use Rattle.std.specs.Str.{bytes_eq}
-use Rattle.fs_model.specs.Terms.{Term, Number, Variable, Read, Sum, Difference, Product, Quotient, Remainder, Negative, Guard}
-use Rattle.fs_model.specs.Terms.{Test, Not, And, Or, Assignment, Assign, ArrayWrite, Emit}
+use Rattle.fs_model.specs.Expressions.{Expression, Number, Variable, Read, Sum, Difference, Product, Quotient, Remainder}
+use Rattle.fs_model.specs.Expressions.{Negative, Guard}
+use Rattle.fs_model.specs.Expressions.{Test, Not, And, Or, Assignment, Assign, ArrayWrite, Emit}
 use Rattle.fs_model.specs.Source.{Declaration}
 use Rattle.fs_model.specs.Runs.{is_port}
 use Rattle.fs_model.specs.Limits.{most_operators}
@@ -21,37 +22,37 @@ program_words = codes "prog" ∷ codes "if" ∷ codes "else" ∷ codes "while" �
 abbrev pub is_free : List ℕ → Bool
 is_free name = not (list_any (bytes_eq name) program_words)
 
--- no number of a term is negative, and its names are no words of programs
-abbrev pub is_program_term : Term (List ℕ) → Bool
-is_program_term (Number n) = not (int_lt n (pos 0))
-is_program_term (Variable x) = is_free x
-is_program_term (Read x i) = is_free x && is_program_term i
-is_program_term (Sum a b) = is_program_term a && is_program_term b
-is_program_term (Difference a b) = is_program_term a && is_program_term b
-is_program_term (Product a b) = is_program_term a && is_program_term b
-is_program_term (Quotient a b) = is_program_term a && is_program_term b
-is_program_term (Remainder a b) = is_program_term a && is_program_term b
-is_program_term (Negative a) = is_program_term a
+-- no number of an expression is negative, and its names are no words of programs
+abbrev pub is_program_expression : Expression (List ℕ) → Bool
+is_program_expression (Number n) = not (int_lt n (pos 0))
+is_program_expression (Variable x) = is_free x
+is_program_expression (Read x i) = is_free x && is_program_expression i
+is_program_expression (Sum a b) = is_program_expression a && is_program_expression b
+is_program_expression (Difference a b) = is_program_expression a && is_program_expression b
+is_program_expression (Product a b) = is_program_expression a && is_program_expression b
+is_program_expression (Quotient a b) = is_program_expression a && is_program_expression b
+is_program_expression (Remainder a b) = is_program_expression a && is_program_expression b
+is_program_expression (Negative a) = is_program_expression a
 
--- the same of the terms of a guard
-abbrev pub has_program_terms : Guard (List ℕ) → Bool
-has_program_terms (Test l) = is_program_term l.left && is_program_term l.right
-has_program_terms (Not g) = has_program_terms g
-has_program_terms (And a b) = has_program_terms a && has_program_terms b
-has_program_terms (Or a b) = has_program_terms a && has_program_terms b
+-- the same of the expressions of a guard
+abbrev pub has_program_expressions : Guard (List ℕ) → Bool
+has_program_expressions (Test l) = is_program_expression l.left && is_program_expression l.right
+has_program_expressions (Not g) = has_program_expressions g
+has_program_expressions (And a b) = has_program_expressions a && has_program_expressions b
+has_program_expressions (Or a b) = has_program_expressions a && has_program_expressions b
 
 -- the same of an assignment; nothing is emitted, since a program has no ports
-abbrev pub assigns_program_terms : Assignment (List ℕ) → Bool
-assigns_program_terms (Assign x e) = is_free x && is_program_term e
-assigns_program_terms (ArrayWrite x i e) = is_free x && (is_program_term i && is_program_term e)
-assigns_program_terms (Emit x e) = false
+abbrev pub assigns_program_expressions : Assignment (List ℕ) → Bool
+assigns_program_expressions (Assign x e) = is_free x && is_program_expression e
+assigns_program_expressions (ArrayWrite x i e) = is_free x && (is_program_expression i && is_program_expression e)
+assigns_program_expressions (Emit x e) = false
 
 -- with few enough operators and opening brackets
 abbrev pub is_program_guard : Guard (List ℕ) → Bool
-is_program_guard g = has_program_terms g && nat_le (operators_of_guard g) most_operators
+is_program_guard g = has_program_expressions g && nat_le (operators_of_guard g) most_operators
 
 abbrev pub is_program_assignment : Assignment (List ℕ) → Bool
-is_program_assignment a = assigns_program_terms a && nat_le (operators_of_assignment a) most_operators
+is_program_assignment a = assigns_program_expressions a && nat_le (operators_of_assignment a) most_operators
 
 -- a declaration declares scalars or arrays
 abbrev pub is_program_declaration : Declaration → Bool

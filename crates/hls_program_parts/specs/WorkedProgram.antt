@@ -1,7 +1,7 @@
 -- A worked program: `while i < n { y = y + a; i = i + 1; }` over a, n, y, i as 0, 1, 2, 3.
 use Rattle.std.specs.Prelude.{ℕ, List, [], ◌∷◌, pos}
 use Rattle.fs_model.specs.declared.parts.Rel.TheVariants.{Lt}
-use Rattle.fs_model.specs.Terms.{Guard, Test, Assignment, Assign, Sum, Variable, Number, Transition}
+use Rattle.fs_model.specs.Expressions.{Guard, Test, Assignment, Assign, Sum, Variable, Number, Transition}
 use Rattle.hls_program_parts.specs.Programs.{Block, End, Do, While}
 use Rattle.hls_program_parts.specs.Compiled.{always, where_holds}
 

@@ -2,10 +2,11 @@
 
 ghost use Rattle.std.specs.Prelude.{◌≡◌, ◌&&◌, nat_le, map};
 ghost use Rattle.std.specs.List.{list_all};
-ghost use Rattle.fs_model.specs.View.{declaration_of, named_assignment, named_guard, named_term};
-ghost use Rattle.hls_program_parts.specs.WellFormedPrograms.{assigns_program_terms, depth, has_program_terms, is_free};
+ghost use Rattle.fs_model.specs.View.{declaration_of, named_assignment, named_guard, named_expression};
+ghost use Rattle.hls_program_parts.specs.WellFormedPrograms.{assigns_program_expressions, depth, has_program_expressions};
+ghost use Rattle.hls_program_parts.specs.WellFormedPrograms.{is_free};
 ghost use Rattle.hls_program_parts.specs.WellFormedPrograms.{is_program_assignment, is_program_block, is_program_declaration};
-ghost use Rattle.hls_program_parts.specs.WellFormedPrograms.{is_program_guard, is_program_term, is_well_formed_program};
+ghost use Rattle.hls_program_parts.specs.WellFormedPrograms.{is_program_guard, is_program_expression, is_well_formed_program};
 ghost use Rattle.hls_program_parts.specs.View.{block_of_statement, block_of, program_of};
 
 use crate::program::{Program, Stmt};
@@ -59,41 +60,41 @@ fn are_declarations(decls: &[Decl]) -> bool
     decls.iter().all(|decl| is_declaration(decl))
 }
 
-fn is_term(expr: &Expr<Name>) -> bool
-    ensures { result ≡ is_program_term (named_term expr.now) }
+fn is_expression(expr: &Expr<Name>) -> bool
+    ensures { result ≡ is_program_expression (named_expression expr.now) }
 {
     match expr {
         Expr::Num(n) => *n >= 0,
         Expr::Var(x) => is_free(x),
-        Expr::Read(x, index) => is_free(x) && is_term(index),
+        Expr::Read(x, index) => is_free(x) && is_expression(index),
         Expr::Add(a, b) | Expr::Sub(a, b) | Expr::Mul(a, b) | Expr::Div(a, b) | Expr::Rem(a, b) =>
-            is_term(a) && is_term(b),
-        Expr::Neg(a) => is_term(a),
+            is_expression(a) && is_expression(b),
+        Expr::Neg(a) => is_expression(a),
     }
 }
 
-fn has_terms(guard: &Guard) -> bool
-    ensures { result ≡ has_program_terms (named_guard guard.now) }
+fn has_expressions(guard: &Guard) -> bool
+    ensures { result ≡ has_program_expressions (named_guard guard.now) }
 {
     match guard {
-        Guard::Lit(lit) => is_term(&lit.left) && is_term(&lit.right),
-        Guard::Not(a) => has_terms(a),
-        Guard::And(a, b) | Guard::Or(a, b) => has_terms(a) && has_terms(b),
+        Guard::Lit(lit) => is_expression(&lit.left) && is_expression(&lit.right),
+        Guard::Not(a) => has_expressions(a),
+        Guard::And(a, b) | Guard::Or(a, b) => has_expressions(a) && has_expressions(b),
     }
 }
 
 fn is_guard(guard: &Guard) -> bool
     ensures { result ≡ is_program_guard (named_guard guard.now) }
 {
-    has_terms(guard) && operators_of_guard(guard) <= OPERATOR_LIMIT
+    has_expressions(guard) && operators_of_guard(guard) <= OPERATOR_LIMIT
 }
 
-fn assigns_terms(assign: &Assign<Name>) -> bool
-    ensures { result ≡ assigns_program_terms (named_assignment assign.now) }
+fn assigns_expressions(assign: &Assign<Name>) -> bool
+    ensures { result ≡ assigns_program_expressions (named_assignment assign.now) }
 {
     match assign {
-        Assign::Set(x, value) => is_free(x) && is_term(value),
-        Assign::Put(x, index, value) => is_free(x) && is_term(index) && is_term(value),
+        Assign::Set(x, value) => is_free(x) && is_expression(value),
+        Assign::Put(x, index, value) => is_free(x) && is_expression(index) && is_expression(value),
         Assign::Emit(..) => false,
     }
 }
@@ -101,7 +102,7 @@ fn assigns_terms(assign: &Assign<Name>) -> bool
 fn is_assignment(assign: &Assign<Name>) -> bool
     ensures { result ≡ is_program_assignment (named_assignment assign.now) }
 {
-    assigns_terms(assign) && operators_of_assign(assign) <= OPERATOR_LIMIT
+    assigns_expressions(assign) && operators_of_assign(assign) <= OPERATOR_LIMIT
 }
 
 // Whether statements are those of a program, in which blocks nest at most `levels` deep.

@@ -2,7 +2,7 @@
 use Rattle.std.proofs.Common.{◌≡◌, ℕ, List, [], ◌∷◌, Option, Some, None, Result, Ok, Err, refl, ◌∙◌}
 use Rattle.std.specs.Prelude.{IfOk}
 use Rattle.fs_phrase_text.proofs.Called.{guard_stops, sum_stops}
-use Rattle.fs_model.specs.Terms.{Term, Guard}
+use Rattle.fs_model.specs.Expressions.{Expression, Guard}
 use Rattle.fs_model.specs.Source.{Declaration}
 use Rattle.fs_grammar.specs.declared.fault.TextFault.{TextFault}
 use Rattle.fs_grammar.specs.declared.fault.ReadError.{ReadError}
@@ -45,7 +45,7 @@ hosts_declarations ds = record { ends = λ s. refl; goes_on = λ t ts s. declari
 
 -- ---- behind a sum or a guard that does not go on
 
-sum_behind : (ts : List Token) (h : Hole) (s : Term (List ℕ)) → EndsSum ts
+sum_behind : (ts : List Token) (h : Hole) (s : Expression (List ℕ)) → EndsSum ts
     → program_reading ts (inside h (after_sum s sum_alone)) ≡ program_reading ts (after h (whole_sum s))
 sum_behind [] h s e = refl
 sum_behind (t ∷ ts) h s e = rw (sum_stops t.kind s e) refl
@@ -61,10 +61,10 @@ goes_as (Ok x) y f g h e = e ∙ h
 goes_as (Err (Text t)) y f g h e = e
 goes_as (Err NoMemory) y f g h e = tt
 
-sums_behind : {X : Type 0} (h : Hole) (r : Result X ReadError) (rest : X → List Token) (term : X → Term (List ℕ)) → IfOk r (λ x. EndsSum (rest x))
-    → IfOk r (λ x. program_reading (rest x) (inside h (after_sum (term x) sum_alone)) ≡ program_reading (rest x) (after h (whole_sum (term x))))
-sums_behind h (Ok x) rest term e = sum_behind (rest x) h (term x) e
-sums_behind h (Err _) rest term e = tt
+sums_behind : {X : Type 0} (h : Hole) (r : Result X ReadError) (rest : X → List Token) (expression : X → Expression (List ℕ)) → IfOk r (λ x. EndsSum (rest x))
+    → IfOk r (λ x. program_reading (rest x) (inside h (after_sum (expression x) sum_alone)) ≡ program_reading (rest x) (after h (whole_sum (expression x))))
+sums_behind h (Ok x) rest expression e = sum_behind (rest x) h (expression x) e
+sums_behind h (Err _) rest expression e = tt
 
 guards_behind : {X : Type 0} (h : Hole) (r : Result X ReadError) (rest : X → List Token) (guard : X → Guard (List ℕ)) → IfOk r (λ x. EndsGuard (rest x))
     → IfOk r (λ x. program_reading (rest x) (inside h (after_guard (guard x) guard_alone)) ≡ program_reading (rest x) (after h (whole_guard (guard x))))
@@ -72,13 +72,13 @@ guards_behind h (Ok x) rest guard e = guard_behind (rest x) h (guard x) e
 guards_behind h (Err _) rest guard e = tt
 
 -- what a call says of a sum by itself, it says of one in a program
-pub sum_goes : {X : Type 0} (h : Hole) (r : Result X ReadError) (ts : List Token) (rest : X → List Token) (term : X → Term (List ℕ))
-    → ParsesOn r (parse_expression ts (at_sum sum_alone)) (λ x. parse_expression (rest x) (after_sum (term x) sum_alone)) → IfOk r (λ x. EndsSum (rest x))
-    → ParsesOn r (program_reading ts (inside h (at_sum sum_alone))) (λ x. program_reading (rest x) (after h (whole_sum (term x))))
-sum_goes h r ts rest term e f =
-    goes_as r (program_reading ts (inside h (at_sum sum_alone))) (λ x. program_reading (rest x) (inside h (after_sum (term x) sum_alone)))
-    (λ x. program_reading (rest x) (after h (whole_sum (term x)))) (sums_behind h r rest term f)
-    (carried program_reading (inside h) (after h) (hosts h) r ts (at_sum sum_alone) rest (λ x. after_sum (term x) sum_alone) e)
+pub sum_goes : {X : Type 0} (h : Hole) (r : Result X ReadError) (ts : List Token) (rest : X → List Token) (expression : X → Expression (List ℕ))
+    → ParsesOn r (parse_expression ts (at_sum sum_alone)) (λ x. parse_expression (rest x) (after_sum (expression x) sum_alone)) → IfOk r (λ x. EndsSum (rest x))
+    → ParsesOn r (program_reading ts (inside h (at_sum sum_alone))) (λ x. program_reading (rest x) (after h (whole_sum (expression x))))
+sum_goes h r ts rest expression e f =
+    goes_as r (program_reading ts (inside h (at_sum sum_alone))) (λ x. program_reading (rest x) (inside h (after_sum (expression x) sum_alone)))
+    (λ x. program_reading (rest x) (after h (whole_sum (expression x)))) (sums_behind h r rest expression f)
+    (carried program_reading (inside h) (after h) (hosts h) r ts (at_sum sum_alone) rest (λ x. after_sum (expression x) sum_alone) e)
 
 -- and of a guard
 pub guard_goes : {X : Type 0} (h : Hole) (r : Result X ReadError) (ts : List Token) (rest : X → List Token) (guard : X → Guard (List ℕ))

@@ -2,7 +2,7 @@
 use Rattle.std.proofs.Common.{◌≡◌, ℕ, suc, Bool, true, false, cond, List, [], ◌∷◌, ◌++◌, Option, Some, None, Result, Ok, Err, refl, sym, ap, ◌∙◌}
 use Rattle.std.specs.Prelude.{nat_lt}
 use Rattle.fs_model.specs.declared.parts.Role.{Role}
-use Rattle.fs_model.specs.Terms.{Guard}
+use Rattle.fs_model.specs.Expressions.{Guard}
 use Rattle.fs_model.specs.Source.{Declaration}
 use Rattle.fs_grammar.specs.declared.fault.TextPlace.{TextPlace}
 use Rattle.fs_grammar.specs.declared.fault.TextFault.{TextFault}

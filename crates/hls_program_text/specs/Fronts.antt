@@ -1,7 +1,7 @@
 -- What stands at the front of the tokens of a program.
 use Rattle.std.specs.Prelude.{ℕ, nat_lt, Bool, true, false, cond, Option, Some, None, List, [], ◌∷◌, Result, Ok, Err}
 use Rattle.fs_model.specs.declared.parts.Role.{Role}
-use Rattle.fs_model.specs.Terms.{Term}
+use Rattle.fs_model.specs.Expressions.{Expression}
 use Rattle.fs_grammar.specs.declared.fault.TextKind.TheVariants.{Nested}
 use Rattle.fs_grammar.specs.declared.fault.TextFault.{TextFault}
 use Rattle.fs_grammar.specs.declared.token.TokenKind.{TokenKind}
@@ -34,7 +34,7 @@ IsNoKeyword (Some CloseBrace) = ⊥
 IsNoKeyword _ = Unit {0}
 
 -- a name with an index, or without one
-abbrev pub destination : List ℕ → Option (Term (List ℕ)) → Destination
+abbrev pub destination : List ℕ → Option (Expression (List ℕ)) → Destination
 destination x None = scalar x
 destination x (Some i) = element x i
 

@@ -1,8 +1,8 @@
 //! The assignments of a program.
 
 ghost use Rattle.std.specs.Prelude.{◌≡◌, ◌<◌, List, ℕ, [], option_map, length, IfOk};
-ghost use Rattle.fs_model.specs.Terms.{Term};
-ghost use Rattle.fs_model.specs.View.{named_term, named_assignment};
+ghost use Rattle.fs_model.specs.Expressions.{Expression};
+ghost use Rattle.fs_model.specs.View.{named_expression, named_assignment};
 ghost use Rattle.fs_grammar.specs.Tokens.{ParsesOn, kind_at, line_at};
 ghost use Rattle.fs_grammar.specs.Grammar.{Destination, element, destination_assignment};
 ghost use Rattle.fs_expression_text.specs.Inside.{at_sum, sum_alone, whole_sum};
@@ -22,7 +22,7 @@ use std::alloc::Global;
 
 // The bracket that closes the index of a destination.
 fn close_bracket(tokens: &[Token]) -> Result<&[Token], ReadError>
-    ensures goes { (o : Open) (b : Named) (n : ℕ) (x : List ℕ) (i : Term (List ℕ))
+    ensures goes { (o : Open) (b : Named) (n : ℕ) (x : List ℕ) (i : Expression (List ℕ))
         → ParsesOn result (program_reading tokens.now (after (for_index o b n x) (whole_sum i)))
         (λ r. program_reading r.now (at_equals o b n (element x i))) }
     ensures shorter { IfOk result (λ r. length r.now < length tokens.now) }
@@ -48,7 +48,7 @@ fn equals(tokens: &[Token]) -> Result<&[Token], ReadError>
 
 // What stands between the index of a destination and the value.
 fn index_end(tokens: &[Token]) -> Result<&[Token], ReadError>
-    ensures goes { (o : Open) (b : Named) (n : ℕ) (x : List ℕ) (i : Term (List ℕ))
+    ensures goes { (o : Open) (b : Named) (n : ℕ) (x : List ℕ) (i : Expression (List ℕ))
         → ParsesOn result (program_reading tokens.now (after (for_index o b n x) (whole_sum i)))
         (λ r. program_reading r.now (inside (for_value o b n (element x i)) (at_sum sum_alone))) }
     ensures shorter { IfOk result (λ r. length r.now < length tokens.now) }
@@ -61,7 +61,7 @@ fn index_end(tokens: &[Token]) -> Result<&[Token], ReadError>
 fn index(alloc: Global, tokens: &[Token]) -> Result<(Expr<Name>, &[Token]), ReadError>
     ensures goes { (o : Open) (b : Named) (n : ℕ) (x : List ℕ)
         → ParsesOn result (program_reading tokens.now (inside (for_index o b n x) (at_sum sum_alone)))
-        (λ y. program_reading y.1.now (inside (for_value o b n (element x (named_term y.0))) (at_sum sum_alone))) }
+        (λ y. program_reading y.1.now (inside (for_value o b n (element x (named_expression y.0))) (at_sum sum_alone))) }
     ensures shorter { IfOk result (λ y. length y.1.now < length tokens.now) }
 {
     let (index, rest) = sum(alloc, tokens)?;
@@ -77,7 +77,7 @@ fn optional_index(
     ensures goes { (o : Open) (b : Named) (n : ℕ) (x : List ℕ)
         → ParsesOn result (program_reading tokens.now (after_name o b n x))
         (λ y. program_reading y.1.now
-        (inside (for_value o b n (destination x (option_map named_term y.0))) (at_sum sum_alone))) }
+        (inside (for_value o b n (destination x (option_map named_expression y.0))) (at_sum sum_alone))) }
     ensures shorter { IfOk result (λ y. length y.1.now < length tokens.now) }
 {
     match front(tokens) {
@@ -102,7 +102,7 @@ fn before_value(
     ensures goes { (o : Open) (b : Named)
         → ParsesOn result (program_reading tokens.now (at_statement o b))
         (λ y. program_reading y.1.1.now
-        (inside (for_value o b (line_at tokens.now) (destination y.0 (option_map named_term y.1.0))) (at_sum sum_alone))) }
+        (inside (for_value o b (line_at tokens.now) (destination y.0 (option_map named_expression y.1.0))) (at_sum sum_alone))) }
     ensures shorter { IfOk result (λ y. length y.1.1.now < length tokens.now) }
 {
     let (name, rest) = name(alloc, tokens)?;
@@ -112,7 +112,7 @@ fn before_value(
 /// The semicolon behind the word `prog`, or the one that ends an assignment.
 pub fn semicolon(tokens: &[Token]) -> Result<&[Token], ReadError>
     ensures head { ParsesOn result (program_reading tokens.now after_prog) (λ r. program_reading r.now (at_declaration [])) }
-    ensures goes { (o : Open) (b : Named) (n : ℕ) (d : Destination) (e : Term (List ℕ))
+    ensures goes { (o : Open) (b : Named) (n : ℕ) (d : Destination) (e : Expression (List ℕ))
         → ParsesOn result (program_reading tokens.now (after (for_value o b n d) (whole_sum e)))
         (λ r. program_reading r.now (at_statement o (join_blocks b (Do n (destination_assignment d e) End)))) }
     ensures shorter { IfOk result (λ r. length r.now < length tokens.now) }
@@ -128,7 +128,7 @@ fn value(alloc: Global, tokens: &[Token]) -> Result<(Expr<Name>, &[Token]), Read
     ensures goes { (o : Open) (b : Named) (n : ℕ) (d : Destination)
         → ParsesOn result (program_reading tokens.now (inside (for_value o b n d) (at_sum sum_alone)))
         (λ y. program_reading y.1.now
-        (at_statement o (join_blocks b (Do n (destination_assignment d (named_term y.0)) End)))) }
+        (at_statement o (join_blocks b (Do n (destination_assignment d (named_expression y.0)) End)))) }
     ensures shorter { IfOk result (λ y. length y.1.now < length tokens.now) }
 {
     let (value, rest) = sum(alloc, tokens)?;
@@ -136,8 +136,8 @@ fn value(alloc: Global, tokens: &[Token]) -> Result<(Expr<Name>, &[Token]), Read
 }
 
 fn assign(name: Name, index: Option<Expr<Name>>, value: Expr<Name>) -> Assign<Name>
-    ensures { named_assignment result ≡ destination_assignment (destination name (option_map named_term index))
-        (named_term value) }
+    ensures { named_assignment result ≡ destination_assignment (destination name (option_map named_expression index))
+        (named_expression value) }
 {
     match index {
         None => Assign::Set(name, value),

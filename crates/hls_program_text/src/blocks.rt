@@ -2,7 +2,7 @@
 
 ghost use Rattle.std.specs.Prelude.{◌≡◌, ◌<◌, ◌≤◌, List, ℕ, false, Some, length, IfOk};
 ghost use Rattle.std.specs.Result.{OnOk};
-ghost use Rattle.fs_model.specs.Terms as terms;
+ghost use Rattle.fs_model.specs.Expressions as expressions;
 ghost use Rattle.fs_model.specs.View.{named_guard, named_assignment};
 ghost use Rattle.fs_grammar.specs.declared.fault.ReadError.TheVariants.{Text};
 ghost use Rattle.fs_grammar.specs.declared.token.TokenKind.TheVariants as kinds;
@@ -218,7 +218,7 @@ fn both_blocks(
     tokens: &[Token],
 ) -> Result<(Vec<Stmt>, (Vec<Stmt>, &[Token])), ReadError>
     requires { depth ≤ most_depth }
-    ensures goes { (o : Open) (b : Named) (n : ℕ) (g : terms.Guard (List ℕ)) → depth_of o ≡ depth
+    ensures goes { (o : Open) (b : Named) (n : ℕ) (g : expressions.Guard (List ℕ)) → depth_of o ≡ depth
         → ParsesOn result (program_reading tokens.now (after (for_if o b n) (whole_guard g)))
         (λ x. program_reading x.1.1.now
         (at_statement o (join_blocks b (If n g (block_of x.0.items) (block_of x.1.0.items) End)))) }
@@ -237,7 +237,7 @@ fn otherwise(
     tokens: &[Token],
 ) -> Result<(Vec<Stmt>, &[Token]), ReadError>
     requires { depth ≤ most_depth }
-    ensures goes { (o : Open) (b : Named) (n : ℕ) (g : terms.Guard (List ℕ)) (y : Named) → depth_of o ≡ depth
+    ensures goes { (o : Open) (b : Named) (n : ℕ) (g : expressions.Guard (List ℕ)) (y : Named) → depth_of o ≡ depth
         → ParsesOn result (program_reading tokens.now (after_yes o b n g y))
         (λ x. program_reading x.1.now (at_statement o (join_blocks b (If n g y (block_of x.0.items) End)))) }
     ensures shorter { IfOk result (λ x. length x.1.now ≤ length tokens.now) }

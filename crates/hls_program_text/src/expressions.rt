@@ -1,7 +1,7 @@
 //! The sums and guards of a program.
 
 ghost use Rattle.std.specs.Prelude.{◌<◌, length, IfOk};
-ghost use Rattle.fs_model.specs.View.{named_term, named_guard};
+ghost use Rattle.fs_model.specs.View.{named_expression, named_guard};
 ghost use Rattle.fs_grammar.specs.Tokens.{ParsesOn};
 ghost use Rattle.fs_expression_text.specs.Inside.{at_sum, at_guard, sum_alone, guard_alone, whole_sum, whole_guard};
 ghost use Rattle.hls_program_parts.specs.ProgramGrammar.{Hole, program_reading, inside, after};
@@ -15,7 +15,7 @@ use std::alloc::Global;
 /// A sum, and the tokens after it. An `Err` is the first fault, or out of memory.
 pub fn sum(alloc: Global, tokens: &[Token]) -> Result<(Expr<Name>, &[Token]), ReadError>
     ensures goes { (h : Hole) → ParsesOn result (program_reading tokens.now (inside h (at_sum sum_alone)))
-        (λ x. program_reading x.1.now (after h (whole_sum (named_term x.0)))) }
+        (λ x. program_reading x.1.now (after h (whole_sum (named_expression x.0)))) }
     ensures shorter { IfOk result (λ x. length x.1.now < length tokens.now) }
 {
     fs_expression_text::sums::sum(alloc, tokens)

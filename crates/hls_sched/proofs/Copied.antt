@@ -11,11 +11,11 @@ use Rattle.fs_model.specs.Adding.{AddsIfMade}
 use Rattle.fs_model.specs.declared.parts.RawState.{RawState}
 use Rattle.fs_model.specs.Machines.{Fsmd}
 use Rattle.fs_model.specs.Source.{Source, SourceState, SourceTransition}
-use Rattle.fs_model.specs.Terms.{Assignment}
+use Rattle.fs_model.specs.Expressions.{Assignment}
 use Rattle.fs_model.specs.View.{source_state_of}
-use Rattle.hls_line_filling.specs.StraightLines.{is_straight}
-use Rattle.hls_line_filling.specs.SourceRows.{RowEffect, source_state}
-use Rattle.hls_line_filling.specs.Sources.{state_with_row, state_by, states_by}
+use Rattle.hls_block_filling.specs.BasicBlocks.{is_in_block}
+use Rattle.hls_block_filling.specs.SourceRows.{RowEffect, source_state}
+use Rattle.hls_block_filling.specs.Sources.{state_with_row, state_by, states_by}
 use Rattle.hls_sched.specs.RowMoves.{transition_with_row}
 
 -- one item more of a list, behind others
@@ -51,21 +51,21 @@ same_pushed d (x ∷ xs) h (suc r) = same_pushed d xs (λ k. h (suc k)) r
 
 -- ---- states
 abbrev no_state : SourceState
-no_state = record { line = 0; name = []; lines = [] }
+no_state = record { line = 0; name = []; transitions = [] }
 
 pub state_is : (ss : List RawState) (q : ℕ) (s : RawState) → q < length ss → s ≡ get_or ss q s
     → source_state_of s ≡ slice_index_or (map source_state_of ss) q no_state
 state_is ss q s h e = ap source_state_of e ∙ sym (get_or-map source_state_of ss q s no_state h)
 
-abbrev row_line : ℕ → List ℕ → List (Assignment (List ℕ)) → SourceTransition
-row_line n target xs = record { line = n; content = record { guard = None; target = target; assignments = xs } }
+abbrev row_transition : ℕ → List ℕ → List (Assignment (List ℕ)) → SourceTransition
+row_transition n target xs = record { line = n; content = record { guard = None; target = target; assignments = xs } }
 
 abbrev with_lines : ℕ → List ℕ → List SourceTransition → SourceState
-with_lines n name ls = record { line = n; name = name; lines = ls }
+with_lines n name ls = record { line = n; name = name; transitions = ls }
 
 pub transition_is : (p : Source) (n : ℕ) (d : RowEffect) (target : List ℕ) (xs : List (Assignment (List ℕ))) → target ≡ (source_state p d.1).name → xs ≡ d.0
-    → row_line n target xs ≡ transition_with_row p n d
-transition_is p n d target xs e f = ap₂ (λ (t : List ℕ) (ys : List (Assignment (List ℕ))). row_line n t ys) e f
+    → row_transition n target xs ≡ transition_with_row p n d
+transition_is p n d target xs e f = ap₂ (λ (t : List ℕ) (ys : List (Assignment (List ℕ))). row_transition n t ys) e f
 
 pub row_is : (p : Source) (s : SourceState) (d : RowEffect) (name : List ℕ) (ls : List SourceTransition) → ls ≡ transition_with_row p s.line d ∷ []
     → name ≡ s.name → with_lines s.line name ls ≡ state_with_row p s d
@@ -82,7 +82,7 @@ module _ (p : Source) (m : Fsmd) (rows : ℕ → Option RowEffect) (q : ℕ) (s 
       ∙ ap (λ (z : SourceState). state_with_row p z d ∷ []) (sym here) in
       map_push_made source_state_of made old new (state_with_row p s d) a h ∙ ap (λ l. map source_state_of old ++ l) (sym is)
 
-  pub state_added : (made : Result RawState NoMemory) (old new : List RawState) → o ≡ None → is_straight m q ≡ false
+  pub state_added : (made : Result RawState NoMemory) (old new : List RawState) → o ≡ None → is_in_block m q ≡ false
       → IfOk made (λ r. source_state_of r ≡ s) → AddsIfMade made old new
       → map source_state_of new ≡ map source_state_of old ++ states_by p m rows q
   state_added made old new e f h a =
@@ -90,7 +90,7 @@ module _ (p : Source) (m : Fsmd) (rows : ℕ → Option RowEffect) (q : ℕ) (s 
       ∙ ap (λ (z : SourceState). z ∷ []) (sym here) in
       map_push_made source_state_of made old new s a h ∙ ap (λ l. map source_state_of old ++ l) (sym is)
 
-  pub none_added : (old : List SourceState) → o ≡ None → is_straight m q ≡ true → old ≡ old ++ states_by p m rows q
+  pub none_added : (old : List SourceState) → o ≡ None → is_in_block m q ≡ true → old ≡ old ++ states_by p m rows q
   none_added old e f =
       let is : states_by p m rows q ≡ [] = ap (state_by p m q) (sym found ∙ e) ∙ ap (λ t. cond t [] (source_state p q ∷ [])) f in
       sym (ap (λ (l : List SourceState). old ++ l) is ∙ append-nil old)

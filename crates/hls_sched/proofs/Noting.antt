@@ -11,7 +11,7 @@ use Rattle.fs_model.specs.declared.parts.Branch.{Branch as CodeBranch}
 use Rattle.fs_model.specs.Machines.{Fsmd, transitions_of}
 use Rattle.fs_model.specs.Trees.{Branch, branches_of}
 use Rattle.fs_model.specs.View.{branch_of}
-use Rattle.hls_line_filling.specs.StraightLines.{is_only}
+use Rattle.hls_block_filling.specs.BasicBlocks.{is_only}
 use Rattle.hls_sched.specs.declared.arrivals.Arrivals.{Arrivals}
 use Rattle.hls_sched.specs.declared.arrivals.Arrivals.TheVariants.{Once}
 use Rattle.hls_sched.specs.Arrivals.{arrivals_of, source_per_branch}

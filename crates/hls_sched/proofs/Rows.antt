@@ -1,4 +1,4 @@
--- Rows of a line, and their moves, one after another.
+-- Rows of a block, and their moves, one after another.
 use Rattle.std.proofs.Common.{◌≡◌, ℕ, suc, ◌+◌, ◌-◌, ◌<◌, ◌≤◌, List, [], ◌∷◌, ◌++◌, length, get_or, drop, map, refl, sym, ap, ap₂, ◌∙◌, subst, arith}
 use Rattle.std.proofs.Common.{append_assoc, append-nil, Bool, true, false, Option, Some, None}
 use Rattle.std.specs.Prelude.{◌==◌, cond, nat_lt}
@@ -8,13 +8,13 @@ use Rattle.std.proofs.lemmas.List.{drop_more, get_or-map, map_push, map-append}
 use Rattle.std.proofs.lemmas.List.Elements.{All-push}
 use Rattle.fs_model.proofs.Lists.{length_map}
 use Rattle.fs_model.specs.declared.parts.StateId.{StateId}
-use Rattle.fs_model.specs.Terms.{Assignment}
+use Rattle.fs_model.specs.Expressions.{Assignment}
 use Rattle.fs_model.specs.Source.{Source}
 use Rattle.fs_ast.proofs.Turns.{flat_push}
-use Rattle.hls_line_filling.specs.Placings.{PlacedOver, join_assignments, row_at, rows_from}
-use Rattle.hls_line_filling.specs.Filling.{Rows, Filled, is_before, is_in, row_or, placed_from}
-use Rattle.hls_line_filling.specs.RowMachines.{MoveOver, after_row, moves}
-use Rattle.hls_line_filling.specs.SourceRows.{named_item, placed_in_line}
+use Rattle.hls_block_filling.specs.Placings.{PlacedOver, join_assignments, row_at, rows_from}
+use Rattle.hls_block_filling.specs.Filling.{Rows, Filled, is_before, is_in, row_or, placed_from}
+use Rattle.hls_block_filling.specs.RowMachines.{MoveOver, after_row, moves}
+use Rattle.hls_block_filling.specs.SourceRows.{named_item, placed_in_block}
 use Rattle.hls_sched.specs.declared.moves.Move.{Move}
 use Rattle.hls_sched.specs.RowMoves.{joined_items, move_of, target_of_row, row_in_state}
 
@@ -91,7 +91,7 @@ among_more count states old new j q h e put all before =
     subst (λ (xs : List StateId). All (λ (x : StateId). x.0 < count) xs) (sym put)
     (All-push (λ (x : StateId). x.0 < count) old q before (subst (λ (x : StateId). x.0 < count) (sym e) (all j q h)))
 
--- ---- the rows of a line
+-- ---- the rows of a block
 -- what is left of the moves from row k on
 abbrev pub moves_left : ℕ → List ℕ → List (PlacedOver (List ℕ)) → ℕ → ℕ → List (MoveOver (List ℕ))
 moves_left exit qs ps n k = moves exit (drop k qs) (rows_from k (n - k) ps)
@@ -124,14 +124,14 @@ move_from exit qs ps n k low h =
 -- a row more
 pub moves_more : (p : Source) (exit : ℕ) (states : List StateId) (f : Filled) (k : ℕ) (x : Move) (old new : List Move) (whole : List (MoveOver (List ℕ)))
     → k < f.count → f.count ≤ length states → move_of p x ≡ row_in_state p exit (map (λ (q : StateId). q.0) states) f k → new ≡ old ++ x ∷ []
-    → map (move_of p) old ++ moves_left exit (map (λ (q : StateId). q.0) states) (placed_in_line p (map (λ (q : StateId). q.0) states) f) f.count k ≡ whole
+    → map (move_of p) old ++ moves_left exit (map (λ (q : StateId). q.0) states) (placed_in_block p (map (λ (q : StateId). q.0) states) f) f.count k ≡ whole
     → map (move_of p) new ++ moves_left exit (map (λ (q : StateId). q.0) states)
-    (placed_in_line p (map (λ (q : StateId). q.0) states) f) f.count (k + 1) ≡ whole
+    (placed_in_block p (map (λ (q : StateId). q.0) states) f) f.count (k + 1) ≡ whole
 moves_more p exit states f k x old new whole low h e put before =
     let qs : List ℕ = map (λ (q : StateId). q.0) states in
     let count : length qs ≡ length states = length_map (λ (q : StateId). q.0) states in
     let few : f.count ≤ length qs = omega (arith, count, h) in
-    let ps : List (PlacedOver (List ℕ)) = placed_in_line p qs f in
+    let ps : List (PlacedOver (List ℕ)) = placed_in_block p qs f in
     let rest : List (MoveOver (List ℕ)) = moves_left exit qs ps f.count (k + 1) in
     ap (λ xs. map (move_of p) xs ++ rest) put
     ∙ ap (λ xs. xs ++ rest) (map_push (move_of p) old x)

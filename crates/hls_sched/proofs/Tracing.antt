@@ -1,4 +1,4 @@
--- Lines as they are traced.
+-- Blocks as they are traced.
 use Rattle.std.proofs.Common.{◌≡◌, inl, inr, ℕ, zero, suc, ◌+◌, ◌-◌, ◌<◌, ◌≤◌, List, [], ◌∷◌, ◌++◌, length, map, refl, sym, ◌∙◌, ap, subst, arith, Bool, true}
 use Rattle.std.proofs.Common.{false, Some, append-nil, length-append}
 use Rattle.std.specs.Prelude.{◌==◌, cond, filter, slice_get, option_map}
@@ -13,13 +13,13 @@ use Rattle.fs_model.specs.declared.parts.Branch.{Branch as CodeBranch}
 use Rattle.fs_model.specs.Machines.{Fsmd, transitions_of}
 use Rattle.fs_model.specs.Trees.{Branch, branches_of}
 use Rattle.fs_model.specs.View.{assignment_of, branch_of}
-use Rattle.fs_ast.specs.SoundParts.{IsSound, is_cutpoint, reaches_cutpoint, first_transition_target}
+use Rattle.fs_model.specs.SoundMachines.{IsSound, is_cutpoint, reaches_cutpoint, first_transition_target}
 use Rattle.fs_cut.proofs.Branches.{first_target, no_branch}
 use Rattle.fs_cut.proofs.Loops.{range_step, has_first, more}
-use Rattle.hls_line_filling.specs.StraightLines.{all_states, sources, is_only, is_straight, follows, next_state, line_from, straight_line_at, exit_from}
-use Rattle.hls_line_filling.specs.StraightLines.{is_inner, is_first_of_line, firsts, item_of}
-use Rattle.hls_line_filling.proofs.Among.{Among, joined_from, some_of, passes_test, was_among, range_within, among_at}
-use Rattle.hls_line_filling.proofs.Trails.{inner, follows_straight, follows_on, next_in, line_in, follows_only}
+use Rattle.hls_block_filling.specs.BasicBlocks.{all_states, sources, is_only, is_in_block, follows, next_state, block_from, basic_block_at, exit_from}
+use Rattle.hls_block_filling.specs.BasicBlocks.{is_inner, is_first_of_block, firsts, item_of}
+use Rattle.hls_block_filling.proofs.Among.{Among, joined_from, some_of, passes_test, was_among, range_within, among_at}
+use Rattle.hls_block_filling.proofs.Trails.{inner, follows_in_block, follows_on, next_in, block_in, follows_only}
 
 -- what holds of the numbers of states
 each_of : (P : ℕ → Type 0) (qs : List StateId) (xs : List ℕ) → map (λ q. q.0) qs ≡ xs → ((k r : ℕ) → slice_get xs k ≡ Some r → P r) → All (λ q. P q.0) qs
@@ -71,63 +71,64 @@ module _ (m : Fsmd) where
       sym (false_from_ne_true (is_inner m r) (λ g. (let w = some_of (λ q. follows m q r) (all_states m) g in cc (h w.0 ∙ follows_only m w.0 r w.2))))
 
   -- ---- first states
-  first_taken : (k n : ℕ) → k < n → is_first_of_line m k ≡ true
-      → filter (is_first_of_line m) (range_with_len k (n - k)) ≡ k ∷ filter (is_first_of_line m) (range_with_len (k + 1) (n - (k + 1)))
+  first_taken : (k n : ℕ) → k < n → is_first_of_block m k ≡ true
+      → filter (is_first_of_block m) (range_with_len k (n - k)) ≡ k ∷ filter (is_first_of_block m) (range_with_len (k + 1) (n - (k + 1)))
   first_taken k n h e =
-      let rest = filter (is_first_of_line m) (range_with_len (k + 1) (n - (k + 1))) in
-      ap (filter (is_first_of_line m)) (range_step k n h) ∙ ap (λ b. cond b (k ∷ rest) rest) e
+      let rest = filter (is_first_of_block m) (range_with_len (k + 1) (n - (k + 1))) in
+      ap (filter (is_first_of_block m)) (range_step k n h) ∙ ap (λ b. cond b (k ∷ rest) rest) e
 
-  pub first_more : (old new : List StateId) (s : StateId) (k n : ℕ) → k < n → s.0 ≡ k → is_first_of_line m k ≡ true → new ≡ old ++ s ∷ []
-      → map (λ q. q.0) new ++ filter (is_first_of_line m) (range_with_len (k + 1) (n - (k + 1))) ≡ map (λ q. q.0) old
-      ++ filter (is_first_of_line m) (range_with_len k (n - k))
+  pub first_more : (old new : List StateId) (s : StateId) (k n : ℕ) → k < n → s.0 ≡ k → is_first_of_block m k ≡ true → new ≡ old ++ s ∷ []
+      → map (λ q. q.0) new ++ filter (is_first_of_block m) (range_with_len (k + 1) (n - (k + 1))) ≡ map (λ q. q.0) old
+      ++ filter (is_first_of_block m) (range_with_len k (n - k))
   first_more old new s k n h e f g = more (λ (q : StateId). q.0) old new s k _ _ g e (first_taken k n h f)
 
-  pub first_left : (k n : ℕ) → k < n → is_first_of_line m k ≡ false
-      → filter (is_first_of_line m) (range_with_len k (n - k)) ≡ filter (is_first_of_line m) (range_with_len (k + 1) (n - (k + 1)))
+  pub first_left : (k n : ℕ) → k < n → is_first_of_block m k ≡ false
+      → filter (is_first_of_block m) (range_with_len k (n - k)) ≡ filter (is_first_of_block m) (range_with_len (k + 1) (n - (k + 1)))
   first_left k n h e =
-      let rest = filter (is_first_of_line m) (range_with_len (k + 1) (n - (k + 1))) in
-      ap (filter (is_first_of_line m)) (range_step k n h) ∙ ap (λ b. cond b (k ∷ rest) rest) e
+      let rest = filter (is_first_of_block m) (range_with_len (k + 1) (n - (k + 1))) in
+      ap (filter (is_first_of_block m)) (range_step k n h) ∙ ap (λ b. cond b (k ∷ rest) rest) e
 
-  pub firsts_done : (out : List ℕ) (k n : ℕ) → n - k ≡ 0 → out ++ filter (is_first_of_line m) (range_with_len k (n - k)) ≡ firsts m → out ≡ firsts m
-  firsts_done out k n e h = sym (append-nil out) ∙ sym (ap (λ j. out ++ filter (is_first_of_line m) (range_with_len k j)) e) ∙ h
+  pub firsts_done : (out : List ℕ) (k n : ℕ) → n - k ≡ 0 → out ++ filter (is_first_of_block m) (range_with_len k (n - k)) ≡ firsts m → out ≡ firsts m
+  firsts_done out k n e h = sym (append-nil out) ∙ sym (ap (λ j. out ++ filter (is_first_of_block m) (range_with_len k j)) e) ∙ h
 
   pub firsts_within : (qs : List StateId) → map (λ q. q.0) qs ≡ firsts m → All (λ q. q.0 < length m.states) qs
   firsts_within qs e =
       each_of (λ q. q < length m.states) qs (firsts m) e
       (λ k r g.
-      (let i : r < 0 + length m.states = range_within 0 (length m.states) r (was_among (is_first_of_line m) r (all_states m) (among_at (firsts m) k r g)) in
+      (let i : r < 0 + length m.states = range_within 0 (length m.states) r (was_among (is_first_of_block m) r (all_states m) (among_at (firsts m) k r g)) in
       omega (arith, i)))
 
-  pub firsts_are_first : (qs : List StateId) → map (λ q. q.0) qs ≡ firsts m → All (λ q. is_first_of_line m q.0 ≡ true) qs
-  firsts_are_first qs e = each_of (λ q. is_first_of_line m q ≡ true) qs (firsts m) e
-      (λ k r g. passes_test (is_first_of_line m) r (all_states m) (among_at (firsts m) k r g))
+  pub firsts_are_first : (qs : List StateId) → map (λ q. q.0) qs ≡ firsts m → All (λ q. is_first_of_block m q.0 ≡ true) qs
+  firsts_are_first qs e = each_of (λ q. is_first_of_block m q ≡ true) qs (firsts m) e
+      (λ k r g. passes_test (is_first_of_block m) r (all_states m) (among_at (firsts m) k r g))
 
-  -- ---- a line
-  line_stops : (n k q r : ℕ) → k < n → r ≡ next_state m q → follows m q r ≡ false → line_from m (n - k) q ≡ q ∷ []
-  line_stops n k q r h e f =
+  -- ---- a block
+  block_stops : (n k q r : ℕ) → k < n → r ≡ next_state m q → follows m q r ≡ false → block_from m (n - k) q ≡ q ∷ []
+  block_stops n k q r h e f =
       let j : n - k ≡ suc (n - (k + 1)) = omega arith in
       let g : follows m q (next_state m q) ≡ false = subst (λ z. follows m q z ≡ false) e f in
-      ap (λ i. line_from m i q) j ∙ ap (λ b. q ∷ cond b (line_from m (n - (k + 1)) (next_state m q)) []) g
+      ap (λ i. block_from m i q) j ∙ ap (λ b. q ∷ cond b (block_from m (n - (k + 1)) (next_state m q)) []) g
 
-  line_goes : (n k q r : ℕ) → k < n → r ≡ next_state m q → follows m q r ≡ true → line_from m (n - k) q ≡ q ∷ line_from m (n - (k + 1)) r
-  line_goes n k q r h e f =
+  block_goes : (n k q r : ℕ) → k < n → r ≡ next_state m q → follows m q r ≡ true → block_from m (n - k) q ≡ q ∷ block_from m (n - (k + 1)) r
+  block_goes n k q r h e f =
       let j : n - k ≡ suc (n - (k + 1)) = omega arith in
       let g : follows m q (next_state m q) ≡ true = subst (λ z. follows m q z ≡ true) e f in
-      ap (λ i. line_from m i q) j ∙ ap (λ b. q ∷ cond b (line_from m (n - (k + 1)) (next_state m q)) []) g ∙ ap (λ z. q ∷ line_from m (n - (k + 1)) z) (sym e)
+      ap (λ i. block_from m i q) j ∙ ap (λ b. q ∷ cond b (block_from m (n - (k + 1)) (next_state m q)) []) g
+      ∙ ap (λ z. q ∷ block_from m (n - (k + 1)) z) (sym e)
 
-  -- the states so far and the last one are the whole line
+  -- the states so far and the last one are the whole block
   pub last_traced : (old new : List StateId) (last : StateId) (n k r : ℕ) (whole : List ℕ) → k < n → r ≡ next_state m last.0 → follows m last.0 r ≡ false
       → new ≡ old ++ last ∷ []
-      → map (λ q. q.0) old ++ line_from m (n - k) last.0 ≡ whole → map (λ q. q.0) new ≡ whole
+      → map (λ q. q.0) old ++ block_from m (n - k) last.0 ≡ whole → map (λ q. q.0) new ≡ whole
   last_traced old new last n k r whole h e f g traced =
-      sym (append-nil (map (λ (q : StateId). q.0) new)) ∙ more (λ (q : StateId). q.0) old new last last.0 [] _ g refl (line_stops n k last.0 r h e f) ∙ traced
+      sym (append-nil (map (λ (q : StateId). q.0) new)) ∙ more (λ (q : StateId). q.0) old new last last.0 [] _ g refl (block_stops n k last.0 r h e f) ∙ traced
 
   -- the states so far and one more, and what is left from the next one on
   pub one_traced : (old new : List StateId) (last : StateId) (n k r : ℕ) (whole : List ℕ) → k < n → r ≡ next_state m last.0 → follows m last.0 r ≡ true
       → new ≡ old ++ last ∷ []
-      → map (λ q. q.0) old ++ line_from m (n - k) last.0 ≡ whole → map (λ q. q.0) new ++ line_from m (n - (k + 1)) r ≡ whole
-  one_traced old new last n k r whole h e f g traced = more (λ (q : StateId). q.0) old new last last.0 (line_from m (n - (k + 1)) r) _ g refl
-      (line_goes n k last.0 r h e f) ∙ traced
+      → map (λ q. q.0) old ++ block_from m (n - k) last.0 ≡ whole → map (λ q. q.0) new ++ block_from m (n - (k + 1)) r ≡ whole
+  one_traced old new last n k r whole h e f g traced = more (λ (q : StateId). q.0) old new last last.0 (block_from m (n - (k + 1)) r) _ g refl
+      (block_goes n k last.0 r h e f) ∙ traced
 
   pub exit_stops : (n k q r : ℕ) → k < n → r ≡ next_state m q → follows m q r ≡ false → exit_from m (n - k) q ≡ r
   exit_stops n k q r h e f =
@@ -142,49 +143,49 @@ module _ (m : Fsmd) where
       ap (λ i. exit_from m i q) j ∙ ap (λ b. cond b (exit_from m (n - (k + 1)) (next_state m q)) (next_state m q)) g ∙ ap (exit_from m (n - (k + 1))) (sym e)
 
   module _ (sound : IsSound m) where
-    pub line_within : (qs : List StateId) (q : ℕ) → q < length m.states → map (λ r. r.0) qs ≡ straight_line_at m q → All (λ r. r.0 < length m.states) qs
-    line_within qs q h e = each_of (λ r. r < length m.states) qs (straight_line_at m q) e (λ k r g. line_in m sound (length m.states) k q r h g)
+    pub block_within : (qs : List StateId) (q : ℕ) → q < length m.states → map (λ r. r.0) qs ≡ basic_block_at m q → All (λ r. r.0 < length m.states) qs
+    block_within qs q h e = each_of (λ r. r < length m.states) qs (basic_block_at m q) e (λ k r g. block_in m sound (length m.states) k q r h g)
 
-    -- a line has no more states than the machine
+    -- a block has no more states than the machine
     short_step : (n q : ℕ) (xs : List ℕ) (t : Bool) → (t ≡ true → length xs ≤ n) → length (q ∷ cond t xs []) ≤ suc n
     short_step n q xs true h = let i : length xs ≤ n = h refl in omega (arith, i)
     short_step n q xs false h = omega arith
 
-    short_where_straight : (n q : ℕ) → q < length m.states → is_straight m q ≡ true → reaches_cutpoint m n q ≡ true → length (line_from m n q) ≤ n
-    short_where_straight zero q h e r = absurd (let c : is_cutpoint m q ≡ false = not-true (is_cutpoint m q) e in cc (sym c ∙ r))
-    short_where_straight (suc n) q h e r =
+    short_where_in_block : (n q : ℕ) → q < length m.states → is_in_block m q ≡ true → reaches_cutpoint m n q ≡ true → length (block_from m n q) ≤ n
+    short_where_in_block zero q h e r = absurd (let c : is_cutpoint m q ≡ false = not-true (is_cutpoint m q) e in cc (sym c ∙ r))
+    short_where_in_block (suc n) q h e r =
         let c : is_cutpoint m q ≡ false = not-true (is_cutpoint m q) e in
-        short_step n q (line_from m n (next_state m q)) (follows m q (next_state m q))
-        (λ f. short_where_straight n (next_state m q) (next_in m sound q h) (follows_on m q (next_state m q) f)
+        short_step n q (block_from m n (next_state m q)) (follows m q (next_state m q))
+        (λ f. short_where_in_block n (next_state m q) (next_in m sound q h) (follows_on m q (next_state m q) f)
         (subst (λ z. reaches_cutpoint m n z ≡ true) (first_target m sound q h c)
         (or_other (is_cutpoint m q) (reaches_cutpoint m n (first_transition_target (transitions_of m q))) c r)))
 
-    short_where_alone : (n q : ℕ) → 0 < n → is_straight m q ≡ false → length (line_from m n q) ≤ n
+    short_where_alone : (n q : ℕ) → 0 < n → is_in_block m q ≡ false → length (block_from m n q) ≤ n
     short_where_alone zero q h e = absurd (omega (arith, h))
-    short_where_alone (suc n) q h e = short_step n q (line_from m n (next_state m q)) (follows m q (next_state m q))
-        (λ f. absurd (cc (sym e ∙ follows_straight m q (next_state m q) f)))
+    short_where_alone (suc n) q h e = short_step n q (block_from m n (next_state m q)) (follows m q (next_state m q))
+        (λ f. absurd (cc (sym e ∙ follows_in_block m q (next_state m q) f)))
 
-    short_by : (q : ℕ) (t : Bool) → is_straight m q ≡ t → q < length m.states → length (straight_line_at m q) ≤ length m.states
-    short_by q true e h = short_where_straight (length m.states) q h e (sound.cut q h)
+    short_by : (q : ℕ) (t : Bool) → is_in_block m q ≡ t → q < length m.states → length (basic_block_at m q) ≤ length m.states
+    short_by q true e h = short_where_in_block (length m.states) q h e (sound.cut q h)
     short_by q false e h = short_where_alone (length m.states) q (omega (arith, h)) e
 
-    pub line_is_short : (q : ℕ) → q < length m.states → length (straight_line_at m q) ≤ length m.states
-    line_is_short q h = short_by q (is_straight m q) refl h
+    pub block_is_short : (q : ℕ) → q < length m.states → length (basic_block_at m q) ≤ length m.states
+    block_is_short q h = short_by q (is_in_block m q) refl h
 
-    some_state : (n q : ℕ) → 0 < length (line_from m n q)
+    some_state : (n q : ℕ) → 0 < length (block_from m n q)
     some_state zero q = omega arith
     some_state (suc n) q = omega arith
 
-    -- after as many states as the machine has, no state of a line is left
+    -- after as many states as the machine has, no state of a block is left
     pub too_long : (qs : List StateId) (n q r : ℕ) → q < length m.states → length m.states ≤ length qs
-        → map (λ s. s.0) qs ++ line_from m n r ≡ straight_line_at m q → ⊥
+        → map (λ s. s.0) qs ++ block_from m n r ≡ basic_block_at m q → ⊥
     too_long qs n q r h l e =
         omega (
           arith,
           ap length e,
-          length-append (map (λ (s : StateId). s.0) qs) (line_from m n r),
+          length-append (map (λ (s : StateId). s.0) qs) (block_from m n r),
           length-map qs (λ (s : StateId). s.0),
           some_state n r,
-          line_is_short q h,
+          block_is_short q h,
           l,
         )

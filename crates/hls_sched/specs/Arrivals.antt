@@ -1,9 +1,9 @@
--- How often states are led to, as far as lines need it.
+-- How often states are led to, as far as blocks need it.
 use Rattle.std.specs.Prelude.{◌≡◌, ℕ, ◌<◌, ◌==◌, List, [], ◌∷◌, map, filter, length}
 use Rattle.std.specs.List.{slice_index_or}
 use Rattle.fs_model.specs.Machines.{Fsmd}
 use Rattle.fs_model.specs.Trees.{Branch}
-use Rattle.hls_line_filling.specs.StraightLines.{sources}
+use Rattle.hls_block_filling.specs.BasicBlocks.{sources}
 use Rattle.hls_sched.specs.declared.arrivals.Arrivals.{Arrivals}
 use Rattle.hls_sched.specs.declared.arrivals.Arrivals.TheVariants.{Never, Once, Often}
 

@@ -1,5 +1,4 @@
 pub mod Arrivals
 pub mod RowMoves
-pub mod CodeLines
+pub mod TracedBlocks
 pub mod Reports
-pub use Rattle.hls_line_filling.specs.Over

@@ -1,14 +1,14 @@
--- The rows of lines in the code, as moves over the names of parts.
+-- The rows of blocks in the code, as moves over the names of parts.
 use Rattle.std.specs.Prelude.{◌≡◌, ℕ, ◌+◌, ◌<◌, ◌≤◌, nat_lt, true, cond, List, map, length, slice_index, None}
 use Rattle.std.specs.List.{All, flat_map}
 use Rattle.fs_model.specs.declared.parts.StateId.{StateId}
-use Rattle.fs_model.specs.Terms.{Assignment}
+use Rattle.fs_model.specs.Expressions.{Assignment}
 use Rattle.fs_model.specs.Source.{Source, SourceTransition}
-use Rattle.hls_line_filling.specs.Filling.{Filled, is_before}
-use Rattle.hls_line_filling.specs.RowMachines.{MoveOver}
-use Rattle.hls_line_filling.specs.declared.plan.Plan.{Plan}
-use Rattle.hls_line_filling.specs.WaitingItems.{rows_in}
-use Rattle.hls_line_filling.specs.SourceRows.{named_item, row_of, source_state, RowEffect}
+use Rattle.hls_block_filling.specs.Filling.{Filled, is_before}
+use Rattle.hls_block_filling.specs.RowMachines.{MoveOver}
+use Rattle.hls_block_filling.specs.declared.plan.Plan.{Plan}
+use Rattle.hls_block_filling.specs.WaitingItems.{rows_in}
+use Rattle.hls_block_filling.specs.SourceRows.{named_item, row_of, source_state, RowEffect}
 use Rattle.hls_sched.specs.declared.moves.Move.{Move}
 
 -- the items of states, one after another
@@ -22,7 +22,7 @@ done_by p x = (joined_items p x.items.items, x.target.0)
 abbrev pub move_of : Source → Move → MoveOver (List ℕ)
 move_of p x = record { state = x.state.0; assignments = joined_items p x.items.items; target = x.target.0 }
 
--- what a row does, as a transition of a line
+-- what a row does, as a transition of a block
 abbrev pub transition_with_row : Source → ℕ → RowEffect → SourceTransition
 transition_with_row p line d = record {
   line = line;
@@ -40,8 +40,8 @@ pub record IsPlanFor (count : ℕ) (p : Plan) : Type 0 where
   pub placed : (j : ℕ) → j < count → is_before p.count (rows_in p.rows.items j) ≡ true
   pub no_more : p.count ≤ count
 
--- the row of a number of a line that leads to a state, in the state where it stands: it leads to the state of the next row,
--- where there is one, else out of the line
+-- the row of a number of a block that leads to a state, in the state where it stands: it leads to the state of the next row,
+-- where there is one, else out of the block
 abbrev pub target_of_row : ℕ → List ℕ → ℕ → ℕ → ℕ
 target_of_row exit qs count k = cond (nat_lt (k + 1) count) (slice_index qs (k + 1)) exit
 

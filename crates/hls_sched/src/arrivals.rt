@@ -1,9 +1,9 @@
-//! How often each state is led to, as far as lines need it.
+//! How often each state is led to, as far as blocks need it.
 
 ghost use Rattle.std.specs.Prelude.{◌≡◌, ℕ, ◌<◌, ◌++◌, List, [], ◌∷◌, length, map, IfOk};
 ghost use Rattle.std.specs.List.{slice_index_or};
 ghost use Rattle.fs_model.specs.View.{branch_of};
-ghost use Rattle.hls_line_filling.specs.StraightLines.{is_only};
+ghost use Rattle.hls_block_filling.specs.BasicBlocks.{is_only};
 ghost use Rattle.hls_sched.specs.Arrivals.{arrivals_of, source_per_branch, AreArrivals};
 ghost use Rattle.hls_sched.specs.declared.arrivals.Arrivals.TheVariants as variants;
 

@@ -36,7 +36,7 @@ pub fn add_assignments(
 }
 
 /// A copy of a transition. The one refusal is out of memory.
-pub fn copied_line(alloc: Global, line: &RawLine) -> Result<RawLine, NoMemory>
+pub fn copied_transition(alloc: Global, line: &RawLine) -> Result<RawLine, NoMemory>
     ensures { IfOk result (λ l. source_transition_of l ≡ source_transition_of line.now) }
 {
     let target = line.target.try_clone(alloc)?;
@@ -52,12 +52,12 @@ pub fn copied_line(alloc: Global, line: &RawLine) -> Result<RawLine, NoMemory>
 }
 
 /// Copies of transitions. The one refusal is out of memory.
-pub fn copied_lines(alloc: Global, lines: &[RawLine]) -> Result<Vec<RawLine>, NoMemory>
+pub fn copied_transitions(alloc: Global, lines: &[RawLine]) -> Result<Vec<RawLine>, NoMemory>
     ensures { IfOk result (λ out. map source_transition_of out.items ≡ map source_transition_of lines.now) }
 {
     let mut out = Vec::new(alloc);
     for line in lines {
-        push_made(&mut out, copied_line(alloc, line))?;
+        push_made(&mut out, copied_transition(alloc, line))?;
     }
     Ok(out)
 }
@@ -67,7 +67,7 @@ pub fn copied_state(alloc: Global, state: &RawState) -> Result<RawState, NoMemor
     ensures { IfOk result (λ s. source_state_of s ≡ source_state_of state.now) }
 {
     let name = state.name.try_clone(alloc)?;
-    let lines = copied_lines(alloc, &state.lines)?;
+    let lines = copied_transitions(alloc, &state.lines)?;
     Ok(RawState {
         line: state.line,
         name,

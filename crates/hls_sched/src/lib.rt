@@ -1,16 +1,16 @@
-//! A machine whose straight lines are scheduled: they are traced, in time linear in the branches, filled by `hls_line_filling`,
+//! A machine whose basic blocks are scheduled: they are traced, in time linear in the branches, filled by `hls_block_filling`,
 //! and put in rows.
 //!
 //! Promises: `schedule`: the scheduled parts and their machine, which behaves as before and is within the units, with a
-//! report of each straight line; or the first state and unit of which too much is used. `count_arrivals`, `firsts`,
-//! `trace_line`: exactly the straight lines of the definition.
+//! report of each basic block; or the first state and unit of which too much is used. `count_arrivals`, `firsts`,
+//! `trace_block`: exactly the basic blocks of the definition.
 //!
-//! Rules: `specs/Arrivals`, `specs/Reports`, `specs/CodeLines`, `specs/RowMoves`.
+//! Rules: `specs/Arrivals`, `specs/Reports`, `specs/TracedBlocks`, `specs/RowMoves`.
 #![tactic(auto)]
 
 pub mod arrivals;
+pub mod blocks;
 pub mod copies;
-pub mod lines;
 mod moves;
 mod parts;
 mod plans;

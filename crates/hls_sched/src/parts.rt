@@ -1,16 +1,16 @@
-//! The parts of a machine with its lines in rows.
+//! The parts of a machine with its blocks in rows.
 
 ghost use Rattle.std.specs.Prelude.{◌≡◌, ℕ, ◌<◌, ◌++◌, map, option_map, length, IfOk, IfSome};
 ghost use Rattle.std.specs.List.{All};
 ghost use Rattle.std.specs.Result.{OnOk};
 ghost use Rattle.fs_model.specs.Source.{Source};
 ghost use Rattle.fs_model.specs.View.{named_assignment, source_transition_of, source_state_of, source_of};
-ghost use Rattle.hls_line_filling.specs.SourceRows.{first_assignments, first_row_effect};
-ghost use Rattle.hls_line_filling.specs.Sources.{state_with_row, states_by, source_by_rows};
+ghost use Rattle.hls_block_filling.specs.SourceRows.{first_assignments, first_row_effect};
+ghost use Rattle.hls_block_filling.specs.Sources.{state_with_row, states_by, source_by_rows};
 ghost use Rattle.hls_sched.specs.RowMoves.{joined_items, done_by, move_of, transition_with_row, IsMoveAmong};
 
+use crate::blocks::is_in_block;
 use crate::copies::{add_assignments, copied_declarations, copied_state};
-use crate::lines::is_straight;
 use crate::moves::Move;
 use fs_ast::machine::Machine;
 use fs_model::memory::push_made;
@@ -60,7 +60,7 @@ fn joined_items(
     Ok(out)
 }
 
-// A move as a transition of a line.
+// A move as a transition of a block.
 fn transition_of(alloc: Global, parts: &Parts, line: u32, by: &Move) -> Result<RawLine, NoMemory>
     requires { IsMoveAmong (length parts.now.states.items) by.now }
     ensures { IfOk result
@@ -97,7 +97,7 @@ fn moved_state(
     })
 }
 
-// Adds a state as it will be: with its row where it has one, not at all where it has none and stands in a line,
+// Adds a state as it will be: with its row where it has one, not at all where it has none and stands in a block,
 // and else as it is.
 fn add_state(
     alloc: Global,
@@ -117,7 +117,7 @@ fn add_state(
     let old = &parts.states[state.0 as usize];
     match move_of_state(moves, state) {
         Some(by) => push_made(out, moved_state(alloc, parts, old, by)),
-        None => if is_straight(m, state) {
+        None => if is_in_block(m, state) {
             Ok(())
         } else {
             push_made(out, copied_state(alloc, old))
@@ -125,7 +125,7 @@ fn add_state(
     }
 }
 
-// The states with moves: one for each move, and none for a state of a line that has no move.
+// The states with moves: one for each move, and none for a state of a block that has no move.
 fn moved_states(
     alloc: Global,
     parts: &Parts,
@@ -146,7 +146,7 @@ fn moved_states(
     Ok(out)
 }
 
-/// The parts with moves: a state for each move, and none for a state of a line that has no move. Other states and the
+/// The parts with moves: a state for each move, and none for a state of a block that has no move. Other states and the
 /// declarations stay.
 pub fn moved_parts(
     alloc: Global,

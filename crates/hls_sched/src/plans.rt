@@ -1,28 +1,28 @@
-//! Plans of lines.
+//! Plans of blocks.
 
 ghost use Rattle.std.specs.Prelude.{◌≡◌, ◌<◌, length, map, IfOk};
 ghost use Rattle.std.specs.List.{All};
-ghost use Rattle.hls_line_filling.specs.StraightLines.{item_of, items_at};
+ghost use Rattle.hls_block_filling.specs.BasicBlocks.{item_of, items_at};
 ghost use Rattle.hls_unit_counts.specs.declared.units.Unit.{Unit as Kind};
-ghost use Rattle.hls_line_filling.specs.ItemUnits.{used_by, units_in};
-ghost use Rattle.hls_line_filling.specs.Heights.{chain_of};
-ghost use Rattle.hls_line_filling.specs.Filling.{graph_of, filling_of};
-ghost use Rattle.hls_line_filling.specs.Schedules.{IsWithin};
-ghost use Rattle.hls_line_filling.specs.EffectSets.{sets_of, sets_from, none_changed};
-ghost use Rattle.hls_line_filling.specs.Profiles.{units_of_uses, capped_count};
-ghost use Rattle.hls_line_filling.specs.Plans.{filled_in};
+ghost use Rattle.hls_block_filling.specs.ItemUnits.{used_by, units_in};
+ghost use Rattle.hls_block_filling.specs.Heights.{chain_of};
+ghost use Rattle.hls_block_filling.specs.Filling.{graph_of, filling_of};
+ghost use Rattle.hls_block_filling.specs.Schedules.{IsWithin};
+ghost use Rattle.hls_block_filling.specs.EffectSets.{sets_of, sets_from, none_changed};
+ghost use Rattle.hls_block_filling.specs.Profiles.{units_of_uses, capped_count};
+ghost use Rattle.hls_block_filling.specs.Plans.{filled_in};
 ghost use Rattle.hls_sched.specs.RowMoves.{IsPlanFor};
-ghost use Rattle.hls_sched.specs.CodeLines.{IsLineFrom};
+ghost use Rattle.hls_sched.specs.TracedBlocks.{IsBlockFrom};
 
-use crate::lines::{Line, item};
+use crate::blocks::{Block, item};
 use fs_ast::machine::Machine;
 use fs_model::name::NoMemory;
 use fs_model::parts::StateId;
-use hls_line_filling::effects::Effects;
-use hls_line_filling::over::see_counts;
-use hls_line_filling::plan::{Plan, make_plan};
-use hls_line_filling::unit_laws::items_within_the_units_are_counted;
-use hls_line_filling::uses::{Uses, uses_of};
+use hls_block_filling::effects::Effects;
+use hls_block_filling::over::see_counts;
+use hls_block_filling::plan::{Plan, make_plan};
+use hls_block_filling::unit_laws::items_within_the_units_are_counted;
+use hls_block_filling::uses::{Uses, uses_of};
 use hls_unit_counts::Units;
 use std::alloc::Global;
 
@@ -52,24 +52,24 @@ fn all_uses(alloc: Global, m: &Machine, states: &[StateId]) -> Result<Vec<Uses>,
     Ok(out)
 }
 
-/// Plans the rows of a line.
-pub fn plan_line(
+/// Plans the rows of a block.
+pub fn plan_block(
     alloc: Global,
     m: &Machine,
     first: StateId,
-    line: &Line,
+    block: &Block,
     units: &Units,
 ) -> Result<Plan, NoMemory>
     requires within { IsWithin (units_in units.now) m.now }
-    requires line { IsLineFrom m.now first.0 line.now }
+    requires block { IsBlockFrom m.now first.0 block.now }
     ensures rows { IfOk result (λ p. filled_in p ≡ filling_of (graph_of (items_at m.now first.0)) (units_in units.now)) }
     ensures chain { IfOk result (λ p. p.chain ≡ chain_of (items_at m.now first.0)) }
-    ensures plan { IfOk result (λ p. IsPlanFor (length line.now.states.items) p) }
+    ensures plan { IfOk result (λ p. IsPlanFor (length block.now.states.items) p) }
 {
     let _vars = m.vars(); // The call tells the proof that the machine is sound.
     see_counts(units);
     items_within_the_units_are_counted();
-    let effects = all_effects(alloc, m, &line.states)?;
-    let uses = all_uses(alloc, m, &line.states)?;
+    let effects = all_effects(alloc, m, &block.states)?;
+    let uses = all_uses(alloc, m, &block.states)?;
     Ok(make_plan(alloc, &effects, &uses, units)?)
 }

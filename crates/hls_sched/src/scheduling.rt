@@ -1,4 +1,4 @@
-//! List scheduling: the straight lines of a machine in rows.
+//! List scheduling: the basic blocks of a machine in rows.
 
 ghost use Rattle.std.specs.Prelude.{◌≡◌, ◌<◌, ◌++◌, true, None, length, map, IsTrue, IfOk};
 ghost use Rattle.std.specs.List.{All};
@@ -9,37 +9,37 @@ ghost use Rattle.fs_model.specs.View.{source_of};
 ghost use Rattle.fs_model.specs.WellFormed.{is_well_formed};
 ghost use Rattle.fs_ast.specs.MachineOfParts.{machine_of};
 ghost use Rattle.fs_ast.specs.Rules.{BreaksNoRule};
-ghost use Rattle.hls_line_filling.specs.ItemUnits.{units_in};
-ghost use Rattle.hls_line_filling.specs.Schedules.{IsWithin, schedule_of};
-ghost use Rattle.hls_line_filling.specs.SourceRows.{named_moves};
-ghost use Rattle.hls_line_filling.specs.StraightLines.{is_first_of_line};
-ghost use Rattle.hls_line_filling.specs.Sources.{scheduled_source};
-ghost use Rattle.hls_line_filling.specs.Over.{over_in};
+ghost use Rattle.hls_block_filling.specs.ItemUnits.{units_in};
+ghost use Rattle.hls_block_filling.specs.Schedules.{IsWithin, schedule_of};
+ghost use Rattle.hls_block_filling.specs.SourceRows.{named_moves};
+ghost use Rattle.hls_block_filling.specs.BasicBlocks.{is_first_of_block};
+ghost use Rattle.hls_block_filling.specs.Sources.{scheduled_source};
+ghost use Rattle.hls_block_filling.specs.Over.{over_in};
 ghost use Rattle.hls_sched.specs.Arrivals.{AreArrivals};
 ghost use Rattle.hls_sched.specs.RowMoves.{move_of, IsMoveAmong};
-ghost use Rattle.hls_sched.specs.CodeLines.{moves_from};
+ghost use Rattle.hls_sched.specs.TracedBlocks.{moves_from};
 ghost use Rattle.hls_sched.specs.Reports.{report_of, report_at, reports, KeepsLengths, IsNotScheduled};
 ghost use Rattle.hls_sched.specs.declared.scheduling.SchedError.TheVariants as errors;
 
 use crate::arrivals::{Arrivals, count_arrivals};
-use crate::lines::{firsts, trace_line};
+use crate::blocks::{firsts, trace_block};
 use crate::moves::{Move, add_moves};
 use crate::parts::moved_parts;
-use crate::plans::plan_line;
+use crate::plans::plan_block;
 use fs_ast::lawful_machines::build_lawful;
 use fs_ast::machine::Machine;
 use fs_model::memory::push_made;
 use fs_model::name::NoMemory;
 use fs_model::parts::{Parts, StateId};
-use hls_line_filling::over::over_in;
-use hls_line_filling::source_laws::{
+use hls_block_filling::over::over_in;
+use hls_block_filling::source_laws::{
     a_scheduled_text_is_lawful, a_scheduled_text_spells_the_schedule,
 };
-use hls_line_filling::unit_laws::machines_within_the_units;
+use hls_block_filling::unit_laws::machines_within_the_units;
 use hls_unit_counts::{Unit, Units};
 use std::alloc::Global;
 
-/// A line: its first state, its length, how many rows it has now, and its chain.
+/// A block: its first state, its length, how many rows it has now, and its chain.
 #[derive(Clone, Copy)]
 pub struct LineReport {
     pub first: StateId,
@@ -48,7 +48,7 @@ pub struct LineReport {
     pub chain: u32,
 }
 
-/// A machine whose lines are scheduled: its parts, the machine that they spell, and what became of each line, in the
+/// A machine whose blocks are scheduled: its parts, the machine that they spell, and what became of each block, in the
 /// order of first states.
 #[derive(Drop)]
 pub struct Scheduled {
@@ -74,15 +74,15 @@ impl From<NoMemory> for SchedError {
     }
 }
 
-// The rows of all lines in their states, and what becomes of each line.
+// The rows of all blocks in their states, and what becomes of each block.
 #[derive(Drop)]
-struct Lines {
+struct Blocks {
     moves: Vec<Move>,
     reports: Vec<LineReport>,
 }
 
-// Adds the rows of the line of a first state, in the first states of the line. What becomes of it.
-fn schedule_line(
+// Adds the rows of the block of a first state, in the first states of the block. What becomes of it.
+fn schedule_block(
     alloc: Global,
     m: &Machine,
     units: &Units,
@@ -93,7 +93,7 @@ fn schedule_line(
     requires within { IsWithin (units_in units.now) m.now }
     requires arrivals { AreArrivals m.now arrivals.now }
     requires first { first.0 < length m.now.states }
-    requires starts { is_first_of_line m.now first.0 ≡ true }
+    requires starts { is_first_of_block m.now first.0 ≡ true }
     requires among { All (IsMoveAmong (length m.now.states)) out.now.items }
     ensures report { IfOk result (λ r. report_of r ≡ report_at (units_in units.now) m.now first.0) }
     ensures moves { OnOk result
@@ -102,19 +102,19 @@ fn schedule_line(
     ensures among { OnOk result (All (IsMoveAmong (length m.now.states)) out.new.items) }
 {
     let _vars = m.vars(); // The call tells the proof that the machine is sound.
-    let line = trace_line(alloc, m, arrivals, first)?;
-    let plan = plan_line(alloc, m, first, &line, units)?;
-    add_moves(alloc, &line, &plan, out)?;
+    let block = trace_block(alloc, m, arrivals, first)?;
+    let plan = plan_block(alloc, m, first, &block, units)?;
+    add_moves(alloc, &block, &plan, out)?;
     Ok(LineReport {
         first,
-        before: line.states.len() as u32,
+        before: block.states.len() as u32,
         after: plan.count,
         chain: plan.chain,
     })
 }
 
-// The rows of all lines in their states, and what becomes of each line.
-fn schedule_lines(alloc: Global, m: &Machine, units: &Units) -> Result<Lines, NoMemory>
+// The rows of all blocks in their states, and what becomes of each block.
+fn schedule_blocks(alloc: Global, m: &Machine, units: &Units) -> Result<Blocks, NoMemory>
     requires within { IsWithin (units_in units.now) m.now }
     ensures reports { IfOk result (λ l. map report_of l.reports.items ≡ reports (units_in units.now) m.now) }
     ensures moves { IfOk result (λ l. (p : Source) → map (move_of p) l.moves.items ≡ named_moves (units_in units.now) p m.now) }
@@ -127,13 +127,13 @@ fn schedule_lines(alloc: Global, m: &Machine, units: &Units) -> Result<Lines, No
     for first in &firsts {
         push_made(
             &mut reports,
-            schedule_line(alloc, m, units, &arrivals, *first, &mut moves),
+            schedule_block(alloc, m, units, &arrivals, *first, &mut moves),
         )?;
     }
-    Ok(Lines { moves, reports })
+    Ok(Blocks { moves, reports })
 }
 
-// The parts with all lines in rows, and what becomes of each line.
+// The parts with all blocks in rows, and what becomes of each block.
 fn parts_in_rows(
     alloc: Global,
     parts: &Parts,
@@ -145,14 +145,14 @@ fn parts_in_rows(
     ensures parts { IfOk result (λ r. source_of r.0 ≡ scheduled_source (units_in units.now) (source_of parts.now) m.now) }
     ensures lines { IfOk result (λ r. map report_of r.1.items ≡ reports (units_in units.now) m.now) }
 {
-    let Lines { moves, reports } = schedule_lines(alloc, m, units)?;
+    let Blocks { moves, reports } = schedule_blocks(alloc, m, units)?;
     let parts = moved_parts(alloc, parts, m, &moves)?;
     Ok((parts, reports))
 }
 
-/// Schedules each straight line of a machine under a number of units. Rows are filled one after another, of the
+/// Schedules each basic block of a machine under a number of units. Rows are filled one after another, of the
 /// items whose earlier ones and whose units let them stand in the row the highest first, at a tie the first; the rows
-/// stand in the first states of the line, and its other states are left out. The parts are those of which the machine
+/// stand in the first states of the block, and its other states are left out. The parts are those of which the machine
 /// was built.
 ///
 /// `Over` comes exactly where a transition uses more of a unit than is given: it names the first state, in order, that

@@ -1,7 +1,7 @@
 -- Laws of the chain of first reductions, and of what inputs are given.
 use Rattle.std.specs.Prelude.{◌≡◌, ℕ, List, IsTrue}
 use Rattle.fs_ast.specs.MachineOfParts.{machine_of}
-use Rattle.fs_ast.specs.SoundParts.{IsSound}
+use Rattle.fs_model.specs.SoundMachines.{IsSound}
 use Rattle.fs_model.specs.Source.{Source}
 use Rattle.fs_model.specs.Machines.{Fsmd}
 use Rattle.fs_model.specs.Runs.{Content}

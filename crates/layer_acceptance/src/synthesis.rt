@@ -1,4 +1,4 @@
-//! Straight lines, their rows, unit counts, blocks in blocks and chains.
+//! Basic blocks, their rows, unit counts, blocks in blocks and chains.
 
 mod chains;
 mod counts;

@@ -4,9 +4,9 @@ use Rattle.std.proofs.Common.{append_assoc, add-one, arith, refl, ap, sym, subst
 use Rattle.std.proofs.lemmas.List.{append-nil}
 use Rattle.std.proofs.lemmas.Bool.{and_from, not-true}
 use Rattle.base_laws.proofs.Booleans.{and_first, and_second, or_false}
-use Rattle.nf_terms.specs.NormalTerms.{Polynomial, ArrayTerm, Over, base_of, writes_over, Writes, NoWrites, Write, writes_of}
-use Rattle.nf_terms.specs.View.{polynomial_in, write_in}
-use Rattle.nf_terms.specs.Order.{same_polynomial}
+use Rattle.nf_trees.specs.NormalTerms.{Polynomial, ArrayTerm, Over, base_of, writes_over, Writes, NoWrites, Write, writes_of}
+use Rattle.nf_trees.specs.View.{polynomial_in, write_in}
+use Rattle.nf_trees.specs.Order.{same_polynomial}
 use Rattle.nf_terms.specs.Normal.{ordered, ordered_writes, is_written}
 use Rattle.nf_trees.specs.declared.tree.Base.{Base}
 use Rattle.nf_trees.specs.declared.tree.PolyTree.{PolyTree}

@@ -8,8 +8,8 @@ use Rattle.std.proofs.lemmas.Int.{ints}
 use Rattle.std.proofs.lemmas.Nat.{div-add-mod'}
 use Rattle.base_laws.specs.Division.{remainder}
 use Rattle.base_laws.proofs.Booleans.{and_first}
-use Rattle.nf_terms.specs.NormalTerms.{Polynomial, ArrayTerm, Read, Quotient, Remainder, One, Times, Zero, Plus}
-use Rattle.nf_terms.specs.Measures.{weight_of}
+use Rattle.nf_trees.specs.NormalTerms.{Polynomial, ArrayTerm, Read, Quotient, Remainder, One, Times, Zero, Plus}
+use Rattle.nf_trees.specs.Measures.{weight_of}
 use Rattle.nf_terms.specs.Normal.{IsNormal, IsNormalArray, ordered, ordered_array, stays_read, is_constant, constant_part, is_light, narrow_inside}
 use Rattle.nf_terms.specs.Normal.{narrow_array}
 use Rattle.nf_terms.specs.TermLimits.{weight_limit}

@@ -3,9 +3,9 @@ use Rattle.std.proofs.Common.{◌≡◌, ℕ, ◌+◌, ◌<◌, ◌≤◌, ◌-�
 use Rattle.std.proofs.lemmas.Int.{ints}
 use Rattle.std.proofs.lemmas.Bool.{or_from, and_from, or_right, not-true}
 use Rattle.base_laws.proofs.Booleans.{and_first, and_second, neither_first, neither_second, by_test}
-use Rattle.nf_terms.specs.NormalTerms.{Polynomial, ArrayTerm, Writes, Over, NoWrites, Write}
-use Rattle.nf_terms.specs.Order.{same_polynomial}
-use Rattle.nf_terms.specs.Measures.{size_of, depth_of, size_of_writes, depth_of_writes, size_of_array, depth_of_array}
+use Rattle.nf_trees.specs.NormalTerms.{Polynomial, ArrayTerm, Writes, Over, NoWrites, Write}
+use Rattle.nf_trees.specs.Order.{same_polynomial}
+use Rattle.nf_trees.specs.Measures.{size_of, depth_of, size_of_writes, depth_of_writes, size_of_array, depth_of_array}
 use Rattle.nf_terms.specs.Normal.{IsNormal, IsNormalArray, ordered, ordered_writes, is_written, write_rises, narrow_writes, ordered_array, narrow_array}
 use Rattle.nf_terms.specs.Normal.{is_light, narrow_inside, differ_by_constant, constant_part}
 use Rattle.nf_terms.specs.TermLimits.{depth_limit, size_limit}

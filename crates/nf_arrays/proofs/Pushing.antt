@@ -2,8 +2,8 @@
 use Rattle.std.proofs.Common.{◌≡◌, ℕ, ◌+◌, ◌<◌, ◌≤◌, max, List, [], ◌∷◌, ◌++◌, map, drop, length, get_or, append_assoc, arith, refl, ap, sym, ◌∙◌}
 use Rattle.std.proofs.lemmas.List.{append-nil, at_drop_all}
 use Rattle.base_laws.proofs.Lists.{drop_next}
-use Rattle.nf_terms.specs.NormalTerms.{Polynomial}
-use Rattle.nf_terms.specs.Measures.{size_of, depth_of}
+use Rattle.nf_trees.specs.NormalTerms.{Polynomial}
+use Rattle.nf_trees.specs.Measures.{size_of, depth_of}
 use Rattle.nf_terms.specs.TermMeaning.{Valuation, value_of, items_of_base, items_in}
 use Rattle.nf_terms.specs.Lists.{ListTerm, size_of_items, size_of_list, depth_of_items, depth_of_list}
 use Rattle.nf_terms.specs.Computed.{Done}

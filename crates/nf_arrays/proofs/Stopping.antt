@@ -2,9 +2,9 @@
 use Rattle.std.proofs.Common.{◌≡◌, ◌+◌, ◌≤◌, ◌&&◌, not, arith, subst, Bool, true, false, cond, List, [], ◌∷◌, ◌++◌, map, refl, ap, sym, ◌∙◌}
 use Rattle.std.proofs.Common.{append_assoc, length}
 use Rattle.std.proofs.lemmas.List.{append-nil}
-use Rattle.nf_terms.specs.NormalTerms.{Polynomial, ArrayTerm, Writes, base_of, writes_over, Read, Over, NoWrites, Write, writes_of}
-use Rattle.nf_terms.specs.Order.{same_polynomial}
-use Rattle.nf_terms.specs.Measures.{size_of, size_of_writes}
+use Rattle.nf_trees.specs.NormalTerms.{Polynomial, ArrayTerm, Writes, base_of, writes_over, Read, Over, NoWrites, Write, writes_of}
+use Rattle.nf_trees.specs.Order.{same_polynomial}
+use Rattle.nf_trees.specs.Measures.{size_of, size_of_writes}
 use Rattle.nf_terms.specs.Normal.{IsNormal, IsNormalArray, ordered, ordered_writes, stays_read, differ_by_constant, constant_part, last_index}
 use Rattle.std.specs.Prelude.{int_lt}
 use Rattle.std.specs.Ordering.{int_eq}
@@ -17,7 +17,7 @@ use Rattle.nf_trees.specs.declared.tree.Base.TheVariants as starts
 use Rattle.nf_terms.specs.Computed.{Done}
 use Rattle.nf_arrays.specs.NewAtoms.{new_atom}
 use Rattle.nf_arrays.proofs.Tidy.{tidy_write, last_normal, prefix_normal}
-use Rattle.nf_terms.specs.View.{polynomial_in, write_in}
+use Rattle.nf_trees.specs.View.{polynomial_in, write_in}
 use Rattle.nf_trees.specs.declared.tree.PolyTree.{PolyTree}
 use Rattle.nf_arrays.specs.Writes.{written_last, are_apart, stop_at, prefix_for, last_value, read_here, read_at}
 

@@ -2,9 +2,9 @@
 use Rattle.std.proofs.Common.{◌≡◌, ◌≤◌, Bool, true, false, ◌&&◌, ◌||◌, not, cond, arith, refl}
 use Rattle.std.proofs.lemmas.Bool.{and_from}
 use Rattle.base_laws.proofs.Booleans.{and_first, and_second, not_or_second}
-use Rattle.nf_terms.specs.NormalTerms.{Polynomial, Writes, Over, NoWrites, Write}
-use Rattle.nf_terms.specs.Order.{same_polynomial}
-use Rattle.nf_terms.specs.Measures.{size_of_writes, depth_of_writes}
+use Rattle.nf_trees.specs.NormalTerms.{Polynomial, Writes, Over, NoWrites, Write}
+use Rattle.nf_trees.specs.Order.{same_polynomial}
+use Rattle.nf_trees.specs.Measures.{size_of_writes, depth_of_writes}
 use Rattle.nf_terms.specs.Normal.{IsNormal, IsNormalArray, ordered, ordered_writes, is_written, write_rises, is_light, narrow_inside}
 use Rattle.nf_terms.specs.Normal.{narrow_writes}
 use Rattle.nf_trees.specs.declared.tree.Base.{Base}

@@ -6,10 +6,10 @@ use Rattle.std.specs.Cmp.{signed_Decides}
 use Rattle.base_laws.proofs.Booleans.{and_first, and_second, by_test}
 use Rattle.base_laws.proofs.Integers.{int_eq-true}
 use Rattle.base_laws.specs.Division.{quotient, remainder}
-use Rattle.nf_terms.specs.NormalTerms.{Atom, Polynomial, ArrayTerm, Writes, Read, Quotient, Remainder, One, Times, Zero, Plus, Over, NoWrites, Write}
-use Rattle.nf_terms.specs.NormalTerms.{polynomial_of_number}
-use Rattle.nf_terms.specs.Order.{same_polynomial}
-use Rattle.nf_terms.specs.Measures.{size_of, size_of_array, depth_of, depth_of_array}
+use Rattle.nf_trees.specs.NormalTerms.{Atom, Polynomial, ArrayTerm, Writes, Read, Quotient, Remainder, One, Times, Zero, Plus, Over, NoWrites, Write}
+use Rattle.nf_trees.specs.NormalTerms.{polynomial_of_number}
+use Rattle.nf_trees.specs.Order.{same_polynomial}
+use Rattle.nf_trees.specs.Measures.{size_of, size_of_array, depth_of, depth_of_array}
 use Rattle.nf_terms.specs.TermMeaning.{Valuation, contents_after_write as stored, contents_of_base, value_of, value_of_atom, contents_after, contents}
 use Rattle.nf_terms.specs.Normal.{is_written, is_constant, differ_by_constant, last_index}
 use Rattle.nf_trees.specs.declared.tree.Base.{Base}

@@ -1,8 +1,8 @@
 -- New atoms, quotients and remainders.
 use Rattle.std.specs.Prelude.{◌+◌, ◌*◌, ◌≤◌, ◌&&◌, IsTrue, cond, pos}
 use Rattle.base_laws.specs.Division.{quotient, remainder}
-use Rattle.nf_terms.specs.NormalTerms.{Atom, Polynomial, Quotient, Remainder, One, Times, Zero, Plus, polynomial_of_number}
-use Rattle.nf_terms.specs.Measures.{size_of, depth_of, size_of_atom, depth_of_atom}
+use Rattle.nf_trees.specs.NormalTerms.{Atom, Polynomial, Quotient, Remainder, One, Times, Zero, Plus, polynomial_of_number}
+use Rattle.nf_trees.specs.Measures.{size_of, depth_of, size_of_atom, depth_of_atom}
 use Rattle.nf_terms.specs.Normal.{ordered_atom, narrow_atom, is_constant}
 use Rattle.nf_terms.specs.TermLimits.{size_limit, depth_limit}
 use Rattle.nf_terms.specs.Computed.{Computed, Done, if_small}

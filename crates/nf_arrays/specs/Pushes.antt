@@ -1,7 +1,7 @@
 -- What a push computes.
 use Rattle.std.specs.Prelude.{◌+◌, [], ◌∷◌, ◌++◌}
-use Rattle.nf_terms.specs.NormalTerms.{Polynomial}
-use Rattle.nf_terms.specs.Measures.{size_of}
+use Rattle.nf_trees.specs.NormalTerms.{Polynomial}
+use Rattle.nf_trees.specs.Measures.{size_of}
 use Rattle.nf_terms.specs.Lists.{ListTerm, size_of_list, depth_of_list}
 use Rattle.nf_terms.specs.Computed.{Computed, if_small}
 

@@ -1,9 +1,9 @@
 -- What a write and a read compute.
 use Rattle.std.specs.Prelude.{◌+◌, Bool, true, ◌&&◌, not, cond}
 use Rattle.std.specs.Ordering.{int_eq}
-use Rattle.nf_terms.specs.NormalTerms.{Polynomial, ArrayTerm, Writes, Read, Zero, Over, NoWrites, Write}
-use Rattle.nf_terms.specs.Order.{same_polynomial}
-use Rattle.nf_terms.specs.Measures.{size_of, size_of_array, depth_of_array}
+use Rattle.nf_trees.specs.NormalTerms.{Polynomial, ArrayTerm, Writes, Read, Zero, Over, NoWrites, Write}
+use Rattle.nf_trees.specs.Order.{same_polynomial}
+use Rattle.nf_trees.specs.Measures.{size_of, size_of_array, depth_of_array}
 use Rattle.nf_terms.specs.Normal.{differ_by_constant, ordered, last_index}
 use Rattle.nf_trees.specs.declared.tree.Base.TheVariants as base
 use Rattle.nf_terms.specs.Computed.{Computed, Done, if_small}

@@ -1,8 +1,8 @@
 //! Atoms alone.
 
 ghost use Rattle.std.specs.Prelude.{◌≡◌, IfOk};
-ghost use Rattle.nf_terms.specs.NormalTerms.{One, Times};
-ghost use Rattle.nf_terms.specs.View.{atom_in, monomial_in, polynomial_in};
+ghost use Rattle.nf_trees.specs.NormalTerms.{One, Times};
+ghost use Rattle.nf_trees.specs.View.{atom_in, monomial_in, polynomial_in};
 ghost use Rattle.nf_terms.specs.Computed.{Answers};
 ghost use Rattle.nf_arrays.specs.NewAtoms.{new_atom as new_atom_of, polynomial_of_atom, IsNewAtom};
 

@@ -1,8 +1,8 @@
 //! Writes that are copied, and trees made of them.
 
 ghost use Rattle.std.specs.Prelude.{◌≡◌, ◌++◌, ◌∷◌, [], map, OnOk, IfOk};
-ghost use Rattle.nf_terms.specs.NormalTerms.{writes_of, Over, Read};
-ghost use Rattle.nf_terms.specs.View.{atom_in, polynomial_in, array_in, write_in};
+ghost use Rattle.nf_trees.specs.NormalTerms.{writes_of, Over, Read};
+ghost use Rattle.nf_trees.specs.View.{atom_in, polynomial_in, array_in, write_in};
 
 use nf_terms::atoms::make_read;
 use nf_terms::copies::push_write;

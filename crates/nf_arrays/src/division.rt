@@ -2,7 +2,7 @@
 
 ghost use Rattle.std.specs.Prelude.{◌≡◌, ◌^◌, ◌<◌, ◌&&◌, true, false, unsigned_abs, MatchOption};
 ghost use Rattle.base_laws.specs.Division.{quotient as quotient_in, remainder as remainder_in};
-ghost use Rattle.nf_terms.specs.NormalTerms.{Quotient, Remainder, polynomial_of_number};
+ghost use Rattle.nf_trees.specs.NormalTerms.{Quotient, Remainder, polynomial_of_number};
 ghost use Rattle.nf_terms.specs.Normal.{is_constant};
 ghost use Rattle.nf_terms.specs.Computed.{Answers, Done};
 ghost use Rattle.nf_terms.specs.Normal.{constant_sum};

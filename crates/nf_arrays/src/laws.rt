@@ -2,7 +2,7 @@
 
 ghost use Rattle.std.specs.Prelude.{◌≡◌, ◌++◌, ◌∷◌, [], ℤ};
 ghost use Rattle.base_laws.specs.Division.{quotient, remainder};
-ghost use Rattle.nf_terms.specs.NormalTerms.{Polynomial, ArrayTerm};
+ghost use Rattle.nf_trees.specs.NormalTerms.{Polynomial, ArrayTerm};
 ghost use Rattle.nf_terms.specs.TermMeaning.{Valuation, value_of, contents, items_in, contents_after_write as stored};
 ghost use Rattle.nf_terms.specs.Lists.{ListTerm};
 ghost use Rattle.nf_terms.specs.Normal.{IsNormalArray};

@@ -1,9 +1,9 @@
 //! Reads of arrays.
 
 ghost use Rattle.std.specs.Prelude.{◌≡◌, map, IsTrue};
-ghost use Rattle.nf_terms.specs.NormalTerms.{writes_of, Over, Read};
-ghost use Rattle.nf_terms.specs.View.{polynomial_in, write_in};
-ghost use Rattle.nf_terms.specs.Order.{same_polynomial};
+ghost use Rattle.nf_trees.specs.NormalTerms.{writes_of, Over, Read};
+ghost use Rattle.nf_trees.specs.View.{polynomial_in, write_in};
+ghost use Rattle.nf_trees.specs.Order.{same_polynomial};
 ghost use Rattle.nf_terms.specs.Normal.{IsNormalArray, ordered, ordered_writes, stays_read};
 ghost use Rattle.nf_terms.specs.Computed.{Answers};
 ghost use Rattle.nf_arrays.specs.NewAtoms.{new_atom as new_atom_of};

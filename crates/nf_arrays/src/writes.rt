@@ -1,8 +1,8 @@
 //! Writes of arrays.
 
 ghost use Rattle.std.specs.Prelude.{◌≡◌, ◌≤◌, ◌++◌, ◌∷◌, map, take, drop, length, OnOk, IfOk, IsTrue};
-ghost use Rattle.nf_terms.specs.NormalTerms.{Polynomial, writes_of};
-ghost use Rattle.nf_terms.specs.View.{polynomial_in, array_in, write_in};
+ghost use Rattle.nf_trees.specs.NormalTerms.{Polynomial, writes_of};
+ghost use Rattle.nf_trees.specs.View.{polynomial_in, array_in, write_in};
 ghost use Rattle.nf_terms.specs.Normal.{ordered, ordered_writes};
 ghost use Rattle.nf_terms.specs.Computed.{Answers};
 ghost use Rattle.nf_terms.specs.Tidied.{goes_after, with_write, rising_stretches, last_writes, tidy_array};

@@ -2,7 +2,7 @@
 use Rattle.std.proofs.Common.{◌≡◌, Bool, true, false, cond, List, [], ◌∷◌, ◌++◌, length, take, append_assoc, ap, sym, subst, ◌∙◌}
 use Rattle.std.proofs.lemmas.List.{append-nil}
 use Rattle.std.proofs.Math.Seq.{take-append_seam}
-use Rattle.nf_terms.specs.NormalTerms.{Atom}
+use Rattle.nf_trees.specs.NormalTerms.{Atom}
 use Rattle.nf_bank.specs.Atoms.{holds_atom, with_one, IsFront}
 
 pub front_same : (a b : List Atom) → b ≡ a → IsFront a b

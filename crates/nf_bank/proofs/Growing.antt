@@ -1,7 +1,7 @@
 -- What numbers stand for stays as atoms are put behind, and differs where the numbers do.
 use Rattle.std.proofs.Common.{◌≡◌, ℕ, ◌≤◌, max, ℤ, Some, List, [], ◌∷◌, ◌++◌, length, map, arith, refl, ap, sym, ◌∙◌}
 use Rattle.std.proofs.lemmas.List.{get_or_append_left, length-append}
-use Rattle.nf_terms.specs.NormalTerms.{Atom, Monomial, Polynomial, ArrayTerm, Read, Quotient, Remainder, Over, monomial_of, polynomial_of, writes_of}
+use Rattle.nf_trees.specs.NormalTerms.{Atom, Monomial, Polynomial, ArrayTerm, Read, Quotient, Remainder, Over, monomial_of, polynomial_of, writes_of}
 use Rattle.nf_bank.specs.declared.node.Term.{Term}
 use Rattle.nf_bank.specs.declared.node.Array.{Array}
 use Rattle.nf_bank.specs.declared.node.Node.TheVariants as node

@@ -6,8 +6,8 @@ use Rattle.std.proofs.lemmas.List.Folds.{list_any-append}
 use Rattle.std.proofs.Math.Seq.{take-append_seam}
 use Rattle.std.specs.List.{list_any, slice_get}
 use Rattle.fs_model.proofs.Booleans.{or_false}
-use Rattle.nf_terms.specs.NormalTerms.{Atom}
-use Rattle.nf_terms.specs.Order.{same_atom}
+use Rattle.nf_trees.specs.NormalTerms.{Atom}
+use Rattle.nf_trees.specs.Order.{same_atom}
 use Rattle.nf_bank.specs.declared.node.Node.{Node}
 use Rattle.nf_bank.specs.Nodes.{same_node}
 use Rattle.nf_bank.specs.Equal.{nodes_decide}

@@ -7,9 +7,9 @@ use Rattle.std.specs.Ordering.{is_eq}
 use Rattle.std.proofs.lemmas.Bool.{or_left, or_right, not-true, lt-ltb}
 use Rattle.fs_model.proofs.Booleans.{neither_first, neither_second}
 use Rattle.fs_model.proofs.Orderings.{is_eq-true}
-use Rattle.nf_terms.specs.NormalTerms.{Atom}
-use Rattle.nf_terms.specs.Order.{cmp_atom, same_atom}
-use Rattle.nf_terms.specs.TermKeys.{atom_ties, atom_same}
+use Rattle.nf_trees.specs.NormalTerms.{Atom}
+use Rattle.nf_trees.specs.Order.{cmp_atom, same_atom}
+use Rattle.nf_trees.specs.TermKeys.{atom_ties, atom_same}
 use Rattle.nf_bank.specs.Atoms.{holds_atom, atom_place, with_one, AreDifferent, IsBank}
 use Rattle.nf_bank.specs.AtomNumbers.{past_end, atom_at}
 

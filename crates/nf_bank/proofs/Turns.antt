@@ -1,8 +1,8 @@
 -- Loops that gather numbers: what they spell so far, and what is left.
 use Rattle.std.proofs.Common.{◌≡◌, ℕ, ◌+◌, ◌<◌, ◌≤◌, ℤ, Some, List, [], ◌∷◌, ◌++◌, length, map, take, get_or, arith, ap, sym, subst, ◌∙◌}
 use Rattle.std.proofs.lemmas.List.{map_push, map_more, take_all}
-use Rattle.nf_terms.specs.NormalTerms.{Atom, Monomial, Polynomial, ArrayTerm, Over, monomial_of, polynomial_of, writes_of}
-use Rattle.nf_terms.specs.View.{atom_in, monomial_in, polynomial_in, term_in, write_in}
+use Rattle.nf_trees.specs.NormalTerms.{Atom, Monomial, Polynomial, ArrayTerm, Over, monomial_of, polynomial_of, writes_of}
+use Rattle.nf_trees.specs.View.{atom_in, monomial_in, polynomial_in, term_in, write_in}
 use Rattle.nf_trees.specs.declared.tree.Atom.{Atom as AtomTree}
 use Rattle.nf_trees.specs.declared.tree.MonoTree.{MonoTree}
 use Rattle.nf_trees.specs.declared.tree.PolyTree.{PolyTree}

@@ -1,6 +1,6 @@
 -- Lists of nodes, each over the atoms of nodes before it.
 use Rattle.std.specs.Prelude.{ℕ, ◌+◌, ◌≤◌, List, [], ◌∷◌, ◌++◌}
-use Rattle.nf_terms.specs.NormalTerms.{Atom}
+use Rattle.nf_trees.specs.NormalTerms.{Atom}
 use Rattle.nf_bank.specs.declared.node.Node.{Node}
 use Rattle.nf_bank.specs.Atoms.{IsBank}
 use Rattle.nf_bank.specs.AtomNumbers.{bound_of_node, atom_over}

@@ -1,7 +1,7 @@
 -- What numbers stand for over a list of atoms.
 use Rattle.std.specs.Prelude.{◌≡◌, ℕ, ◌+◌, ◌≤◌, max, ℤ, List, [], ◌∷◌, length, map, get_or}
-use Rattle.nf_terms.specs.NormalTerms.{Atom, Monomial, Polynomial, ArrayTerm, Symbol, Read, Quotient, Remainder, Over}
-use Rattle.nf_terms.specs.NormalTerms.{monomial_of, polynomial_of, writes_of}
+use Rattle.nf_trees.specs.NormalTerms.{Atom, Monomial, Polynomial, ArrayTerm, Symbol, Read, Quotient, Remainder, Over}
+use Rattle.nf_trees.specs.NormalTerms.{monomial_of, polynomial_of, writes_of}
 use Rattle.fs_model.specs.declared.sides.Side.TheVariants.{Left}
 use Rattle.nf_bank.specs.declared.node.AtomId.{AtomId}
 use Rattle.nf_bank.specs.declared.node.Term.{Term}

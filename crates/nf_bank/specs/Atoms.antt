@@ -2,9 +2,9 @@
 use Rattle.std.specs.Prelude.{◌≡◌, ℕ, cond, not, IsTrue, Bool, Option, List, [], ◌∷◌, ◌++◌}
 use Rattle.std.specs.List.{list_any, position}
 use Rattle.std.specs.Coded.{Coded, coded_list}
-use Rattle.nf_terms.specs.NormalTerms.{Atom, Monomial, Polynomial, ArrayTerm, Writes, Symbol, Read, Quotient, Remainder, One}
-use Rattle.nf_terms.specs.NormalTerms.{Times, Zero, Plus, Over, NoWrites, Write}
-use Rattle.nf_terms.specs.Order.{same_atom}
+use Rattle.nf_trees.specs.NormalTerms.{Atom, Monomial, Polynomial, ArrayTerm, Writes, Symbol, Read, Quotient, Remainder, One}
+use Rattle.nf_trees.specs.NormalTerms.{Times, Zero, Plus, Over, NoWrites, Write}
+use Rattle.nf_trees.specs.Order.{same_atom}
 use Rattle.nf_terms.specs.Codes.{coded_atom}
 
 -- whether an atom is in a list

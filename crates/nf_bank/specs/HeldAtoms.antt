@@ -1,7 +1,7 @@
 -- Whether the atoms of a term are in a list.
 use Rattle.std.specs.Prelude.{◌≡◌, Bool, true, ◌&&◌, List}
-use Rattle.nf_terms.specs.NormalTerms.{Atom, Monomial, Polynomial, ArrayTerm, Writes, Symbol, Read, Quotient, Remainder, One}
-use Rattle.nf_terms.specs.NormalTerms.{Times, Zero, Plus, Over, NoWrites, Write}
+use Rattle.nf_trees.specs.NormalTerms.{Atom, Monomial, Polynomial, ArrayTerm, Writes, Symbol, Read, Quotient, Remainder, One}
+use Rattle.nf_trees.specs.NormalTerms.{Times, Zero, Plus, Over, NoWrites, Write}
 use Rattle.nf_bank.specs.Atoms.{holds_atom}
 
 -- each atom of a monomial

@@ -2,7 +2,7 @@
 use Rattle.std.specs.Prelude.{Bool, true, false, ◌&&◌, ◌==◌}
 use Rattle.std.specs.Ordering.{int_eq}
 use Rattle.std.specs.Cmp.Lexicographic.{pointwise}
-use Rattle.nf_terms.specs.Mentions.{same_pos}
+use Rattle.nf_trees.specs.Mentions.{same_pos}
 use Rattle.nf_trees.specs.declared.tree.Base.{Base}
 use Rattle.nf_trees.specs.declared.tree.Base.TheVariants as base
 use Rattle.nf_bank.specs.declared.node.AtomId.{AtomId}

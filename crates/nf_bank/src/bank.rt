@@ -2,7 +2,7 @@
 
 ghost use Rattle.std.specs.Prelude.{◌≡◌, ◌<◌, ◌≤◌, [], length, take, slice_get, Some};
 ghost use Rattle.std.specs.Prelude.{IfOk, OnOk, OnErr};
-ghost use Rattle.nf_terms.specs.View.{atom_in};
+ghost use Rattle.nf_trees.specs.View.{atom_in};
 ghost use Rattle.nf_bank.specs.Atoms.{atom_place, with_one, with_atom, IsBank, IsFront};
 ghost use Rattle.nf_bank.specs.HeldAtoms.{IsClosedUnderAtoms};
 ghost use Rattle.nf_bank.specs.AtomNumbers.{bound_of_node, atom_of_number, atom_over};
@@ -26,7 +26,7 @@ pub struct Bank {
 
 impl Model for Bank {
     ghost use Rattle.std.specs.Prelude.{List};
-    ghost use Rattle.nf_terms.specs.NormalTerms.{Atom};
+    ghost use Rattle.nf_trees.specs.NormalTerms.{Atom};
     ghost use Rattle.nf_bank.specs.Atoms.{coded_atoms};
     ghost use Rattle.nf_bank.specs.AtomGraphs.{atoms_of, IsAtomGraph};
 

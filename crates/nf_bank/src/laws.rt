@@ -1,7 +1,7 @@
 //! Laws of banks. The functions do nothing.
 
 ghost use Rattle.std.specs.Prelude.{◌≡◌, ℕ, List, Some, slice_get};
-ghost use Rattle.nf_terms.specs.NormalTerms.{Atom};
+ghost use Rattle.nf_trees.specs.NormalTerms.{Atom};
 ghost use Rattle.nf_bank.specs.Atoms.{IsBank, atom_place};
 
 /// In a bank an atom has one number: the place at which it stands is the one that is found for it.

@@ -1,7 +1,7 @@
 //! Terms by numbers: the atoms in them are put into a bank.
 
 ghost use Rattle.std.specs.Prelude.{◌≡◌, Some, IfOk, OnOk};
-ghost use Rattle.nf_terms.specs.View.{atom_in, monomial_in, polynomial_in, array_in};
+ghost use Rattle.nf_trees.specs.View.{atom_in, monomial_in, polynomial_in, array_in};
 ghost use Rattle.nf_bank.specs.Atoms.{atom_place, with_atom, with_inner, with_monomial, with_terms, with_array, IsFront};
 ghost use Rattle.nf_bank.specs.AtomNumbers.{SpellsMonomial, SpellsSum, SpellsArray, SpellsAtom};
 

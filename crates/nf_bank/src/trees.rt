@@ -1,7 +1,7 @@
 //! Trees of terms that are given by numbers.
 
 ghost use Rattle.std.specs.Prelude.{◌≡◌, ◌<◌, ◌≤◌, length, IfOk};
-ghost use Rattle.nf_terms.specs.View.{atom_in, monomial_in, polynomial_in, array_in};
+ghost use Rattle.nf_trees.specs.View.{atom_in, monomial_in, polynomial_in, array_in};
 ghost use Rattle.nf_bank.specs.AtomNumbers.{bound_over, bound_of_number, bound_of_sum, bound_of_array, atom_of_number};
 ghost use Rattle.nf_bank.specs.AtomNumbers.{monomial_over, sum_over, array_over};
 

@@ -7,8 +7,8 @@ use Rattle.std.proofs.lemmas.Bool.{or_left, and_from, or_right, false_from_ne_tr
 use Rattle.nf_sums.proofs.Constants.{equal_of_same}
 use Rattle.fs_model.proofs.Booleans.{and_first, and_second, neither_first, neither_second}
 use Rattle.fs_model.proofs.Options.{is_some-map}
-use Rattle.nf_terms.specs.NormalTerms.{Polynomial}
-use Rattle.nf_terms.specs.Order.{same_polynomial}
+use Rattle.nf_trees.specs.NormalTerms.{Polynomial}
+use Rattle.nf_trees.specs.Order.{same_polynomial}
 use Rattle.nf_rel.specs.declared.kind.Kind.{Kind}
 use Rattle.nf_rel.specs.declared.kind.Kind.TheVariants.{Ge, Le, Eq, Ne}
 use Rattle.nf_rel.specs.Bounds.{clashing_from}

@@ -8,8 +8,8 @@ use Rattle.std.specs.Int.{int_div_euclid}
 use Rattle.std.specs.Ordering.{int_eq}
 use Rattle.std.specs.Cmp.{signed_Decides}
 use Rattle.fs_model.proofs.Integers.{unsigned_abs-add, unsigned_abs-neg}
-use Rattle.nf_terms.specs.NormalTerms.{Polynomial, One, Times, Zero, Plus}
-use Rattle.nf_terms.specs.Measures.{weight_of}
+use Rattle.nf_trees.specs.NormalTerms.{Polynomial, One, Times, Zero, Plus}
+use Rattle.nf_trees.specs.Measures.{weight_of}
 use Rattle.nf_terms.specs.Normal.{IsNormal, ordered, part_with_atoms}
 use Rattle.nf_terms.specs.Reduced.{Reduces, Ended, Kept}
 use Rattle.nf_terms.proofs.Simple.{light}

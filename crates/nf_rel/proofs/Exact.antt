@@ -7,9 +7,9 @@ use Rattle.std.specs.Ordering.{int_eq, is_eq}
 use Rattle.std.proofs.lemmas.Bool.{or_left, or_right, not-false, not-true}
 use Rattle.fs_model.proofs.Booleans.{and_first, and_second}
 use Rattle.fs_model.proofs.Integers.{int_eq-true}
-use Rattle.nf_terms.specs.NormalTerms.{Polynomial}
-use Rattle.nf_terms.specs.Order.{same_polynomial}
-use Rattle.nf_terms.specs.TermKeys.{polynomial_same}
+use Rattle.nf_trees.specs.NormalTerms.{Polynomial}
+use Rattle.nf_trees.specs.Order.{same_polynomial}
+use Rattle.nf_trees.specs.TermKeys.{polynomial_same}
 use Rattle.nf_rel.specs.declared.kind.Kind.{Kind}
 use Rattle.nf_rel.specs.declared.kind.Kind.TheVariants.{Ge, Le, Eq, Ne}
 use Rattle.nf_rel.specs.Literals.{NormalLiteral, True, False, Is, meets, meets_along, meets_all, numbers_near, is_refuted_along}

@@ -10,8 +10,8 @@ use Rattle.std.proofs.lemmas.Bool.{le-leb, eq-eqb, and_from}
 use Rattle.std.proofs.lemmas.Nat.Gcd.{dvd_refl, dvd-zero, dvd_trans}
 use Rattle.std.proofs.Math.Nat.{mul-dvd-mul_left, dvd_of_mul-dvd-mul_left, eq-one_of_dvd-one}
 use Rattle.fs_model.proofs.Integers.{unsigned_abs-neg}
-use Rattle.nf_terms.specs.NormalTerms.{Polynomial, One, Times, Zero, Plus}
-use Rattle.nf_terms.specs.Measures.{size_of, depth_of}
+use Rattle.nf_trees.specs.NormalTerms.{Polynomial, One, Times, Zero, Plus}
+use Rattle.nf_trees.specs.Measures.{size_of, depth_of}
 use Rattle.nf_terms.specs.TermLimits.{weight_limit, size_limit, depth_limit}
 use Rattle.nf_terms.specs.Normal.{IsNormal, has_atoms, ordered, narrow, part_with_atoms, constant_sum}
 use Rattle.nf_rel.specs.declared.kind.Kind.{Kind}

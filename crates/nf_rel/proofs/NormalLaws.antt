@@ -10,14 +10,14 @@ use Rattle.std.proofs.lemmas.Bool.{leb-true, and_from}
 use Rattle.fs_model.proofs.Booleans.{and_first, and_second}
 use Rattle.fs_model.specs.declared.parts.Rel.{Rel}
 use Rattle.fs_model.specs.declared.parts.Rel.TheVariants as rel
-use Rattle.nf_terms.specs.NormalTerms.{Polynomial}
-use Rattle.nf_terms.specs.Order.{same_polynomial}
-use Rattle.nf_terms.specs.Measures.{size_of, depth_of}
+use Rattle.nf_trees.specs.NormalTerms.{Polynomial}
+use Rattle.nf_trees.specs.Order.{same_polynomial}
+use Rattle.nf_trees.specs.Measures.{size_of, depth_of}
 use Rattle.nf_terms.specs.TermLimits.{size_limit, depth_limit}
 use Rattle.nf_terms.specs.Normal.{IsNormal, ordered, narrow}
 use Rattle.nf_terms.specs.RawSums.{raw_negation, raw_difference, IsNormalFormOf}
 use Rattle.nf_terms.specs.Computed.{Done, IfDone, after}
-use Rattle.nf_terms.specs.TermKeys.{polynomial_same}
+use Rattle.nf_trees.specs.TermKeys.{polynomial_same}
 use Rattle.nf_terms.proofs.Simple.{number_normal}
 use Rattle.nf_sums.specs.Operations.{normal_difference}
 use Rattle.nf_sums.proofs.Exact.{subtracted_form}

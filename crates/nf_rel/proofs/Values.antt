@@ -8,7 +8,7 @@ use Rattle.std.specs.Int.{int_div_euclid, int_rem_euclid}
 use Rattle.fs_model.specs.declared.parts.Rel.{Rel}
 use Rattle.fs_model.specs.declared.parts.Rel.TheVariants as rel
 use Rattle.fs_model.specs.Meaning.{relates}
-use Rattle.nf_terms.specs.NormalTerms.{Polynomial}
+use Rattle.nf_trees.specs.NormalTerms.{Polynomial}
 use Rattle.nf_terms.specs.Normal.{part_with_atoms, constant_sum}
 use Rattle.nf_terms.specs.TermMeaning.{Valuation, value_of}
 use Rattle.nf_terms.specs.RawSums.{raw_negation}

@@ -6,8 +6,8 @@ use Rattle.std.specs.Ordering.{int_eq}
 use Rattle.std.specs.List.{list_any, list_all}
 use Rattle.fs_model.specs.declared.parts.Rel.{Rel}
 use Rattle.fs_model.specs.declared.parts.Rel.TheVariants as rel
-use Rattle.nf_terms.specs.NormalTerms.{Polynomial, Zero, Plus, polynomial_of_number}
-use Rattle.nf_terms.specs.Order.{same_polynomial}
+use Rattle.nf_trees.specs.NormalTerms.{Polynomial, Zero, Plus, polynomial_of_number}
+use Rattle.nf_trees.specs.Order.{same_polynomial}
 use Rattle.nf_terms.specs.Normal.{part_with_atoms, constant_sum}
 use Rattle.nf_terms.specs.TermMeaning.{Valuation, value_of}
 use Rattle.nf_terms.specs.RawSums.{raw_negation}

@@ -1,9 +1,9 @@
 -- Which literals are in normal form, when two are the same, and how large they are.
 use Rattle.std.specs.Prelude.{◌≡◌, ℕ, ◌+◌, ◌==◌, nat_le, ℤ, neg_ℤ, Bool, true, false, ◌&&◌, Option, None, Some}
 use Rattle.std.specs.Ordering.{int_eq}
-use Rattle.nf_terms.specs.NormalTerms.{Polynomial, Zero, Plus}
-use Rattle.nf_terms.specs.Order.{same_polynomial}
-use Rattle.nf_terms.specs.Measures.{size_of, depth_of}
+use Rattle.nf_trees.specs.NormalTerms.{Polynomial, Zero, Plus}
+use Rattle.nf_trees.specs.Order.{same_polynomial}
+use Rattle.nf_trees.specs.Measures.{size_of, depth_of}
 use Rattle.nf_terms.specs.TermLimits.{size_limit, depth_limit}
 use Rattle.nf_terms.specs.Normal.{has_atoms, ordered, narrow}
 use Rattle.nf_rel.specs.declared.kind.Kind.{Kind}

@@ -1,9 +1,9 @@
 //! The common divisor of coefficients.
 
 ghost use Rattle.std.specs.Prelude.{◌≡◌, ◌≢◌, ◌≤◌, map, pos, cond, IfOk, OnOk, ◌++◌, ◌∷◌, [], int_div, unsigned_abs};
-ghost use Rattle.nf_terms.specs.NormalTerms.{polynomial_of};
-ghost use Rattle.nf_terms.specs.View.{monomial_in, term_in};
-ghost use Rattle.nf_terms.specs.Measures.{weight_of};
+ghost use Rattle.nf_trees.specs.NormalTerms.{polynomial_of};
+ghost use Rattle.nf_trees.specs.View.{monomial_in, term_in};
+ghost use Rattle.nf_trees.specs.Measures.{weight_of};
 ghost use Rattle.nf_terms.specs.Normal.{has_atoms, part_with_atoms};
 ghost use Rattle.nf_terms.specs.TermLimits.{weight_limit};
 ghost use Rattle.nf_rel.specs.Gcd.{gcd};

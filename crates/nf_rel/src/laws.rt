@@ -5,7 +5,7 @@ ghost use Rattle.std.specs.List.{list_any, slice_get};
 ghost use Rattle.std.specs.Option.{is_some};
 ghost use Rattle.fs_model.specs.declared.parts.Rel.{Rel};
 ghost use Rattle.fs_model.specs.Meaning.{relates};
-ghost use Rattle.nf_terms.specs.NormalTerms.{Polynomial};
+ghost use Rattle.nf_trees.specs.NormalTerms.{Polynomial};
 ghost use Rattle.nf_terms.specs.TermMeaning.{Valuation, value_of};
 ghost use Rattle.nf_terms.specs.Computed.{Done};
 ghost use Rattle.nf_terms.specs.Normal.{IsNormal};

@@ -2,8 +2,8 @@
 
 ghost use Rattle.std.specs.Prelude.{◌≡◌, ◌≢◌, ◌≤◌, ◌+◌, map, pos, neg_ℤ, IfOk, unsigned_abs};
 ghost use Rattle.std.specs.Int.{int_div_euclid};
-ghost use Rattle.nf_terms.specs.NormalTerms.{polynomial_of};
-ghost use Rattle.nf_terms.specs.View.{term_in};
+ghost use Rattle.nf_trees.specs.NormalTerms.{polynomial_of};
+ghost use Rattle.nf_trees.specs.View.{term_in};
 ghost use Rattle.nf_terms.specs.Normal.{IsNormal, part_with_atoms, constant_sum};
 ghost use Rattle.nf_terms.specs.TermLimits.{weight_limit};
 ghost use Rattle.nf_terms.specs.Computed.{Answers, Done, after};

@@ -1,8 +1,8 @@
 //! Which polynomials are directions.
 
 ghost use Rattle.std.specs.Prelude.{◌≡◌, map};
-ghost use Rattle.nf_terms.specs.NormalTerms.{polynomial_of};
-ghost use Rattle.nf_terms.specs.View.{term_in};
+ghost use Rattle.nf_trees.specs.NormalTerms.{polynomial_of};
+ghost use Rattle.nf_trees.specs.View.{term_in};
 ghost use Rattle.nf_terms.specs.Normal.{part_with_atoms};
 ghost use Rattle.nf_rel.specs.Literals.{begins_positive};
 ghost use Rattle.nf_rel.specs.NormalLiterals.{lacks_constant, is_primitive};

@@ -6,8 +6,8 @@ use Rattle.std.proofs.lemmas.Int.{ints}
 use Rattle.std.proofs.lemmas.Bool.{le-leb}
 use Rattle.nf_sums.proofs.Identities.{sum_with_zero}
 use Rattle.nf_terms.proofs.Simple.{light}
-use Rattle.nf_terms.specs.NormalTerms.{Atom, Monomial, Polynomial, One, Times, Zero, Plus}
-use Rattle.nf_terms.specs.Measures.{size_of, depth_of, weight_of}
+use Rattle.nf_trees.specs.NormalTerms.{Atom, Monomial, Polynomial, One, Times, Zero, Plus}
+use Rattle.nf_trees.specs.Measures.{size_of, depth_of, weight_of}
 use Rattle.nf_terms.specs.TermLimits.{weight_limit}
 use Rattle.nf_terms.specs.Normal.{IsNormal}
 use Rattle.nf_terms.specs.RawSums.{raw_multiple, raw_product}

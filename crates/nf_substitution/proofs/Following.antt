@@ -2,9 +2,9 @@
 use Rattle.std.proofs.Common.{◌≡◌, ℕ, ◌+◌, ◌<◌, List, map, drop, length, get_or, Result, Ok, Err, refl, ap, sym, subst, ◌∙◌}
 use Rattle.std.specs.Result.{IsErrAnd}
 use Rattle.fs_model.proofs.Lists.{map_drop_next, same_there}
-use Rattle.nf_terms.specs.NormalTerms.{Polynomial, ArrayTerm, monomial_of, polynomial_of, writes_of}
+use Rattle.nf_trees.specs.NormalTerms.{Polynomial, ArrayTerm, monomial_of, polynomial_of, writes_of}
 use Rattle.nf_terms.specs.Computed.{Computed, Done, Wide, Large, Answers, after}
-use Rattle.nf_terms.specs.NormalTerms.{Atom}
+use Rattle.nf_trees.specs.NormalTerms.{Atom}
 use Rattle.nf_terms.specs.declared.form.Nf.{Nf}
 use Rattle.nf_terms.specs.declared.stop.NfStop.{NfStop}
 use Rattle.nf_terms.specs.declared.stop.NfStop.TheVariants as stop

@@ -2,7 +2,7 @@
 use Rattle.std.proofs.Common.{◌≡◌, ◌≢◌, ℕ, zero, suc, ◌<◌, take, Option, Some, None, List, [], ◌∷◌, ◌++◌, length, arith, refl, ap, sym, inl, inr, ◌∙◌}
 use Rattle.std.proofs.lemmas.Bool.{cases_eq}
 use Rattle.std.proofs.lemmas.List.{get_or_append_left, get_or-take, length-take, length-append}
-use Rattle.nf_terms.specs.NormalTerms.{Atom, Polynomial}
+use Rattle.nf_trees.specs.NormalTerms.{Atom, Polynomial}
 use Rattle.nf_terms.specs.Computed.{Done}
 use Rattle.fs_model.specs.declared.sides.Pos.{Pos}
 use Rattle.nf_terms.specs.declared.form.Nf.{Nf}

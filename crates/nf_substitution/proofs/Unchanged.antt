@@ -11,10 +11,10 @@ use Rattle.nf_terms.proofs.Booleans.{and_first, and_second}
 use Rattle.nf_sums.proofs.Identities.{product_with_one, sum_with_zero}
 use Rattle.nf_sums.proofs.Partings.{ordered_term, term_ordered}
 use Rattle.nf_terms.proofs.Simple.{light}
-use Rattle.nf_terms.specs.NormalTerms.{Atom, Monomial, Polynomial, Symbol, Read, Quotient, Remainder, One, Times, Zero, Plus, polynomial_of_symbol}
-use Rattle.nf_terms.specs.NormalTerms.{polynomial_of_number}
-use Rattle.nf_terms.specs.Measures.{size_of, size_of_monomial, depth_of, depth_of_monomial, weight_of}
-use Rattle.nf_terms.specs.Order.{degree}
+use Rattle.nf_trees.specs.NormalTerms.{Atom, Monomial, Polynomial, Symbol, Read, Quotient, Remainder, One, Times, Zero, Plus, polynomial_of_symbol}
+use Rattle.nf_trees.specs.NormalTerms.{polynomial_of_number}
+use Rattle.nf_trees.specs.Measures.{size_of, size_of_monomial, depth_of, depth_of_monomial, weight_of}
+use Rattle.nf_trees.specs.Order.{degree}
 use Rattle.nf_terms.specs.TermLimits.{weight_limit, size_limit, depth_limit}
 use Rattle.nf_terms.specs.Normal.{IsNormal, ordered, ordered_atom, ordered_monomial, atom_rises, monomial_rises}
 use Rattle.nf_terms.specs.RawSums.{raw_sum, monomial_product}

@@ -2,7 +2,7 @@
 use Rattle.std.specs.Prelude.{◌≡◌, ℕ, ◌<◌, Option, Some, None, List, [], ◌∷◌, length, get_or}
 use Rattle.std.specs.Coded.{Coded, code_by, coded×, coded_list}
 use Rattle.std.proofs.Common.{refl}
-use Rattle.nf_terms.specs.NormalTerms.{Atom, Polynomial}
+use Rattle.nf_trees.specs.NormalTerms.{Atom, Polynomial}
 use Rattle.nf_terms.specs.Codes.{coded_atom}
 use Rattle.fs_model.specs.declared.sides.Pos.{Pos}
 use Rattle.nf_terms.specs.declared.form.Nf.{Nf}

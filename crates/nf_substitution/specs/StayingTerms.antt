@@ -1,8 +1,8 @@
 -- Polynomials over symbols that a vector has, each as its own form, with monomials of not too many atoms.
 use Rattle.std.specs.Prelude.{ℕ, nat_le, is_some, Bool, true, false, ◌&&◌, Option, Some, None, List}
-use Rattle.nf_terms.specs.NormalTerms.{Atom, Monomial, Polynomial, Symbol, Read, Quotient, Remainder, One, Times, Zero, Plus}
-use Rattle.nf_terms.specs.Mentions.{same_pos}
-use Rattle.nf_terms.specs.Order.{degree}
+use Rattle.nf_trees.specs.NormalTerms.{Atom, Monomial, Polynomial, Symbol, Read, Quotient, Remainder, One, Times, Zero, Plus}
+use Rattle.nf_trees.specs.Mentions.{same_pos}
+use Rattle.nf_trees.specs.Order.{degree}
 use Rattle.fs_model.specs.declared.sides.Pos.{Pos}
 use Rattle.nf_terms.specs.declared.form.Nf.{Nf}
 use Rattle.nf_terms.specs.declared.form.Nf.TheVariants.{Num, Arr, Seq}

@@ -1,7 +1,7 @@
 //! The substituted values of terms that are given by numbers.
 
 ghost use Rattle.std.specs.Prelude.{◌<◌, ◌≤◌, length, pos};
-ghost use Rattle.nf_terms.specs.NormalTerms.{Polynomial};
+ghost use Rattle.nf_trees.specs.NormalTerms.{Polynomial};
 ghost use Rattle.nf_terms.specs.Computed.{Computed, Done, Answers, after};
 ghost use Rattle.nf_sums.specs.Operations.{number as number_of, normal_sum, normal_product};
 ghost use Rattle.nf_arrays.specs.NewAtoms.{quotient_of, remainder_of};

@@ -1,7 +1,7 @@
 //! The atoms of a polynomial, kept one by one.
 
 ghost use Rattle.std.specs.Prelude.{◌≡◌, OnOk};
-ghost use Rattle.nf_terms.specs.View.{monomial_in, polynomial_in};
+ghost use Rattle.nf_trees.specs.View.{monomial_in, polynomial_in};
 ghost use Rattle.nf_bank.specs.Atoms.{with_monomial, with_terms, IsFront};
 
 use nf_bank::bank::Bank;

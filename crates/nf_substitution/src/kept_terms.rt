@@ -1,7 +1,7 @@
 //! Terms with the vector's forms in place of their symbols, whose atoms are kept.
 
 ghost use Rattle.std.specs.Prelude.{◌≡◌, OnOk};
-ghost use Rattle.nf_terms.specs.View.{polynomial_in, array_in};
+ghost use Rattle.nf_trees.specs.View.{polynomial_in, array_in};
 ghost use Rattle.nf_terms.specs.Computed.{Answers, after};
 ghost use Rattle.nf_arrays.specs.Pushes.{list_with_item};
 ghost use Rattle.nf_substitution.specs.Substitution.{polynomial_substituted, array_substituted, items_substituted};

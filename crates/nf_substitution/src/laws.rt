@@ -1,7 +1,7 @@
 //! Laws of substitution. The functions do nothing.
 
 ghost use Rattle.std.specs.Prelude.{◌≡◌, List};
-ghost use Rattle.nf_terms.specs.NormalTerms.{Polynomial, ArrayTerm};
+ghost use Rattle.nf_trees.specs.NormalTerms.{Polynomial, ArrayTerm};
 ghost use Rattle.nf_terms.specs.Lists.{ListTerm};
 ghost use Rattle.nf_terms.specs.TermMeaning.{Valuation, value_of, contents, items_in};
 ghost use Rattle.nf_terms.specs.Computed.{Done};

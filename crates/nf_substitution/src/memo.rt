@@ -20,7 +20,7 @@ pub(crate) struct Memo {
 impl Model for Memo {
     ghost use Rattle.std.specs.Prelude.{List, Option};
     ghost use Rattle.std.specs.Coded.{coded_list, coded_option};
-    ghost use Rattle.nf_terms.specs.NormalTerms.{Polynomial};
+    ghost use Rattle.nf_trees.specs.NormalTerms.{Polynomial};
     ghost use Rattle.nf_terms.specs.Codes.{coded_polynomial};
 
     ghost Value = { List (Option Polynomial) };

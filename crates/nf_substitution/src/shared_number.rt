@@ -16,7 +16,7 @@ pub(crate) struct SharedNumber {
 }
 
 impl Model for SharedNumber {
-    ghost use Rattle.nf_terms.specs.NormalTerms.{Polynomial};
+    ghost use Rattle.nf_trees.specs.NormalTerms.{Polynomial};
     ghost use Rattle.nf_terms.specs.Codes.{coded_polynomial};
 
     ghost Value = { Polynomial };

@@ -1,7 +1,7 @@
 //! Whether a substitution leaves a polynomial as it is: a look at its symbols, which takes no memory.
 
 ghost use Rattle.std.specs.Prelude.{◌≡◌};
-ghost use Rattle.nf_terms.specs.View.{atom_in, monomial_in, polynomial_in};
+ghost use Rattle.nf_trees.specs.View.{atom_in, monomial_in, polynomial_in};
 ghost use Rattle.nf_substitution.specs.StayingTerms.{is_symbol, symbol_stays, atom_stays, atoms_stay, monomial_stays, terms_stay};
 
 use nf_terms::form::Nf;

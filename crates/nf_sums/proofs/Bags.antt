@@ -1,7 +1,7 @@
 -- What ignores the order of the atoms.
 use Rattle.std.proofs.Common.{◌≡◌, ◌+◌, ◌==◌, ℤ, pos, ◌*ℤ◌, Bool, true, false, ◌&&◌, cond, arith, refl, ap, sym, ◌∙◌}
-use Rattle.nf_terms.specs.NormalTerms.{Atom, Monomial, One, Times}
-use Rattle.nf_terms.specs.Measures.{size_of_monomial}
+use Rattle.nf_trees.specs.NormalTerms.{Atom, Monomial, One, Times}
+use Rattle.nf_trees.specs.Measures.{size_of_monomial}
 use Rattle.nf_terms.specs.TermMeaning.{Valuation, value_of_atom, value_of_monomial}
 use Rattle.nf_terms.specs.RawSums.{monomial_product, occurrences, as_often, same_bag}
 use Rattle.nf_sums.specs.OrderedSums.{IgnoresOrder, fits_atom, fits_monomial}

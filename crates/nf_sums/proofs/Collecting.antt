@@ -9,11 +9,11 @@ use Rattle.std.proofs.lemmas.Bool.{and_from}
 use Rattle.nf_terms.proofs.Booleans.{and_first, and_second, by_test}
 use Rattle.nf_terms.proofs.Orderings.{is_lt-true}
 use Rattle.nf_terms.proofs.Integers.{unsigned_abs-add}
-use Rattle.nf_terms.specs.NormalTerms.{Monomial, Polynomial, Zero, Plus}
-use Rattle.nf_terms.specs.Order.{cmp_monomial}
-use Rattle.nf_terms.specs.TermKeys.{monomial_ties}
-use Rattle.nf_terms.specs.Comparison.{monomials_total}
-use Rattle.nf_terms.specs.Measures.{size_of, weight_of, size_of_monomial}
+use Rattle.nf_trees.specs.NormalTerms.{Monomial, Polynomial, Zero, Plus}
+use Rattle.nf_trees.specs.Order.{cmp_monomial}
+use Rattle.nf_trees.specs.TermKeys.{monomial_ties}
+use Rattle.nf_trees.specs.Comparison.{monomials_total}
+use Rattle.nf_trees.specs.Measures.{size_of, weight_of, size_of_monomial}
 use Rattle.nf_terms.specs.Normal.{ordered, ordered_monomial, monomial_rises}
 use Rattle.nf_terms.proofs.Ring.{add-mul_z}
 use Rattle.nf_sums.specs.OrderedSums.{worth_of, IgnoresOrder, polynomial_fits, fits_monomial}

@@ -3,9 +3,9 @@ use Rattle.std.proofs.Common.{◌≡◌, Bool, true, false, refl, ap, sym, ◌�
 use Rattle.std.proofs.lemmas.Int.{ints}
 use Rattle.std.specs.Ordering.{is_eq}
 use Rattle.nf_terms.proofs.Orderings.{is_eq-true}
-use Rattle.nf_terms.specs.NormalTerms.{Polynomial, One, Times, Zero, Plus, polynomial_of_number}
-use Rattle.nf_terms.specs.Order.{cmp_polynomial, same_polynomial}
-use Rattle.nf_terms.specs.TermKeys.{polynomial_ties, polynomial_same}
+use Rattle.nf_trees.specs.NormalTerms.{Polynomial, One, Times, Zero, Plus, polynomial_of_number}
+use Rattle.nf_trees.specs.Order.{cmp_polynomial, same_polynomial}
+use Rattle.nf_trees.specs.TermKeys.{polynomial_ties, polynomial_same}
 use Rattle.nf_terms.specs.Normal.{ordered, part_with_atoms, constant_part, differ_by_constant}
 use Rattle.nf_terms.specs.RawSums.{raw_sum}
 use Rattle.nf_terms.specs.Normal.{constant_sum}

@@ -5,8 +5,8 @@ use Rattle.std.specs.Prelude.{◌⊎◌}
 use Rattle.std.proofs.lemmas.Int.{ints}
 use Rattle.std.proofs.lemmas.Bool.{leb-true, le-leb, and_from}
 use Rattle.nf_terms.proofs.Booleans.{by_test}
-use Rattle.nf_terms.specs.NormalTerms.{Polynomial, polynomial_of_number}
-use Rattle.nf_terms.specs.Measures.{size_of, weight_of, depth_of}
+use Rattle.nf_trees.specs.NormalTerms.{Polynomial, polynomial_of_number}
+use Rattle.nf_trees.specs.Measures.{size_of, weight_of, depth_of}
 use Rattle.nf_terms.specs.TermMeaning.{Valuation, value_of}
 use Rattle.nf_terms.specs.TermLimits.{weight_limit, size_limit, depth_limit}
 use Rattle.nf_terms.specs.Normal.{IsNormal}

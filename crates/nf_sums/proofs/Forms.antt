@@ -5,8 +5,8 @@ use Rattle.std.proofs.lemmas.Bool.{le-leb, and_from}
 use Rattle.std.specs.Ordering.{int_eq}
 use Rattle.std.specs.Cmp.{signed_Decides}
 use Rattle.nf_terms.proofs.Integers.{unsigned_abs-neg}
-use Rattle.nf_terms.specs.NormalTerms.{Polynomial, Zero, Plus}
-use Rattle.nf_terms.specs.Measures.{size_of, weight_of, depth_of}
+use Rattle.nf_trees.specs.NormalTerms.{Polynomial, Zero, Plus}
+use Rattle.nf_trees.specs.Measures.{size_of, weight_of, depth_of}
 use Rattle.nf_terms.specs.TermMeaning.{Valuation, value_of, value_of_monomial}
 use Rattle.nf_terms.specs.TermLimits.{size_limit, weight_limit}
 use Rattle.nf_terms.specs.Normal.{IsNormal, ordered, monomial_rises, is_light, narrow_inside, narrow_monomial}

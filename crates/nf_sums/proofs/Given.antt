@@ -1,6 +1,6 @@
 -- What the operations give is the same as the raw sum.
 use Rattle.std.proofs.Common.{◌≡◌, true}
-use Rattle.nf_terms.specs.NormalTerms.{Polynomial}
+use Rattle.nf_trees.specs.NormalTerms.{Polynomial}
 use Rattle.nf_terms.specs.Computed.{Computed, Done, Wide, Large, IfDone}
 use Rattle.nf_terms.specs.Normal.{IsNormal}
 use Rattle.nf_terms.specs.RawSums.{raw_sum, raw_negation, raw_difference, raw_product, IsNormalFormOf}

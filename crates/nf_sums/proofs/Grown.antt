@@ -2,10 +2,10 @@
 use Rattle.std.proofs.Common.{◌≡◌, ℕ, ◌+◌, ◌≤◌, ◌<◌, ℤ, ◌+ℤ◌, true, List, length, get_or, drop, arith, ap, subst, ◌∙◌}
 use Rattle.std.proofs.lemmas.Int.{ints}
 use Rattle.nf_terms.proofs.Booleans.{and_first, and_second}
-use Rattle.nf_terms.specs.NormalTerms.{Monomial, Polynomial, Zero, Plus, polynomial_of}
-use Rattle.nf_terms.specs.View.{monomial_in}
+use Rattle.nf_trees.specs.NormalTerms.{Monomial, Polynomial, Zero, Plus, polynomial_of}
+use Rattle.nf_trees.specs.View.{monomial_in}
 use Rattle.nf_trees.specs.declared.tree.MonoTree.{MonoTree}
-use Rattle.nf_terms.specs.Measures.{size_of, weight_of}
+use Rattle.nf_trees.specs.Measures.{size_of, weight_of}
 use Rattle.nf_terms.specs.TermLimits.{weight_limit, size_limit}
 use Rattle.nf_terms.specs.Normal.{IsNormal, ordered, ordered_monomial}
 use Rattle.nf_terms.specs.RawSums.{raw_sum, IsNormalFormOf}

@@ -1,6 +1,6 @@
 -- What a raw sum with nothing, and a product with no atom, are.
 use Rattle.std.proofs.Common.{◌≡◌, refl, ap}
-use Rattle.nf_terms.specs.NormalTerms.{Monomial, Polynomial, One, Times, Zero, Plus}
+use Rattle.nf_trees.specs.NormalTerms.{Monomial, Polynomial, One, Times, Zero, Plus}
 use Rattle.nf_terms.specs.RawSums.{raw_sum, monomial_product}
 
 pub sum_with_zero : (p : Polynomial) → raw_sum p Zero ≡ p

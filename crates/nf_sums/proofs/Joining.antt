@@ -6,12 +6,12 @@ use Rattle.std.specs.declared.cmp.Ordering.TheVariants.{Less}
 use Rattle.std.specs.Ordering.{is_le, ordering_reverse}
 use Rattle.nf_sums.proofs.Identities.{product_with_one}
 use Rattle.nf_terms.proofs.Orderings.{is_le-false}
-use Rattle.nf_terms.specs.NormalTerms.{Atom, Monomial, One, Times, monomial_of}
-use Rattle.nf_terms.specs.View.{atom_in}
-use Rattle.nf_terms.specs.Order.{cmp_atom}
+use Rattle.nf_trees.specs.NormalTerms.{Atom, Monomial, One, Times, monomial_of}
+use Rattle.nf_trees.specs.View.{atom_in}
+use Rattle.nf_trees.specs.Order.{cmp_atom}
 use Rattle.nf_terms.specs.Normal.{ordered_atom, ordered_monomial}
 use Rattle.nf_terms.specs.RawSums.{monomial_product}
-use Rattle.nf_terms.specs.Comparison.{atoms_total}
+use Rattle.nf_trees.specs.Comparison.{atoms_total}
 use Rattle.nf_trees.specs.declared.tree.Atom.{Atom as AtomTree}
 use Rattle.nf_sums.specs.OrderedSums.{IgnoresOrder, IsOrderedJoin}
 use Rattle.nf_sums.proofs.Sorted.{sorted, follows, Sorted, sorted_move, sorted_insert}

@@ -9,10 +9,10 @@ use Rattle.std.proofs.lemmas.Bool.{and_from}
 use Rattle.nf_terms.proofs.Booleans.{and_first, and_second}
 use Rattle.nf_terms.proofs.Orderings.{is_lt-true}
 use Rattle.nf_terms.proofs.Integers.{unsigned_abs-add}
-use Rattle.nf_terms.specs.NormalTerms.{Monomial, polynomial_of}
-use Rattle.nf_terms.specs.Order.{cmp_monomial}
-use Rattle.nf_terms.specs.TermKeys.{monomial_ties}
-use Rattle.nf_terms.specs.Comparison.{monomials_total}
+use Rattle.nf_trees.specs.NormalTerms.{Monomial, polynomial_of}
+use Rattle.nf_trees.specs.Order.{cmp_monomial}
+use Rattle.nf_trees.specs.TermKeys.{monomial_ties}
+use Rattle.nf_trees.specs.Comparison.{monomials_total}
 use Rattle.nf_terms.specs.Normal.{ordered, ordered_monomial}
 use Rattle.nf_sums.specs.OrderedSums.{fits_monomial, IsOrderedSum, term_unless_zero}
 use Rattle.nf_sums.proofs.Sorted.{follows, good_of, sorted_move, sorted_insert, sorted_drop, sorted_change, back_of}

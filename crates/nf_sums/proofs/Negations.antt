@@ -1,8 +1,8 @@
 -- The negation of a list of terms, on its way.
 use Rattle.std.proofs.Common.{◌≡◌, ℕ, ◌≤◌, ℤ, neg_ℤ, List, [], ◌∷◌, ◌++◌, map, length, drop, refl, ap, sym, subst, ◌∙◌}
 use Rattle.std.proofs.lemmas.List.{drop_all, append-nil}
-use Rattle.nf_terms.specs.NormalTerms.{Monomial, polynomial_of, Plus}
-use Rattle.nf_terms.specs.View.{term_in, monomial_in}
+use Rattle.nf_trees.specs.NormalTerms.{Monomial, polynomial_of, Plus}
+use Rattle.nf_trees.specs.View.{term_in, monomial_in}
 use Rattle.nf_terms.specs.RawSums.{raw_negation}
 use Rattle.nf_trees.specs.declared.tree.MonoTree.{MonoTree}
 

@@ -2,8 +2,8 @@
 use Rattle.std.proofs.Common.{◌≡◌, ◌+◌, ◌≤◌, max, true, ◌&&◌, not, arith}
 use Rattle.std.proofs.lemmas.Bool.{and_from}
 use Rattle.nf_terms.proofs.Booleans.{and_first, and_second}
-use Rattle.nf_terms.specs.NormalTerms.{Atom, Monomial, Polynomial, Writes, Symbol, Read, Quotient, Remainder, One, Times, Zero, Plus, Over, NoWrites, Write}
-use Rattle.nf_terms.specs.Measures.{size_of_atom, size_of_monomial, size_of, size_of_writes, depth_of_atom, depth_of_monomial, depth_of, depth_of_writes}
+use Rattle.nf_trees.specs.NormalTerms.{Atom, Monomial, Polynomial, Writes, Symbol, Read, Quotient, Remainder, One, Times, Zero, Plus, Over, NoWrites, Write}
+use Rattle.nf_trees.specs.Measures.{size_of_atom, size_of_monomial, size_of, size_of_writes, depth_of_atom, depth_of_monomial, depth_of, depth_of_writes}
 use Rattle.nf_terms.specs.TermLimits.{size_limit, depth_limit}
 use Rattle.nf_terms.specs.Normal.{IsNormal, IsNormalArray, ordered, ordered_atom, ordered_monomial, ordered_array, ordered_writes, atom_rises, is_constant}
 use Rattle.nf_terms.specs.Normal.{is_written, write_rises, stays_read, is_light, narrow_atom, narrow_monomial, narrow_inside, narrow_array, narrow_writes}

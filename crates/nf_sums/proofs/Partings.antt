@@ -8,11 +8,11 @@ use Rattle.std.specs.Ordering.{is_lt, int_eq, nat_cmp, ordering_then}
 use Rattle.std.proofs.lemmas.Bool.{and_from, not-true}
 use Rattle.nf_terms.proofs.Booleans.{and_first, and_second}
 use Rattle.nf_terms.proofs.Orderings.{is_lt-true}
-use Rattle.nf_terms.specs.NormalTerms.{Monomial, Polynomial, One, Times, Zero, Plus, polynomial_of_number}
-use Rattle.nf_terms.specs.Order.{degree, cmp_atoms, cmp_monomial}
+use Rattle.nf_trees.specs.NormalTerms.{Monomial, Polynomial, One, Times, Zero, Plus, polynomial_of_number}
+use Rattle.nf_trees.specs.Order.{degree, cmp_atoms, cmp_monomial}
 use Rattle.nf_terms.specs.Normal.{ordered, ordered_monomial, monomial_rises, part_with_atoms, constant_part}
 use Rattle.nf_terms.specs.RawSums.{raw_sum}
-use Rattle.nf_terms.specs.Comparison.{monomials_total}
+use Rattle.nf_trees.specs.Comparison.{monomials_total}
 use Rattle.nf_terms.specs.TermMeaning.{Valuation, value_of}
 
 -- the first monomial of an ordered sum, and the rest

@@ -7,8 +7,8 @@ use Rattle.std.specs.Prelude.{pos, FitsSigned}
 use Rattle.std.specs.Int.{w128}
 use Rattle.std.specs.Ordering.{int_eq}
 use Rattle.nf_terms.proofs.Booleans.{and_second}
-use Rattle.nf_terms.specs.NormalTerms.{Monomial, Polynomial, Plus}
-use Rattle.nf_terms.specs.Measures.{weight_of}
+use Rattle.nf_trees.specs.NormalTerms.{Monomial, Polynomial, Plus}
+use Rattle.nf_trees.specs.Measures.{weight_of}
 use Rattle.nf_terms.specs.Normal.{IsNormal, ordered, ordered_monomial, monomial_rises, is_light, narrow_inside, narrow_monomial}
 use Rattle.nf_terms.specs.TermLimits.{weight_limit}
 use Rattle.nf_terms.proofs.Simple.{light}

@@ -8,11 +8,11 @@ use Rattle.std.specs.Ordering.{is_lt, is_eq, int_eq, ordering_reverse}
 use Rattle.std.proofs.lemmas.Bool.{and_from}
 use Rattle.nf_terms.proofs.Booleans.{and_first, and_second, by_test}
 use Rattle.nf_terms.proofs.Orderings.{is_eq-true, is_lt-true}
-use Rattle.nf_terms.specs.NormalTerms.{Monomial, Polynomial, Zero, Plus, polynomial_of}
-use Rattle.nf_terms.specs.View.{monomial_in}
-use Rattle.nf_terms.specs.Order.{cmp_monomial}
-use Rattle.nf_terms.specs.Comparison.{monomials_total}
-use Rattle.nf_terms.specs.Measures.{size_of, size_of_monomial, weight_of}
+use Rattle.nf_trees.specs.NormalTerms.{Monomial, Polynomial, Zero, Plus, polynomial_of}
+use Rattle.nf_trees.specs.View.{monomial_in}
+use Rattle.nf_trees.specs.Order.{cmp_monomial}
+use Rattle.nf_trees.specs.Comparison.{monomials_total}
+use Rattle.nf_trees.specs.Measures.{size_of, size_of_monomial, weight_of}
 use Rattle.nf_terms.specs.TermLimits.{weight_limit, size_limit}
 use Rattle.nf_terms.specs.Normal.{IsNormal, ordered}
 use Rattle.nf_terms.specs.RawSums.{raw_sum, IsNormalFormOf}

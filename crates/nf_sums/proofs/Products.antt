@@ -8,9 +8,9 @@ use Rattle.std.specs.Ordering.{int_eq}
 use Rattle.std.specs.Cmp.{signed_Decides}
 use Rattle.std.proofs.lemmas.Bool.{and_from}
 use Rattle.nf_terms.proofs.Booleans.{and_first, and_second}
-use Rattle.nf_terms.specs.NormalTerms.{Monomial, Polynomial, Zero, Plus, polynomial_of}
-use Rattle.nf_terms.specs.View.{term_in, monomial_in}
-use Rattle.nf_terms.specs.Measures.{size_of, size_of_monomial, weight_of}
+use Rattle.nf_trees.specs.NormalTerms.{Monomial, Polynomial, Zero, Plus, polynomial_of}
+use Rattle.nf_trees.specs.View.{term_in, monomial_in}
+use Rattle.nf_trees.specs.Measures.{size_of, size_of_monomial, weight_of}
 use Rattle.nf_terms.specs.TermLimits.{weight_limit}
 use Rattle.nf_terms.specs.Normal.{ordered, ordered_monomial}
 use Rattle.nf_terms.specs.RawSums.{raw_sum, raw_product, monomial_product}

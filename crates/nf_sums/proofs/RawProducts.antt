@@ -4,8 +4,8 @@ use Rattle.std.proofs.Math.Nat.{add-mul, mul-add}
 use Rattle.std.proofs.lemmas.Int.{unsigned_abs-mul}
 use Rattle.std.proofs.lemmas.Bool.{and_from}
 use Rattle.nf_terms.proofs.Booleans.{and_first, and_second}
-use Rattle.nf_terms.specs.NormalTerms.{Monomial, Polynomial, Zero, Plus}
-use Rattle.nf_terms.specs.Measures.{size_of, size_of_monomial, weight_of}
+use Rattle.nf_trees.specs.NormalTerms.{Monomial, Polynomial, Zero, Plus}
+use Rattle.nf_trees.specs.Measures.{size_of, size_of_monomial, weight_of}
 use Rattle.nf_terms.specs.Normal.{ordered, ordered_monomial}
 use Rattle.nf_terms.specs.RawSums.{raw_sum, raw_product, raw_multiple, monomial_product}
 use Rattle.nf_sums.specs.OrderedSums.{polynomial_fits, fits_monomial}

@@ -4,9 +4,9 @@ use Rattle.std.proofs.lemmas.Bool.{le-leb, and_from}
 use Rattle.nf_terms.proofs.Booleans.{and_first, and_second}
 use Rattle.nf_terms.proofs.Orderings.{is_lt-true}
 use Rattle.nf_terms.proofs.Integers.{int_eq_zero-false, not_zero}
-use Rattle.nf_terms.specs.NormalTerms.{Monomial, Polynomial, One, Times, Zero, Plus}
-use Rattle.nf_terms.specs.Order.{cmp_monomial}
-use Rattle.nf_terms.specs.Measures.{size_of, depth_of, weight_of}
+use Rattle.nf_trees.specs.NormalTerms.{Monomial, Polynomial, One, Times, Zero, Plus}
+use Rattle.nf_trees.specs.Order.{cmp_monomial}
+use Rattle.nf_trees.specs.Measures.{size_of, depth_of, weight_of}
 use Rattle.nf_terms.specs.TermLimits.{weight_limit}
 use Rattle.nf_terms.specs.Normal.{IsNormal, ordered, monomial_rises, is_light, narrow_inside, narrow_monomial, part_with_atoms}
 use Rattle.nf_terms.specs.Reduced.{Reduces, Ended, Dropped, Kept}

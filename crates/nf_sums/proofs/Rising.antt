@@ -3,8 +3,8 @@ use Rattle.std.proofs.Common.{◌≡◌, ℤ, pos, ◌+ℤ◌, true, ◌&&◌, n
 use Rattle.std.specs.Ordering.{int_eq, is_le, is_lt}
 use Rattle.std.proofs.lemmas.Bool.{and_from}
 use Rattle.nf_terms.proofs.Booleans.{and_first, and_second, by_test}
-use Rattle.nf_terms.specs.NormalTerms.{Atom, Monomial, Polynomial, Symbol, Read, Quotient, Remainder, One, Times, Zero, Plus}
-use Rattle.nf_terms.specs.Order.{cmp_atom, cmp_monomial}
+use Rattle.nf_trees.specs.NormalTerms.{Atom, Monomial, Polynomial, Symbol, Read, Quotient, Remainder, One, Times, Zero, Plus}
+use Rattle.nf_trees.specs.Order.{cmp_atom, cmp_monomial}
 use Rattle.nf_terms.specs.Normal.{atom_rises, monomial_rises}
 use Rattle.nf_terms.specs.RawSums.{total}
 use Rattle.nf_sums.specs.RawSumForms.{with_atom, sorted_monomial, plus, with_term, normal_form}

@@ -3,9 +3,9 @@ use Rattle.std.proofs.Common.{◌≡◌, ℤ, pos, ◌+ℤ◌, true, false, ◌&
 use Rattle.std.specs.Ordering.{int_eq}
 use Rattle.nf_terms.proofs.Booleans.{and_first, and_second}
 use Rattle.nf_terms.proofs.Orderings.{is_lt-true}
-use Rattle.nf_terms.specs.NormalTerms.{Atom, Monomial, Polynomial, ArrayTerm, Writes, Symbol, Read, Quotient, Remainder, One, Times, Zero, Plus, Over, NoWrites}
-use Rattle.nf_terms.specs.NormalTerms.{Write}
-use Rattle.nf_terms.specs.Order.{cmp_monomial}
+use Rattle.nf_trees.specs.NormalTerms.{Atom, Monomial, Polynomial, ArrayTerm, Writes, Symbol, Read, Quotient, Remainder, One, Times, Zero, Plus, Over, NoWrites}
+use Rattle.nf_trees.specs.NormalTerms.{Write}
+use Rattle.nf_trees.specs.Order.{cmp_monomial}
 use Rattle.nf_terms.specs.Tidied.{tidy_array}
 use Rattle.nf_terms.specs.Lists.{ListTerm, AreNormalItems, IsNormalList}
 use Rattle.nf_terms.specs.Normal.{IsNormal, IsNormalArray, ordered, ordered_atom, ordered_monomial, ordered_array, ordered_writes, atom_rises, monomial_rises}

@@ -5,11 +5,11 @@ use Rattle.std.specs.Ordering.{is_le, ordering_reverse}
 use Rattle.std.proofs.lemmas.Bool.{and_from}
 use Rattle.nf_terms.proofs.Booleans.{and_first, and_second, by_test}
 use Rattle.nf_terms.proofs.Orderings.{is_le-false}
-use Rattle.nf_terms.specs.NormalTerms.{Atom, Monomial, One, Times}
-use Rattle.nf_terms.specs.Order.{cmp_atom}
+use Rattle.nf_trees.specs.NormalTerms.{Atom, Monomial, One, Times}
+use Rattle.nf_trees.specs.Order.{cmp_atom}
 use Rattle.nf_terms.specs.Normal.{ordered_atom, ordered_monomial, atom_rises}
 use Rattle.nf_terms.specs.RawSums.{monomial_product}
-use Rattle.nf_terms.specs.Comparison.{atoms_total}
+use Rattle.nf_trees.specs.Comparison.{atoms_total}
 use Rattle.nf_sums.specs.OrderedSums.{IgnoresOrder}
 use Rattle.nf_sums.specs.RawSumForms.{with_atom, sorted_monomial}
 

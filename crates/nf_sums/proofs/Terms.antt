@@ -1,11 +1,11 @@
 -- Lists of terms, as polynomials.
 use Rattle.std.proofs.Common.{◌≡◌, ℕ, ◌+◌, ℤ, pos, ◌+ℤ◌, Bool, true, false, ◌&&◌, not, List, [], ◌∷◌, ◌++◌, map, arith, refl, ap, sym, ◌∙◌}
 use Rattle.std.specs.Ordering.{is_lt, int_eq}
-use Rattle.nf_terms.specs.NormalTerms.{Monomial, Polynomial, Zero, Plus, polynomial_of}
-use Rattle.nf_terms.specs.View.{term_in}
+use Rattle.nf_trees.specs.NormalTerms.{Monomial, Polynomial, Zero, Plus, polynomial_of}
+use Rattle.nf_trees.specs.View.{term_in}
 use Rattle.nf_trees.specs.declared.tree.MonoTree.{MonoTree}
-use Rattle.nf_terms.specs.Order.{cmp_monomial}
-use Rattle.nf_terms.specs.Measures.{size_of, weight_of}
+use Rattle.nf_trees.specs.Order.{cmp_monomial}
+use Rattle.nf_trees.specs.Measures.{size_of, weight_of}
 use Rattle.nf_terms.specs.Normal.{ordered, ordered_monomial}
 use Rattle.nf_terms.specs.RawSums.{raw_sum}
 use Rattle.nf_sums.specs.OrderedSums.{worth_of, polynomial_fits, fits_monomial}

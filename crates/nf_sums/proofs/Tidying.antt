@@ -3,7 +3,7 @@ use Rattle.std.proofs.Common.{◌≡◌, Bool, true, false, ◌&&◌, ◌||◌, 
 use Rattle.std.proofs.lemmas.Bool.{not-true}
 use Rattle.nf_terms.proofs.Booleans.{and_first, and_second}
 use Rattle.nf_terms.proofs.Integers.{int_lt-turned}
-use Rattle.nf_terms.specs.NormalTerms.{Polynomial, ArrayTerm, Writes, Over, NoWrites, Write}
+use Rattle.nf_trees.specs.NormalTerms.{Polynomial, ArrayTerm, Writes, Over, NoWrites, Write}
 use Rattle.nf_terms.specs.Normal.{ordered, ordered_writes, ordered_array, is_written, write_rises, differ_by_constant, constant_part, constant_sum}
 use Rattle.nf_terms.specs.Tidied.{last_writes, with_write, rising_stretches, tidy_array}
 use Rattle.nf_sums.proofs.Constants.{constant_is}

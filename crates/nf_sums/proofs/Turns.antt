@@ -1,9 +1,9 @@
 -- The terms of a tree's list by their places.
 use Rattle.std.proofs.Common.{◌≡◌, ℕ, zero, suc, ◌+◌, ◌<◌, ◌≤◌, ℤ, unsigned_abs, List, [], ◌∷◌, map, length, get_or, drop, arith, refl}
 use Rattle.std.proofs.Common.{ap, drop-cons, add-one}
-use Rattle.nf_terms.specs.NormalTerms.{polynomial_of}
-use Rattle.nf_terms.specs.View.{term_in, monomial_in}
-use Rattle.nf_terms.specs.Measures.{weight_of}
+use Rattle.nf_trees.specs.NormalTerms.{polynomial_of}
+use Rattle.nf_trees.specs.View.{term_in, monomial_in}
+use Rattle.nf_trees.specs.Measures.{weight_of}
 use Rattle.nf_trees.specs.declared.tree.MonoTree.{MonoTree}
 
 -- what stands at a place and behind it

@@ -9,10 +9,10 @@ use Rattle.std.specs.Cmp.{signed_Decides}
 use Rattle.nf_terms.proofs.Booleans.{and_first, and_second}
 use Rattle.nf_terms.proofs.Orderings.{is_eq-true, is_lt-true}
 use Rattle.nf_terms.proofs.Numbers.{eqb_self}
-use Rattle.nf_terms.specs.NormalTerms.{Atom, Monomial, Polynomial, One, Times, Zero, Plus}
-use Rattle.nf_terms.specs.Order.{cmp_atom, cmp_monomial, same_atom}
-use Rattle.nf_terms.specs.TermKeys.{atom_ties, atom_same, monomial_ties, monomial_same}
-use Rattle.nf_terms.specs.Comparison.{atoms_total, monomials_total}
+use Rattle.nf_trees.specs.NormalTerms.{Atom, Monomial, Polynomial, One, Times, Zero, Plus}
+use Rattle.nf_trees.specs.Order.{cmp_atom, cmp_monomial, same_atom}
+use Rattle.nf_trees.specs.TermKeys.{atom_ties, atom_same, monomial_ties, monomial_same}
+use Rattle.nf_trees.specs.Comparison.{atoms_total, monomials_total}
 use Rattle.nf_terms.specs.Normal.{IsNormal, ordered, ordered_atom, ordered_monomial, atom_rises, monomial_rises}
 use Rattle.nf_terms.specs.RawSums.{occurrences, as_often, same_bag, total, SameTotals}
 use Rattle.nf_sums.proofs.Partings.{ordered_term}

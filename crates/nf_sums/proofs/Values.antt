@@ -2,8 +2,8 @@
 use Rattle.std.proofs.Common.{◌≡◌, ℕ, ◌+◌, ◌*◌, ◌≤◌, ℤ, ◌+ℤ◌, ◌-ℤ◌, ◌*ℤ◌, Bool, true, false, cond, nat_le, arith, refl, ap, sym, ◌∙◌}
 use Rattle.std.proofs.lemmas.Int.{ints}
 use Rattle.std.proofs.lemmas.Bool.{leb-true}
-use Rattle.nf_terms.specs.NormalTerms.{Polynomial, One, Times, Zero, Plus}
-use Rattle.nf_terms.specs.Measures.{size_of, weight_of, depth_of}
+use Rattle.nf_trees.specs.NormalTerms.{Polynomial, One, Times, Zero, Plus}
+use Rattle.nf_trees.specs.Measures.{size_of, weight_of, depth_of}
 use Rattle.nf_terms.specs.TermMeaning.{Valuation, value_of, value_of_monomial}
 use Rattle.nf_terms.specs.Normal.{part_with_atoms}
 use Rattle.nf_terms.specs.TermLimits.{size_limit, depth_limit, weight_limit}

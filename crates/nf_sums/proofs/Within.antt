@@ -2,8 +2,8 @@
 use Rattle.std.proofs.Common.{◌≡◌, ◌≤◌, true, nat_le, arith, refl}
 use Rattle.std.proofs.lemmas.Bool.{leb-true, le-leb, and_from}
 use Rattle.nf_terms.proofs.Booleans.{and_first, and_second}
-use Rattle.nf_terms.specs.NormalTerms.{Monomial, Polynomial, One, Times, Zero, Plus}
-use Rattle.nf_terms.specs.Measures.{depth_of, depth_of_atom, depth_of_monomial}
+use Rattle.nf_trees.specs.NormalTerms.{Monomial, Polynomial, One, Times, Zero, Plus}
+use Rattle.nf_trees.specs.Measures.{depth_of, depth_of_atom, depth_of_monomial}
 use Rattle.nf_terms.specs.TermLimits.{depth_limit}
 use Rattle.nf_terms.specs.Normal.{IsNormal, narrow_atom, narrow_monomial, narrow_inside, is_light}
 use Rattle.nf_sums.specs.OrderedSums.{polynomial_fits, fits_atom, fits_monomial}

@@ -1,7 +1,7 @@
 -- What raw sums and products are worth.
 use Rattle.std.proofs.Common.{◌≡◌, ℤ, pos, ◌+ℤ◌, ◌*ℤ◌, neg_ℤ, Bool, true, false, cond, arith, refl, ap, sym, ◌∙◌}
 use Rattle.std.proofs.lemmas.Int.{ints}
-use Rattle.nf_terms.specs.NormalTerms.{Monomial, Polynomial, One, Times, Zero, Plus}
+use Rattle.nf_trees.specs.NormalTerms.{Monomial, Polynomial, One, Times, Zero, Plus}
 use Rattle.nf_terms.specs.TermMeaning.{Valuation, value_of_atom, value_of_monomial, value_of}
 use Rattle.nf_terms.specs.RawSums.{raw_sum, raw_negation, raw_difference, monomial_product, raw_multiple, raw_product, same_bag, total}
 use Rattle.nf_sums.proofs.Partings.{value-sum}

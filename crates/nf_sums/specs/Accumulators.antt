@@ -1,9 +1,9 @@
 -- Sums that grow: where a monomial has its place, and what is known of the sum.
 use Rattle.std.specs.Prelude.{◌≡◌, ℕ, ℤ, pos, ◌+ℤ◌, Bool, true, false, ◌&&◌, not}
 use Rattle.std.specs.Ordering.{is_lt, is_eq}
-use Rattle.nf_terms.specs.NormalTerms.{Monomial, Polynomial, Zero, Plus}
-use Rattle.nf_terms.specs.Order.{cmp_monomial}
-use Rattle.nf_terms.specs.Measures.{size_of, weight_of}
+use Rattle.nf_trees.specs.NormalTerms.{Monomial, Polynomial, Zero, Plus}
+use Rattle.nf_trees.specs.Order.{cmp_monomial}
+use Rattle.nf_trees.specs.Measures.{size_of, weight_of}
 use Rattle.nf_terms.specs.Normal.{IsNormal}
 use Rattle.nf_sums.specs.RawSumForms.{plus}
 

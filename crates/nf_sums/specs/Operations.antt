@@ -1,7 +1,7 @@
 -- What the operations on normal polynomials give.
 use Rattle.std.specs.Prelude.{ℕ, ◌+◌, ◌*◌, ℤ, unsigned_abs}
-use Rattle.nf_terms.specs.NormalTerms.{Polynomial, polynomial_of_number}
-use Rattle.nf_terms.specs.Measures.{size_of, depth_of, weight_of}
+use Rattle.nf_trees.specs.NormalTerms.{Polynomial, polynomial_of_number}
+use Rattle.nf_trees.specs.Measures.{size_of, depth_of, weight_of}
 use Rattle.nf_terms.specs.Computed.{Computed, Done, if_small, if_narrow}
 use Rattle.nf_terms.specs.RawSums.{raw_sum, raw_difference, raw_negation, raw_product}
 use Rattle.nf_sums.specs.RawSumForms.{normal_form}

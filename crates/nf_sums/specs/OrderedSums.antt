@@ -4,9 +4,9 @@ use Rattle.std.specs.Prelude.{Option, Some, None}
 use Rattle.std.specs.declared.cmp.Ordering.{Ordering}
 use Rattle.std.specs.declared.cmp.Ordering.TheVariants.{Less, Greater}
 use Rattle.std.specs.Ordering.{int_eq}
-use Rattle.nf_terms.specs.NormalTerms.{Atom, Monomial, Polynomial, One, Times, Zero, Plus}
-use Rattle.nf_terms.specs.Order.{cmp_monomial}
-use Rattle.nf_terms.specs.Measures.{size_of, weight_of, depth_of_atom}
+use Rattle.nf_trees.specs.NormalTerms.{Atom, Monomial, Polynomial, One, Times, Zero, Plus}
+use Rattle.nf_trees.specs.Order.{cmp_monomial}
+use Rattle.nf_trees.specs.Measures.{size_of, weight_of, depth_of_atom}
 use Rattle.nf_terms.specs.TermLimits.{depth_limit}
 use Rattle.nf_terms.specs.Normal.{ordered, ordered_monomial, narrow_atom}
 use Rattle.nf_terms.specs.RawSums.{monomial_product, raw_product}

@@ -3,8 +3,8 @@ use Rattle.std.specs.Prelude.{ℤ, pos, ◌+ℤ◌, cond}
 use Rattle.std.specs.declared.cmp.Ordering.{Ordering}
 use Rattle.std.specs.declared.cmp.Ordering.TheVariants.{Less, Equal, Greater}
 use Rattle.std.specs.Ordering.{int_eq, is_le}
-use Rattle.nf_terms.specs.NormalTerms.{Atom, Monomial, Polynomial, One, Times, Zero, Plus}
-use Rattle.nf_terms.specs.Order.{cmp_atom, cmp_monomial}
+use Rattle.nf_trees.specs.NormalTerms.{Atom, Monomial, Polynomial, One, Times, Zero, Plus}
+use Rattle.nf_trees.specs.Order.{cmp_atom, cmp_monomial}
 
 -- an atom in its place among atoms in order
 abbrev pub with_atom : Atom → Monomial → Monomial

@@ -3,9 +3,9 @@
 ghost use Rattle.std.specs.Prelude.{◌≡◌, ◌+◌, ◌^◌, ◌≤◌, ◌<◌, ◌+ℤ◌, pos, true, map, take, drop, length, unsigned_abs, OnOk};
 ghost use Rattle.std.specs.Prelude.{IsTrue};
 ghost use Rattle.std.specs.Ordering.{int_eq};
-ghost use Rattle.nf_terms.specs.NormalTerms.{Zero, Plus, polynomial_of};
-ghost use Rattle.nf_terms.specs.View.{monomial_in, term_in};
-ghost use Rattle.nf_terms.specs.Measures.{size_of, size_of_monomial, weight_of};
+ghost use Rattle.nf_trees.specs.NormalTerms.{Zero, Plus, polynomial_of};
+ghost use Rattle.nf_trees.specs.View.{monomial_in, term_in};
+ghost use Rattle.nf_trees.specs.Measures.{size_of, size_of_monomial, weight_of};
 ghost use Rattle.nf_terms.specs.TermLimits.{weight_limit, size_limit};
 ghost use Rattle.nf_terms.specs.Normal.{IsNormal, ordered};
 ghost use Rattle.nf_terms.specs.RawSums.{raw_sum};
@@ -248,9 +248,9 @@ pub struct Accumulator {
 
 impl Model for Accumulator {
     ghost use Rattle.std.specs.Prelude.{map};
-    ghost use Rattle.nf_terms.specs.NormalTerms.{Polynomial, polynomial_of};
+    ghost use Rattle.nf_trees.specs.NormalTerms.{Polynomial, polynomial_of};
     ghost use Rattle.nf_terms.specs.Codes.{coded_polynomial};
-    ghost use Rattle.nf_terms.specs.View.{term_in};
+    ghost use Rattle.nf_trees.specs.View.{term_in};
     ghost use Rattle.nf_sums.specs.Accumulators.{IsMeasured};
 
     ghost Value = { Polynomial };

@@ -1,7 +1,7 @@
 //! Lists that grow by copies.
 
 ghost use Rattle.std.specs.Prelude.{◌≡◌, ◌++◌, ◌∷◌, [], map, OnOk};
-ghost use Rattle.nf_terms.specs.View.{atom_in, monomial_in, term_in};
+ghost use Rattle.nf_trees.specs.View.{atom_in, monomial_in, term_in};
 
 use nf_terms::copies::{push_atom, push_term};
 use nf_terms::stop::NoMemory;

@@ -1,8 +1,8 @@
 //! Products of ordered monomials.
 
 ghost use Rattle.std.specs.Prelude.{map, IfOk, IsTrue};
-ghost use Rattle.nf_terms.specs.NormalTerms.{monomial_of};
-ghost use Rattle.nf_terms.specs.View.{atom_in, monomial_in};
+ghost use Rattle.nf_trees.specs.NormalTerms.{monomial_of};
+ghost use Rattle.nf_trees.specs.View.{atom_in, monomial_in};
 ghost use Rattle.nf_terms.specs.Normal.{ordered_monomial};
 ghost use Rattle.nf_sums.specs.OrderedSums.{IsOrderedJoin};
 

@@ -3,9 +3,9 @@
 ghost use Rattle.std.specs.Prelude.{◌≡◌, ℤ, ◌+ℤ◌, ◌-ℤ◌, ◌*ℤ◌, neg_ℤ};
 ghost use Rattle.std.specs.declared.cmp.Ordering.TheVariants.{Equal};
 ghost use Rattle.std.specs.Cmp.{IsTotalOrder};
-ghost use Rattle.nf_terms.specs.NormalTerms.{Atom as AtomTerm, Monomial, Polynomial, ArrayTerm, Writes, Over};
-ghost use Rattle.nf_terms.specs.NormalTerms.{polynomial_of_number};
-ghost use Rattle.nf_terms.specs.Order.{cmp_atom, cmp_monomial, cmp_polynomial, cmp_array};
+ghost use Rattle.nf_trees.specs.NormalTerms.{Atom as AtomTerm, Monomial, Polynomial, ArrayTerm, Writes, Over};
+ghost use Rattle.nf_trees.specs.NormalTerms.{polynomial_of_number};
+ghost use Rattle.nf_trees.specs.Order.{cmp_atom, cmp_monomial, cmp_polynomial, cmp_array};
 ghost use Rattle.nf_terms.specs.Computed.{IfDone};
 ghost use Rattle.nf_terms.specs.TermMeaning.{Valuation, value_of};
 ghost use Rattle.nf_terms.specs.Means.{IsNumberOf};

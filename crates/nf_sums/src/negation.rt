@@ -1,9 +1,9 @@
 //! Negations of lists of terms.
 
 ghost use Rattle.std.specs.Prelude.{◌≡◌, ◌++◌, ◌∷◌, [], ◌≤◌, neg_ℤ, map, OnOk, IfOk, unsigned_abs};
-ghost use Rattle.nf_terms.specs.NormalTerms.{polynomial_of};
-ghost use Rattle.nf_terms.specs.View.{monomial_in, term_in};
-ghost use Rattle.nf_terms.specs.Measures.{weight_of};
+ghost use Rattle.nf_trees.specs.NormalTerms.{polynomial_of};
+ghost use Rattle.nf_trees.specs.View.{monomial_in, term_in};
+ghost use Rattle.nf_trees.specs.Measures.{weight_of};
 ghost use Rattle.nf_terms.specs.TermLimits.{weight_limit};
 ghost use Rattle.nf_terms.specs.RawSums.{raw_negation};
 

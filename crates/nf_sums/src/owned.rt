@@ -1,9 +1,9 @@
 //! Merges of ordered lists of terms that are given away: their monomials are moved.
 
 ghost use Rattle.std.specs.Prelude.{◌≡◌, ◌+ℤ◌, ◌++◌, map, take, drop, length, OnOk, IfOk, IsTrue, ◌+◌, ◌≤◌, ◌<◌, unsigned_abs};
-ghost use Rattle.nf_terms.specs.NormalTerms.{polynomial_of};
-ghost use Rattle.nf_terms.specs.View.{monomial_in, term_in};
-ghost use Rattle.nf_terms.specs.Measures.{weight_of};
+ghost use Rattle.nf_trees.specs.NormalTerms.{polynomial_of};
+ghost use Rattle.nf_trees.specs.View.{monomial_in, term_in};
+ghost use Rattle.nf_trees.specs.Measures.{weight_of};
 ghost use Rattle.nf_terms.specs.TermLimits.{weight_limit};
 ghost use Rattle.nf_terms.specs.Normal.{ordered};
 ghost use Rattle.nf_sums.specs.OrderedSums.{IsOrderedSum, term_unless_zero, first_order, joined_firsts};

@@ -1,9 +1,9 @@
 //! Products of ordered lists of terms.
 
 ghost use Rattle.std.specs.Prelude.{◌≡◌, ◌*ℤ◌, ◌*◌, ◌≤◌, ◌++◌, ◌∷◌, [], map, OnOk, IfOk, IsTrue, unsigned_abs, length};
-ghost use Rattle.nf_terms.specs.NormalTerms.{polynomial_of};
-ghost use Rattle.nf_terms.specs.View.{monomial_in, term_in};
-ghost use Rattle.nf_terms.specs.Measures.{weight_of};
+ghost use Rattle.nf_trees.specs.NormalTerms.{polynomial_of};
+ghost use Rattle.nf_trees.specs.View.{monomial_in, term_in};
+ghost use Rattle.nf_trees.specs.Measures.{weight_of};
 ghost use Rattle.nf_terms.specs.TermLimits.{weight_limit};
 ghost use Rattle.nf_terms.specs.Normal.{ordered};
 ghost use Rattle.nf_sums.specs.OrderedSums.{IsOrderedProduct};

@@ -3,8 +3,8 @@ use Rattle.std.proofs.Common.{◌≡◌, ◌+ℤ◌, ◌*ℤ◌, Bool, true, ref
 use Rattle.std.specs.List.{list_all}
 use Rattle.fs_model.proofs.Booleans.{and_first}
 use Rattle.fs_model.specs.Division.{quotient, remainder}
-use Rattle.nf_terms.specs.NormalTerms.{Atom, Monomial, Polynomial, ArrayTerm, Writes, Symbol, Read, Quotient, Remainder, One, Times, Zero, Plus, Over, NoWrites}
-use Rattle.nf_terms.specs.NormalTerms.{Write}
+use Rattle.nf_trees.specs.NormalTerms.{Atom, Monomial, Polynomial, ArrayTerm, Writes, Symbol, Read, Quotient, Remainder, One, Times, Zero, Plus, Over, NoWrites}
+use Rattle.nf_trees.specs.NormalTerms.{Write}
 use Rattle.nf_terms.specs.Lists.{ListTerm}
 use Rattle.nf_terms.specs.TermMeaning.{Valuation, value_of, value_of_atom, value_of_monomial, contents, contents_after, contents_of_base, contents_after_write}
 use Rattle.nf_terms.specs.TermMeaning.{items_of_base, items_in}

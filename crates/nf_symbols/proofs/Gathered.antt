@@ -1,8 +1,8 @@
 -- Symbols behind others are joined to them.
 use Rattle.std.proofs.Common.{◌≡◌, Box, Global, List, ◌++◌, ◌⊎◌, inl, inr, refl, ap, sym, ◌∙◌, append_assoc}
 use Rattle.std.proofs.lemmas.List.{append-nil}
-use Rattle.nf_terms.specs.NormalTerms.{Atom, Monomial, Polynomial, ArrayTerm, Writes, Symbol, Read, Quotient, Remainder, One}
-use Rattle.nf_terms.specs.NormalTerms.{Times, Zero, Plus, Over, NoWrites, Write}
+use Rattle.nf_trees.specs.NormalTerms.{Atom, Monomial, Polynomial, ArrayTerm, Writes, Symbol, Read, Quotient, Remainder, One}
+use Rattle.nf_trees.specs.NormalTerms.{Times, Zero, Plus, Over, NoWrites, Write}
 use Rattle.nf_terms.specs.Symbols.{symbols_of_base, symbols_of_atom, symbols_of_monomial, symbols_of, symbols_of_writes, symbols_of_array}
 use Rattle.nf_symbols.specs.GatheredSymbols.{with_atom, with_monomial, with_polynomial, with_writes, with_array}
 use Rattle.fs_model.specs.declared.sides.Pos.{Pos}
@@ -10,8 +10,8 @@ use Rattle.nf_terms.specs.declared.symbols.Sort.{Sort}
 use Rattle.nf_trees.specs.declared.tree.Atom.{Atom as AtomTree}
 use Rattle.nf_trees.specs.declared.tree.Atom.TheVariants as tree
 use Rattle.nf_trees.specs.declared.tree.PolyTree.{PolyTree}
-use Rattle.nf_terms.specs.View.{atom_in, polynomial_in}
-use Rattle.nf_terms.proofs.TreeParts.{atom_of_quotient, atom_of_remainder}
+use Rattle.nf_trees.specs.View.{atom_in, polynomial_in}
+use Rattle.nf_trees.proofs.TreeParts.{atom_of_quotient, atom_of_remainder}
 
 -- two parts, one behind the other
 both : (old mid new xs ys : List (Pos × Sort)) → mid ≡ old ++ xs → new ≡ mid ++ ys → new ≡ old ++ (xs ++ ys)

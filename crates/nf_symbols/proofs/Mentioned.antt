@@ -4,11 +4,11 @@ use Rattle.std.specs.Prelude.{not}
 use Rattle.std.specs.List.{list_all}
 use Rattle.std.proofs.lemmas.List.Folds.{list_all-append}
 use Rattle.fs_model.proofs.Booleans.{not_or}
-use Rattle.nf_terms.specs.NormalTerms.{Atom, Monomial, Polynomial, ArrayTerm, Writes, Symbol, Read, Quotient, Remainder, One, Times, Zero, Plus, Over, NoWrites}
-use Rattle.nf_terms.specs.NormalTerms.{Write}
+use Rattle.nf_trees.specs.NormalTerms.{Atom, Monomial, Polynomial, ArrayTerm, Writes, Symbol, Read, Quotient, Remainder, One, Times, Zero, Plus, Over, NoWrites}
+use Rattle.nf_trees.specs.NormalTerms.{Write}
 use Rattle.nf_terms.specs.Lists.{mentions_items, mentions_list_base}
 use Rattle.nf_terms.specs.Forms.{mentions_form}
-use Rattle.nf_terms.specs.Mentions.{same_pos, mentions_base, mentions_atom, mentions_monomial, mentions, mentions_writes, mentions_array}
+use Rattle.nf_trees.specs.Mentions.{same_pos, mentions_base, mentions_atom, mentions_monomial, mentions, mentions_writes, mentions_array}
 use Rattle.nf_terms.specs.Symbols.{symbols_of_base, symbols_of_atom, symbols_of_monomial, symbols_of, symbols_of_writes, symbols_of_array, symbols_of_list_base}
 use Rattle.nf_terms.specs.Symbols.{symbols_of_items, symbols_of_form}
 use Rattle.nf_terms.specs.declared.symbols.Sort.{Sort}

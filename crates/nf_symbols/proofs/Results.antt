@@ -4,9 +4,9 @@ use Rattle.std.specs.List.{list_all}
 use Rattle.std.specs.declared.cmp.Ordering.{Ordering}
 use Rattle.std.specs.declared.cmp.Ordering.TheVariants.{Less, Equal, Greater}
 use Rattle.std.specs.Ordering.{int_eq, is_le}
-use Rattle.nf_terms.specs.NormalTerms.{Atom, Monomial, Polynomial, One, Times, Zero, Plus, polynomial_of_number}
-use Rattle.nf_terms.specs.Order.{cmp_atom, cmp_monomial}
-use Rattle.nf_terms.specs.Measures.{size_of, weight_of, depth_of}
+use Rattle.nf_trees.specs.NormalTerms.{Atom, Monomial, Polynomial, One, Times, Zero, Plus, polynomial_of_number}
+use Rattle.nf_trees.specs.Order.{cmp_atom, cmp_monomial}
+use Rattle.nf_trees.specs.Measures.{size_of, weight_of, depth_of}
 use Rattle.nf_terms.specs.RawSums.{raw_sum, raw_negation, raw_difference, monomial_product, raw_multiple, raw_product}
 use Rattle.nf_terms.specs.Symbols.{symbols_of_atom, symbols_of_monomial, symbols_of}
 use Rattle.nf_terms.specs.Computed.{Computed, Done, Wide, if_small}

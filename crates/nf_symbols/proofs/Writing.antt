@@ -2,11 +2,11 @@
 use Rattle.std.proofs.Common.{◌≡◌, ◌+◌, cond, Bool, true, false, ◌&&◌, refl, ap, sym, ◌∙◌, List, [], ◌∷◌, ◌++◌}
 use Rattle.std.specs.List.{list_all}
 use Rattle.fs_model.specs.Division.{quotient, remainder}
-use Rattle.nf_terms.specs.NormalTerms.{Atom, Polynomial, ArrayTerm, Writes, Read, Quotient, Remainder, One, Times, Zero, Over, NoWrites, Write}
-use Rattle.nf_terms.specs.NormalTerms.{polynomial_of_number}
+use Rattle.nf_trees.specs.NormalTerms.{Atom, Polynomial, ArrayTerm, Writes, Read, Quotient, Remainder, One, Times, Zero, Over, NoWrites, Write}
+use Rattle.nf_trees.specs.NormalTerms.{polynomial_of_number}
 use Rattle.nf_terms.specs.Lists.{ListTerm, size_of_list, depth_of_list}
-use Rattle.nf_terms.specs.Order.{same_polynomial}
-use Rattle.nf_terms.specs.Measures.{size_of, size_of_array, depth_of, depth_of_array}
+use Rattle.nf_trees.specs.Order.{same_polynomial}
+use Rattle.nf_trees.specs.Measures.{size_of, size_of_array, depth_of, depth_of_array}
 use Rattle.nf_terms.specs.Normal.{is_constant, constant_sum, is_written, last_index}
 use Rattle.nf_terms.specs.Tidied.{last_writes, goes_after, with_write, rising_stretches, tidy_array}
 use Rattle.nf_terms.specs.Symbols.{symbols_of_base, symbols_of_atom, symbols_of_monomial, symbols_of, symbols_of_writes, symbols_of_array, symbols_of_list_base}

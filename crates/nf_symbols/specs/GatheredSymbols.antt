@@ -1,7 +1,7 @@
 -- The symbols of a term behind others: a list that goes from part to part.
 use Rattle.std.specs.Prelude.{List, [], ◌∷◌, ◌++◌}
-use Rattle.nf_terms.specs.NormalTerms.{Atom, Monomial, Polynomial, ArrayTerm, Writes, Symbol, Read, Quotient, Remainder, One}
-use Rattle.nf_terms.specs.NormalTerms.{Times, Zero, Plus, Over, NoWrites, Write}
+use Rattle.nf_trees.specs.NormalTerms.{Atom, Monomial, Polynomial, ArrayTerm, Writes, Symbol, Read, Quotient, Remainder, One}
+use Rattle.nf_trees.specs.NormalTerms.{Times, Zero, Plus, Over, NoWrites, Write}
 use Rattle.nf_terms.specs.Symbols.{symbols_of_base}
 use Rattle.fs_model.specs.declared.sides.Pos.{Pos}
 use Rattle.nf_terms.specs.declared.symbols.Sort.{Sort}

@@ -1,7 +1,7 @@
 //! The symbols of terms, in the order in which they stand.
 
 ghost use Rattle.std.specs.Prelude.{◌≡◌, ◌++◌, ◌∷◌, [], IfOk, OnOk};
-ghost use Rattle.nf_terms.specs.View.{atom_in, monomial_in, polynomial_in, array_in};
+ghost use Rattle.nf_trees.specs.View.{atom_in, monomial_in, polynomial_in, array_in};
 ghost use Rattle.nf_terms.specs.Symbols.{symbols_of_base, symbols_of, symbols_of_array, symbols_of_list_base, symbols_of_items};
 ghost use Rattle.nf_terms.specs.Symbols.{symbols_of_list, symbols_of_form};
 ghost use Rattle.nf_symbols.specs.GatheredSymbols.{with_atom, with_monomial, with_polynomial, with_array};

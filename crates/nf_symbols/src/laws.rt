@@ -2,11 +2,11 @@
 
 ghost use Rattle.std.specs.Prelude.{◌≡◌, true, not, Bool, List};
 ghost use Rattle.std.specs.List.{list_all};
-ghost use Rattle.nf_terms.specs.NormalTerms.{Polynomial, ArrayTerm};
+ghost use Rattle.nf_trees.specs.NormalTerms.{Polynomial, ArrayTerm};
 ghost use Rattle.nf_terms.specs.Lists.{ListTerm, mentions_list};
 ghost use Rattle.nf_terms.specs.TermMeaning.{Valuation, value_of, contents, items_in};
 ghost use Rattle.nf_terms.specs.Symbols.{symbols_of, symbols_of_array, symbols_of_list, symbols_of_form};
-ghost use Rattle.nf_terms.specs.Mentions.{mentions, mentions_array};
+ghost use Rattle.nf_trees.specs.Mentions.{mentions, mentions_array};
 ghost use Rattle.nf_terms.specs.ValuationAgreement.{AgreeOn};
 ghost use Rattle.nf_terms.specs.Forms.{mentions_form};
 ghost use Rattle.nf_terms.specs.Computed.{Done};

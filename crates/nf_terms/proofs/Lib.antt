@@ -6,11 +6,6 @@ pub mod Simple
 pub mod Items
 pub mod Steps
 pub mod Computed
-pub use Rattle.nf_trees.proofs.Capped
-pub use Rattle.nf_trees.proofs.Compared
-pub use Rattle.nf_trees.proofs.Degrees
-pub use Rattle.nf_trees.proofs.Loops
-pub use Rattle.nf_trees.proofs.TreeParts
 pub use Rattle.fs_model.proofs.Booleans
 pub use Rattle.fs_model.proofs.Integers
 pub use Rattle.fs_model.proofs.Numbers

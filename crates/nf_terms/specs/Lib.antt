@@ -16,10 +16,6 @@ pub mod TermSorts
 pub mod Tidied
 pub mod ValuationAgreement
 pub use Rattle.nf_trees.specs.Comparison
-pub use Rattle.nf_trees.specs.Keys
-pub use Rattle.nf_trees.specs.Measures
 pub use Rattle.nf_trees.specs.Mentions
 pub use Rattle.nf_trees.specs.NormalTerms
 pub use Rattle.nf_trees.specs.Order
-pub use Rattle.nf_trees.specs.TermKeys
-pub use Rattle.nf_trees.specs.View

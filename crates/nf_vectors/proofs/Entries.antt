@@ -4,7 +4,7 @@ use Rattle.std.specs.Map.{lookup}
 use Rattle.std.proofs.lemmas.Bool.{and_from}
 use Rattle.fs_model.proofs.Booleans.{and_first, and_second}
 use Rattle.indexmap.specs.IndexMap.{insert_entry}
-use Rattle.nf_terms.specs.Mentions.{same_pos}
+use Rattle.nf_trees.specs.Mentions.{same_pos}
 use Rattle.nf_terms.specs.Forms.{IsNormalForm, sort_of_form}
 use Rattle.fs_model.specs.declared.sides.Pos.{Pos}
 use Rattle.nf_terms.specs.declared.symbols.Sort.{Sort}

@@ -2,9 +2,9 @@
 use Rattle.std.proofs.Common.{◌≡◌, ◌≤◌, ℤ, pos, Bool, true, false, cond, Option, Some, None, List, [], ◌∷◌, length, map, refl, arith, ap, ap₂}
 use Rattle.std.specs.Cmp.{signed_Decides}
 use Rattle.std.specs.Ordering.{int_eq}
-use Rattle.nf_terms.specs.NormalTerms.{Atom, Monomial, Polynomial, Symbol, Read, Quotient, Remainder, One, Times, Zero, Plus}
-use Rattle.nf_terms.specs.NormalTerms.{monomial_of, polynomial_of, polynomial_of_symbol}
-use Rattle.nf_terms.specs.View.{atom_in, term_in}
+use Rattle.nf_trees.specs.NormalTerms.{Atom, Monomial, Polynomial, Symbol, Read, Quotient, Remainder, One, Times, Zero, Plus}
+use Rattle.nf_trees.specs.NormalTerms.{monomial_of, polynomial_of, polynomial_of_symbol}
+use Rattle.nf_trees.specs.View.{atom_in, term_in}
 use Rattle.fs_model.specs.declared.sides.Pos.{Pos}
 use Rattle.nf_trees.specs.declared.tree.Atom.{Atom as AtomTree}
 use Rattle.nf_trees.specs.declared.tree.MonoTree.{MonoTree}

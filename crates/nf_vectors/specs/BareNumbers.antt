@@ -1,7 +1,7 @@
 -- Numbers that are a symbol alone.
 use Rattle.std.specs.Prelude.{cond, pos, Option, Some, None}
 use Rattle.std.specs.Ordering.{int_eq}
-use Rattle.nf_terms.specs.NormalTerms.{Atom, Monomial, Polynomial, Symbol, Read, Quotient, Remainder, One, Times, Zero, Plus}
+use Rattle.nf_trees.specs.NormalTerms.{Atom, Monomial, Polynomial, Symbol, Read, Quotient, Remainder, One, Times, Zero, Plus}
 use Rattle.fs_model.specs.declared.sides.Pos.{Pos}
 
 -- the symbol that an atom is

@@ -1,9 +1,9 @@
 -- Vectors: normal forms for positions.
 use Rattle.std.specs.Prelude.{Bool, ◌&&◌, is_some, cond, Option, Some, None, List, [], ◌∷◌}
 use Rattle.std.specs.Option.{option_or}
-use Rattle.nf_terms.specs.NormalTerms.{Polynomial, ArrayTerm, polynomial_of_symbol, bare_array}
+use Rattle.nf_trees.specs.NormalTerms.{Polynomial, ArrayTerm, polynomial_of_symbol, bare_array}
 use Rattle.nf_terms.specs.Lists.{ListTerm, bare_list}
-use Rattle.nf_terms.specs.Mentions.{same_pos}
+use Rattle.nf_trees.specs.Mentions.{same_pos}
 use Rattle.nf_terms.specs.TermMeaning.{Valuation, value_of, contents, items_in}
 use Rattle.nf_terms.specs.Forms.{IsNormalForm, sort_of_form}
 use Rattle.fs_model.specs.declared.sides.Pos.{Pos}

@@ -1,8 +1,8 @@
 //! Numbers that are symbols alone.
 
 ghost use Rattle.std.specs.Prelude.{◌≡◌, [], ◌∷◌};
-ghost use Rattle.nf_terms.specs.View.{atom_in, monomial_in};
-ghost use Rattle.nf_terms.specs.NormalTerms.{polynomial_of};
+ghost use Rattle.nf_trees.specs.View.{atom_in, monomial_in};
+ghost use Rattle.nf_trees.specs.NormalTerms.{polynomial_of};
 ghost use Rattle.nf_vectors.specs.BareNumbers.{lone_atom, lone_symbol, bare_number};
 
 use nf_terms::poly::Poly;

@@ -1,7 +1,7 @@
 //! Laws of vectors. The functions do nothing.
 
 ghost use Rattle.std.specs.Prelude.{◌≡◌, ◌&&◌, cond, Some, List};
-ghost use Rattle.nf_terms.specs.Mentions.{same_pos};
+ghost use Rattle.nf_trees.specs.Mentions.{same_pos};
 ghost use Rattle.nf_terms.specs.Forms.{sort_of_form};
 ghost use Rattle.fs_model.specs.declared.sides.Pos.{Pos as Position};
 ghost use Rattle.nf_terms.specs.declared.symbols.Sort.{Sort};

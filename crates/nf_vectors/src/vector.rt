@@ -2,7 +2,7 @@
 
 ghost use Rattle.std.specs.Prelude.{◌≡◌, [], Some, option_map, IsTrue, IfOk, OnOk, OnErr};
 ghost use Rattle.std.specs.Ordering.{is_eq};
-ghost use Rattle.nf_terms.specs.Order.{cmp_polynomial, cmp_array};
+ghost use Rattle.nf_trees.specs.Order.{cmp_polynomial, cmp_array};
 ghost use Rattle.nf_terms.specs.Lists.{cmp_list};
 ghost use Rattle.nf_terms.specs.declared.form.Nf.TheVariants as normal;
 ghost use Rattle.nf_vectors.specs.Vectors.{form_at, form_of, has_form, number_at, array_form, list_at, array_of_base};

@@ -2,9 +2,9 @@
 use Rattle.std.proofs.Common.{◌≡◌, Bool, true, ap, ap₂, sym, ◌∙◌, List, Option, Some, None}
 use Rattle.fs_model.proofs.Orderings.{is_eq-true}
 use Rattle.fs_model.specs.Meaning.{relates}
-use Rattle.nf_terms.specs.Order.{cmp_polynomial, cmp_array}
+use Rattle.nf_trees.specs.Order.{cmp_polynomial, cmp_array}
 use Rattle.nf_terms.specs.Lists.{cmp_list}
-use Rattle.nf_terms.specs.TermKeys.{polynomial_ties, array_ties}
+use Rattle.nf_trees.specs.TermKeys.{polynomial_ties, array_ties}
 use Rattle.nf_terms.specs.ListComparison.{list_ties}
 use Rattle.nf_terms.specs.Forms.{same_form}
 use Rattle.nf_terms.specs.TermMeaning.{Valuation, value_of, contents, items_in}

@@ -7,8 +7,8 @@ use Rattle.fs_model.specs.declared.parts.Sort.{Sort}
 use Rattle.fs_pair.specs.declared.positions.Position.{Position}
 use Rattle.fs_pair.specs.Paired.{IsPairing}
 use Rattle.nf_terms.specs.Forms.{sort_of_form}
-use Rattle.nf_terms.specs.Order.{same_polynomial}
-use Rattle.nf_terms.specs.NormalTerms.{Polynomial, polynomial_of_symbol}
+use Rattle.nf_trees.specs.Order.{same_polynomial}
+use Rattle.nf_trees.specs.NormalTerms.{Polynomial, polynomial_of_symbol}
 use Rattle.nf_terms.specs.Computed.{Computed, Done, after}
 use Rattle.nf_terms.specs.declared.symbols.Sort.{Sort as TermSort}
 use Rattle.nf_terms.specs.declared.symbols.Sort.TheVariants as term

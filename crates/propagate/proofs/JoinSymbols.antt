@@ -2,7 +2,7 @@
 use Rattle.std.proofs.Common.{◌≡◌, ℕ, ◌+◌, Bool, true, false, refl, sym, subst, List, [], ◌∷◌, Option, Some, None}
 use Rattle.std.specs.List.{list_all}
 use Rattle.std.proofs.lemmas.Bool.{and_from}
-use Rattle.nf_terms.specs.NormalTerms.{Polynomial, polynomial_of_symbol}
+use Rattle.nf_trees.specs.NormalTerms.{Polynomial, polynomial_of_symbol}
 use Rattle.nf_terms.specs.Forms.{sort_of_form}
 use Rattle.nf_terms.specs.Computed.{Done}
 use Rattle.nf_terms.specs.declared.symbols.Sort.{Sort as TermSort}

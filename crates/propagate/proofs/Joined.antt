@@ -8,8 +8,8 @@ use Rattle.std.proofs.lemmas.List.{append-nil}
 use Rattle.std.proofs.lemmas.Bool.{and_from}
 use Rattle.fs_model.proofs.Booleans.{and_first, and_second, neither_second}
 use Rattle.fs_model.proofs.Numbers.{eqb_self}
-use Rattle.nf_terms.specs.NormalTerms.{Polynomial, polynomial_of_symbol}
-use Rattle.nf_terms.specs.Order.{same_polynomial}
+use Rattle.nf_trees.specs.NormalTerms.{Polynomial, polynomial_of_symbol}
+use Rattle.nf_trees.specs.Order.{same_polynomial}
 use Rattle.nf_terms.specs.Forms.{same_form}
 use Rattle.nf_terms.specs.TermMeaning.{Valuation, value_of, contents, items_in}
 use Rattle.nf_terms.specs.Computed.{Computed, Done, after}

@@ -6,7 +6,7 @@ use Rattle.std.specs.Ordering.{int_eq}
 use Rattle.std.specs.List.{list_all}
 use Rattle.fs_model.specs.declared.parts.Rel.{Rel}
 use Rattle.fs_model.specs.declared.parts.Rel.TheVariants as rel
-use Rattle.nf_terms.specs.NormalTerms.{Polynomial, One, Times, Zero, Plus}
+use Rattle.nf_trees.specs.NormalTerms.{Polynomial, One, Times, Zero, Plus}
 use Rattle.nf_terms.specs.Normal.{part_with_atoms, constant_sum}
 use Rattle.nf_terms.specs.RawSums.{raw_negation}
 use Rattle.nf_terms.specs.Symbols.{symbols_of_monomial, symbols_of}

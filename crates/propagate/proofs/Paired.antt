@@ -7,8 +7,8 @@ use Rattle.fs_model.specs.declared.parts.Sort.{Sort}
 use Rattle.fs_model.specs.declared.parts.Sort.TheVariants as sort
 use Rattle.fs_pair.specs.declared.positions.Position.{Position}
 use Rattle.nf_terms.specs.Forms.{same_form, sort_of_form}
-use Rattle.nf_terms.specs.Mentions.{same_pos}
-use Rattle.nf_terms.specs.NormalTerms.{Polynomial, polynomial_of_symbol}
+use Rattle.nf_trees.specs.Mentions.{same_pos}
+use Rattle.nf_trees.specs.NormalTerms.{Polynomial, polynomial_of_symbol}
 use Rattle.nf_terms.specs.Computed.{Computed, Done, after}
 use Rattle.nf_terms.specs.declared.symbols.Sort.{Sort as TermSort}
 use Rattle.nf_terms.specs.declared.symbols.Sort.TheVariants as term

@@ -6,7 +6,7 @@ use Rattle.std.proofs.lemmas.Bool.{and_from}
 use Rattle.fs_model.specs.declared.parts.Sort.{Sort}
 use Rattle.fs_model.specs.declared.parts.Sort.TheVariants as sort
 use Rattle.fs_pair.specs.declared.positions.Position.{Position}
-use Rattle.nf_terms.specs.NormalTerms.{Polynomial, polynomial_of_symbol, bare_array}
+use Rattle.nf_trees.specs.NormalTerms.{Polynomial, polynomial_of_symbol, bare_array}
 use Rattle.nf_terms.specs.Lists.{bare_list}
 use Rattle.nf_terms.specs.Forms.{same_form}
 use Rattle.nf_terms.specs.Symbols.{symbols_of, symbols_of_array, symbols_of_list}

@@ -1,7 +1,7 @@
 -- What is longer than a symbol is no symbol alone.
 use Rattle.std.proofs.Common.{◌≡◌, ◌≤◌, refl, arith, List, [], ◌∷◌, length, map, None}
-use Rattle.nf_terms.specs.NormalTerms.{ArrayTerm, Over, NoWrites, Write, writes_of, writes_over}
-use Rattle.nf_terms.specs.View.{write_in}
+use Rattle.nf_trees.specs.NormalTerms.{ArrayTerm, Over, NoWrites, Write, writes_of, writes_over}
+use Rattle.nf_trees.specs.View.{write_in}
 use Rattle.nf_trees.specs.declared.tree.PolyTree.{PolyTree}
 use Rattle.propagate_equations.specs.Equations.{symbol_of_array}
 

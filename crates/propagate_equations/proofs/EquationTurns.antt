@@ -3,7 +3,7 @@ use Rattle.std.proofs.Common.{◌≡◌, Bool, true, false, cond, refl, ap, ◌�
 use Rattle.fs_model.specs.declared.parts.Sort.{Sort}
 use Rattle.fs_model.specs.declared.parts.Sort.TheVariants as sort
 use Rattle.fs_pair.specs.declared.positions.Position.{Position}
-use Rattle.nf_terms.specs.NormalTerms.{Polynomial, polynomial_of_symbol}
+use Rattle.nf_trees.specs.NormalTerms.{Polynomial, polynomial_of_symbol}
 use Rattle.nf_terms.specs.Computed.{Computed, Done, after}
 use Rattle.fs_model.specs.declared.sides.Pos.{Pos}
 use Rattle.nf_terms.specs.declared.form.Nf.{Nf}

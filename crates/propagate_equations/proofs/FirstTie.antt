@@ -3,7 +3,7 @@ use Rattle.std.proofs.Common.{◌≡◌, Bool, true, false, cond, ℕ, ◌+◌, 
 use Rattle.fs_model.proofs.Lists.{drop_next, map_drop_next}
 use Rattle.fs_model.specs.declared.sides.Pos.{Pos}
 use Rattle.fs_pair.specs.declared.positions.Position.{Position}
-use Rattle.nf_terms.specs.NormalTerms.{Polynomial}
+use Rattle.nf_trees.specs.NormalTerms.{Polynomial}
 use Rattle.nf_terms.specs.Computed.{Computed, Done, Answers, after}
 use Rattle.nf_terms.specs.declared.form.Nf.{Nf}
 use Rattle.nf_terms.specs.declared.stop.NfStop.{NfStop}

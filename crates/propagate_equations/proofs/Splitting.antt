@@ -1,8 +1,8 @@
 -- A symbol that is split off a sum in its terms' turn.
 use Rattle.std.proofs.Common.{◌≡◌, ℕ, suc, ◌+◌, ◌<◌, ◌≤◌, ap, sym, ◌∙◌, ℤ, List, [], ◌∷◌, ◌++◌, length, map, drop, get_or, drop-cons, add-one, Some, None}
 use Rattle.std.proofs.Math.ListN.{drop_of_length-le}
-use Rattle.nf_terms.specs.NormalTerms.{Monomial, polynomial_of}
-use Rattle.nf_terms.specs.View.{term_in}
+use Rattle.nf_trees.specs.NormalTerms.{Monomial, polynomial_of}
+use Rattle.nf_trees.specs.View.{term_in}
 use Rattle.fs_model.specs.declared.sides.Pos.{Pos}
 use Rattle.nf_trees.specs.declared.tree.MonoTree.{MonoTree}
 use Rattle.nf_terms.specs.declared.form.Nf.{Nf}

@@ -1,7 +1,7 @@
 -- A tie as it is found, one freed position after the other, is the tie.
 use Rattle.std.proofs.Common.{◌≡◌, Bool, true, false, cond, refl, ap, ◌∙◌, List, [], ◌∷◌, Option, Some, None}
-use Rattle.nf_terms.specs.NormalTerms.{Polynomial, polynomial_of_symbol}
-use Rattle.nf_terms.specs.Order.{same_polynomial}
+use Rattle.nf_trees.specs.NormalTerms.{Polynomial, polynomial_of_symbol}
+use Rattle.nf_trees.specs.Order.{same_polynomial}
 use Rattle.nf_terms.specs.Computed.{Computed, Done, Wide, Large, after}
 use Rattle.fs_model.specs.declared.sides.Pos.{Pos}
 use Rattle.nf_terms.specs.declared.form.Nf.{Nf}

@@ -3,10 +3,10 @@ use Rattle.std.proofs.Common.{◌≡◌, ℕ, zero, suc, ◌+◌, ◌-◌, ◌<�
 use Rattle.std.proofs.lemmas.List.{length-drop}
 use Rattle.std.proofs.Math.Seq.{take-length}
 use Rattle.fs_model.proofs.Integers.{not_zero}
-use Rattle.nf_terms.specs.NormalTerms.{polynomial_of}
+use Rattle.nf_trees.specs.NormalTerms.{polynomial_of}
 use Rattle.nf_terms.specs.Normal.{IsNormal, ordered}
 use Rattle.nf_terms.specs.Reduced.{Reduces, Ended, Dropped, Kept}
-use Rattle.nf_terms.specs.View.{monomial_in, term_in}
+use Rattle.nf_trees.specs.View.{monomial_in, term_in}
 use Rattle.nf_trees.specs.declared.tree.MonoTree.{MonoTree}
 use Rattle.nf_sums.proofs.Partings.{ordered_term}
 use Rattle.nf_sums.proofs.Reducing.{reduced_normal}

@@ -1,6 +1,6 @@
 -- Equations and conditions as they are made: one term, one freed position, one condition after the other.
 use Rattle.std.specs.Prelude.{cond, Bool, true, false, List, [], ◌∷◌, Option, Some, None, ℤ, pos, neg_ℤ, take, ◌++◌}
-use Rattle.nf_terms.specs.NormalTerms.{Polynomial, Monomial, polynomial_of}
+use Rattle.nf_trees.specs.NormalTerms.{Polynomial, Monomial, polynomial_of}
 use Rattle.nf_terms.specs.Computed.{Computed, Done, after}
 use Rattle.fs_model.specs.declared.sides.Pos.{Pos}
 use Rattle.nf_terms.specs.declared.form.Nf.{Nf}

@@ -7,7 +7,7 @@ use Rattle.std.specs.Ordering.{int_eq}
 use Rattle.fs_model.specs.declared.parts.Sort.{Sort}
 use Rattle.fs_model.specs.declared.parts.Sort.TheVariants as sort
 use Rattle.fs_pair.specs.declared.positions.Position.{Position}
-use Rattle.nf_terms.specs.NormalTerms.{Monomial, Polynomial, ArrayTerm, Zero, Plus, Over, NoWrites, Write, polynomial_of_symbol}
+use Rattle.nf_trees.specs.NormalTerms.{Monomial, Polynomial, ArrayTerm, Zero, Plus, Over, NoWrites, Write, polynomial_of_symbol}
 use Rattle.nf_terms.specs.Forms.{same_form}
 use Rattle.nf_terms.specs.Symbols.{symbols_of}
 use Rattle.nf_terms.specs.Computed.{Computed, Done, after}

@@ -1,8 +1,8 @@
 -- Ties of positions whose equations fail.
 use Rattle.std.specs.Prelude.{Bool, ◌&&◌, cond, List, [], ◌∷◌, Option, Some, None}
-use Rattle.nf_terms.specs.NormalTerms.{Polynomial, polynomial_of_symbol, bare_array}
+use Rattle.nf_trees.specs.NormalTerms.{Polynomial, polynomial_of_symbol, bare_array}
 use Rattle.nf_terms.specs.Lists.{bare_list}
-use Rattle.nf_terms.specs.Order.{same_polynomial}
+use Rattle.nf_trees.specs.Order.{same_polynomial}
 use Rattle.nf_terms.specs.Forms.{same_form}
 use Rattle.nf_terms.specs.Computed.{Computed, Done, after}
 use Rattle.fs_model.specs.declared.sides.Pos.{Pos}

@@ -1,9 +1,9 @@
 //! Numbers that are a symbol, as it is or negated, and a rest.
 
 ghost use Rattle.std.specs.Prelude.{◌≡◌, ◌+◌, ◌<◌, ◌++◌, length, map, option_map, take, drop, IfOk, OnOk};
-ghost use Rattle.nf_terms.specs.NormalTerms.{polynomial_of};
+ghost use Rattle.nf_trees.specs.NormalTerms.{polynomial_of};
 ghost use Rattle.nf_terms.specs.Normal.{IsNormal};
-ghost use Rattle.nf_terms.specs.View.{monomial_in, term_in};
+ghost use Rattle.nf_trees.specs.View.{monomial_in, term_in};
 ghost use Rattle.propagate_equations.specs.Equations.{split_off_symbol};
 ghost use Rattle.propagate_equations.specs.EquationSteps.{signed_term};
 ghost use Rattle.propagate_equations.specs.View.{split_in};

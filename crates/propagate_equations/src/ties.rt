@@ -1,8 +1,8 @@
 //! Ties of positions whose equations fail.
 
 ghost use Rattle.std.specs.Prelude.{◌≡◌, cond, map, IfOk, Some, None};
-ghost use Rattle.nf_terms.specs.NormalTerms.{polynomial_of_symbol};
-ghost use Rattle.nf_terms.specs.Order.{same_polynomial};
+ghost use Rattle.nf_trees.specs.NormalTerms.{polynomial_of_symbol};
+ghost use Rattle.nf_trees.specs.Order.{same_polynomial};
 ghost use Rattle.nf_terms.specs.Computed.{Answers, Done, after};
 ghost use Rattle.nf_terms.specs.declared.form.Nf.TheVariants as form;
 ghost use Rattle.nf_sums.specs.Operations.{normal_sum, normal_difference};

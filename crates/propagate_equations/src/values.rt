@@ -1,7 +1,7 @@
 //! What a vector has at positions.
 
 ghost use Rattle.std.specs.Prelude.{◌≡◌, IfOk, Some};
-ghost use Rattle.nf_terms.specs.NormalTerms.{polynomial_of_symbol};
+ghost use Rattle.nf_trees.specs.NormalTerms.{polynomial_of_symbol};
 ghost use Rattle.nf_terms.specs.Computed.{Answers, Done, after};
 ghost use Rattle.nf_terms.specs.declared.form.Nf.TheVariants as form;
 ghost use Rattle.nf_sums.specs.Operations.{normal_sum, normal_difference};

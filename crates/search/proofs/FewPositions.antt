@@ -7,7 +7,7 @@ use Rattle.std.proofs.lemmas.List.{length-map}
 use Rattle.std.proofs.lemmas.Bool.{not-true}
 use Rattle.fs_model.proofs.Booleans.{and_first, and_second, neither_first, neither_second, not_or_second}
 use Rattle.fs_model.proofs.Lists.{length_filter}
-use Rattle.fs_ast.specs.SoundParts.{IsSound, names_differ}
+use Rattle.fs_model.specs.SoundMachines.{IsSound, names_differ}
 use Rattle.fs_model.specs.declared.parts.VarInfo.{VarInfo}
 use Rattle.fs_model.specs.Machines.{Fsmd}
 use Rattle.fs_model.specs.declared.sides.Side.TheVariants.{Left, Right}

@@ -1,7 +1,7 @@
 -- The two ways in which a search ends: with a certificate, or with an obstacle.
 use Rattle.std.proofs.Common.{◌≡◌, ℕ, ◌+◌, ◌*◌, ◌≤◌, arith, List, length, map, None}
 use Rattle.std.specs.List.{AllByRecursion}
-use Rattle.fs_ast.specs.SoundParts.{IsSound}
+use Rattle.fs_model.specs.SoundMachines.{IsSound}
 use Rattle.fs_pair.specs.Interfaces.{interface_fault}
 use Rattle.cert_bisimulation.specs.Tables.{Node as CertificateNode}
 use Rattle.sym_facts.specs.Facts.{Fact, most_literals}

@@ -1,6 +1,6 @@
 -- How a search ends.
 use Rattle.std.specs.Prelude.{◌≡◌, ◌+◌, ◌*◌, ◌≤◌, ℕ, List, length, map, None}
-use Rattle.fs_ast.specs.SoundParts.{IsSound}
+use Rattle.fs_model.specs.SoundMachines.{IsSound}
 use Rattle.cert_bisimulation.specs.Tables.{Node as CertificateNode}
 use Rattle.sym_facts.specs.Facts.{Fact, most_literals}
 use Rattle.sym_facts.specs.Starts.{start_fact}

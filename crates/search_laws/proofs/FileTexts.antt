@@ -3,7 +3,7 @@ use Rattle.std.proofs.Common.{◌≡◌, ℕ, List, [], ◌∷◌, refl, ap, ap�
 use Rattle.serde_json.proofs.OnLiterals.{serde_json_on_literals}
 use Rattle.cert_json.specs.WrittenJson.{NodeText, texts, named_texts, node_data, nodes_data, file_data}
 use Rattle.cert_json.specs.JsonTexts.{named_texts_of}
-use Rattle.cert_text.specs.JsonParts.{texts_of, node_text_in, node_texts, file_nodes, file_format}
+use Rattle.cert_facts.specs.JsonParts.{texts_of, node_text_in, node_texts, file_nodes, file_format}
 
 texts_again : (ss : List (List ℕ)) → texts_of (texts ss) ≡ ss
 texts_again [] = refl

@@ -4,7 +4,7 @@ use Rattle.std.proofs.Common.{◌∙◌}
 use Rattle.std.specs.List.{list_all, list_any, AllByRecursion}
 use Rattle.std.proofs.lemmas.Bool.{or_parts, not-true}
 use Rattle.fs_model.proofs.Booleans.{and_first, and_second}
-use Rattle.fs_ast.specs.SoundParts.{IsSound}
+use Rattle.fs_model.specs.SoundMachines.{IsSound}
 use Rattle.fs_model.specs.Machines.{Fsmd}
 use Rattle.fs_cut.specs.Paths.{is_point}
 use Rattle.fs_cut.specs.Covers.{same_point}
@@ -20,7 +20,7 @@ use Rattle.cert_json.specs.Refusals.{IsFileOf}
 use Rattle.cert_json.specs.WrittenJson.{NodeText}
 use Rattle.cert_writer.specs.WrittenCertificates.{needed_format, mode_written, node_written, file_written}
 use Rattle.cert_text.specs.CertificateNames.{place_named, find_in}
-use Rattle.cert_text.specs.JsonParts.{file_nodes}
+use Rattle.cert_facts.specs.JsonParts.{file_nodes}
 use Rattle.cert_text.specs.NodePointNames.{then_part, node_is_at}
 use Rattle.cert_text.specs.CertificateReading.{Context, mode_named, node_fact, node_read, nodes_read}
 use Rattle.cert_text.specs.Refusals.{context_of, SpellsNodes}

@@ -8,10 +8,10 @@ use Rattle.nf_terms.specs.declared.tree.SeqBase.{SeqBase}
 use Rattle.nf_terms.specs.declared.tree.SeqBase.TheVariants as list_bases
 use Rattle.nf_terms.specs.declared.symbols.Sort.{Sort}
 use Rattle.nf_terms.specs.declared.symbols.Sort.TheVariants as sort
-use Rattle.nf_terms.specs.NormalTerms as terms
+use Rattle.nf_trees.specs.NormalTerms as terms
 use Rattle.nf_terms.specs.Lists as lists
 use Rattle.nf_terms.specs.Lists.{AreNormalItems}
-use Rattle.nf_terms.specs.Measures.{weight_of}
+use Rattle.nf_trees.specs.Measures.{weight_of}
 use Rattle.nf_terms.specs.Normal.{narrow_atom, narrow_monomial, narrow_inside, narrow_writes, narrow_array, is_light}
 use Rattle.term_text.specs.TermTexts.{Atom, Monomial, Sum, ArrayTerm, ListSyntax, Number, One, Times, ZeroArray, Bare, Written, Pushed}
 use Rattle.term_values.specs.Checks.{Test, factor_passes, atom_passes, monomial_passes, sum_passes, polynomial_passes, array_passes, list_passes}

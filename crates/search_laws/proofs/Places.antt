@@ -14,14 +14,14 @@ use Rattle.fs_model.specs.declared.parts.Sort.{Sort}
 use Rattle.fs_model.specs.declared.parts.Sort.TheVariants as sort
 use Rattle.fs_model.specs.Machines.{Fsmd}
 use Rattle.fs_model.specs.Words.{is_word, is_name, is_reserved}
-use Rattle.fs_ast.specs.SoundParts.{names_differ, IsSound}
+use Rattle.fs_model.specs.SoundMachines.{names_differ, IsSound}
 use Rattle.fs_ast.specs.Places.{first_place}
 use Rattle.fs_pair.specs.declared.positions.Position.{Position}
 use Rattle.fs_pair.specs.Positions.{positions}
 use Rattle.fs_pair.specs.Partners.{variables_on, is_position_of, position_name}
 use Rattle.fs_pair.proofs.Once.{names_of, own_number, position_once}
 use Rattle.fs_pair.proofs.Variables.{stands_for}
-use Rattle.nf_terms.specs.Mentions.{same_pos}
+use Rattle.nf_trees.specs.Mentions.{same_pos}
 use Rattle.fs_model.specs.declared.sides.Side.{Side}
 use Rattle.fs_model.specs.declared.sides.Side.TheVariants.{Left, Right}
 use Rattle.fs_model.specs.declared.sides.Pos.{Pos}

@@ -11,7 +11,7 @@ use Rattle.fs_model.proofs.Quantifiers.{list_all_at}
 use Rattle.fs_model.specs.Machines.{State, Fsmd}
 use Rattle.fs_model.specs.Words.{reserved_words, is_reserved, is_name}
 use Rattle.fs_ast.specs.Places.{first_place}
-use Rattle.fs_ast.specs.SoundParts.{names_differ, IsSound}
+use Rattle.fs_model.specs.SoundMachines.{names_differ, IsSound}
 use Rattle.fs_ast.specs.StoredBranches.{state_name_of}
 use Rattle.fs_cut.specs.Paths.{Point, Start, At, Done, is_point}
 use Rattle.fs_cut.proofs.Listed.{fork_state}
@@ -55,11 +55,11 @@ one_number (n ∷ ns) (suc i) (suc j) x h e f = ap suc (one_number ns i j x (and
 module _ (m : Fsmd) (sound : IsSound m) where
   state_at : (q : ℕ) → q < length m.states → slice_get (machine_state_names m) q ≡ Some (state_name_of m q)
   state_at q h = slice_get-map (λ (s : State). s.name) m.states q
-      ∙ ap (option_map (λ (s : State). s.name)) (slice_get-get_or m.states q (record { name = []; lines = [] }) h)
+      ∙ ap (option_map (λ (s : State). s.name)) (slice_get-get_or m.states q (record { name = []; transitions = [] }) h)
 
   state_name : (q : ℕ) → q < length m.states → is_name (state_name_of m q) ≡ true
-  state_name q h = list_all_at (λ s. is_name s.name) m.states q (get_or m.states q (record { name = []; lines = [] })) sound.states_named
-      (slice_get-get_or m.states q (record { name = []; lines = [] }) h)
+  state_name q h = list_all_at (λ s. is_name s.name) m.states q (get_or m.states q (record { name = []; transitions = [] })) sound.states_named
+      (slice_get-get_or m.states q (record { name = []; transitions = [] }) h)
 
   no_empty : (x : List ℕ) → is_name x ≡ true → state_named m x ≡ first_place (machine_state_names m) x
   no_empty [] h = absurd (cc h)

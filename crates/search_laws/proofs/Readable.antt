@@ -15,11 +15,11 @@ use Rattle.nf_terms.specs.declared.symbols.Sort.{Sort}
 use Rattle.nf_terms.specs.declared.symbols.Sort.TheVariants as sort
 use Rattle.nf_terms.specs.declared.form.Nf.{Nf}
 use Rattle.nf_terms.specs.declared.form.Nf.TheVariants.{Num, Arr, Seq}
-use Rattle.nf_terms.specs.NormalTerms as terms
+use Rattle.nf_trees.specs.NormalTerms as terms
 use Rattle.nf_terms.specs.Lists as lists
 use Rattle.nf_terms.specs.Lists.{IsNormalList, size_of_list, depth_of_list}
 use Rattle.nf_terms.specs.TermLimits.{weight_limit}
-use Rattle.nf_terms.specs.Measures.{size_of_array, depth_of_array}
+use Rattle.nf_trees.specs.Measures.{size_of_array, depth_of_array}
 use Rattle.nf_terms.specs.Forms.{IsNormalForm, sort_of_form}
 use Rattle.nf_terms.specs.Normal.{is_light, narrow_inside, IsNormal, IsNormalArray}
 use Rattle.nf_terms.specs.TermSorts.{same_term_sort}

@@ -21,8 +21,8 @@ use Rattle.sym_facts.specs.Facts.{FactPosition, Fact, vector_of, size_of_equatio
 use Rattle.sym_facts.specs.Pairings.{IsFactOf}
 use Rattle.sym_facts.specs.Starts.{zero_of, start_form, partner_in, start_position}
 use Rattle.cert_model.specs.Sizes.{units_of}
-use Rattle.search_laws.specs.CertificateLimits.{equation_count, most_bytes, most_certificate_bytes}
-use Rattle.search_laws.specs.WrittenCertificates.{certificate_text}
+use Rattle.cert_writer.specs.CertificateLimits.{equation_count, most_bytes, most_certificate_bytes}
+use Rattle.cert_writer.specs.WrittenCertificates.{certificate_text}
 use Rattle.search_tables.specs.declared.moves.Move.{Move}
 use Rattle.search_tables.specs.SearchTables.{MachinePair, positions_of, SearchNode, Table, units, most_units, start_node, first_table, machines}
 use Rattle.search_tables.specs.Next.{Change, next_move}

@@ -6,7 +6,7 @@ use Rattle.std.specs.List.{list_all, list_any, slice_index_or}
 use Rattle.std.proofs.lemmas.Bool.Decides.{nat_tests}
 use Rattle.std.proofs.lemmas.Str.{IsUtf8-nil}
 use Rattle.fs_model.proofs.Booleans.{and_first, and_second}
-use Rattle.fs_ast.specs.SoundParts.{IsSound}
+use Rattle.fs_model.specs.SoundMachines.{IsSound}
 use Rattle.json.proofs.Printed.Utf8.{IsUtf8-are_ascii}
 use Rattle.serde_json.specs.Data.{Members, no_members, string}
 use Rattle.fs_model.specs.Machines.{State, Fsmd}
@@ -52,7 +52,7 @@ ascii_keys = (
   IsUtf8-are_ascii (codes "right") refl,
 )
 
-state_utf8 : (ss : List State) (q : ℕ) → list_all (λ x. is_name x.name) ss ≡ true → IsUtf8 (slice_index_or ss q (record { name = []; lines = [] })).name
+state_utf8 : (ss : List State) (q : ℕ) → list_all (λ x. is_name x.name) ss ≡ true → IsUtf8 (slice_index_or ss q (record { name = []; transitions = [] })).name
 state_utf8 [] q h = IsUtf8-nil
 state_utf8 (x ∷ ss) zero h = name_utf8 x.name (and_first (is_name x.name) (list_all (λ (y : State). is_name y.name) ss) h)
 state_utf8 (x ∷ ss) (suc q) h = state_utf8 ss q (and_second (is_name x.name) (list_all (λ (y : State). is_name y.name) ss) h)

@@ -2,7 +2,7 @@
 
 ghost use Rattle.std.specs.Prelude.{◌≡◌, ◌≤◌, ◌↔◌, ℕ, List, length};
 ghost use Rattle.std.specs.List.{AllByRecursion};
-ghost use Rattle.fs_ast.specs.SoundParts.{IsSound};
+ghost use Rattle.fs_model.specs.SoundMachines.{IsSound};
 ghost use Rattle.fs_model.specs.Machines.{Fsmd};
 ghost use Rattle.fs_pair.specs.Positions.{positions};
 ghost use Rattle.cert_bisimulation.specs.Tables.{Node};

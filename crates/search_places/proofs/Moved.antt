@@ -5,7 +5,7 @@ use Rattle.std.specs.Prelude.{slice_get}
 use Rattle.std.specs.List.{flat_map, range_with_len, AllByRecursion}
 use Rattle.fs_model.proofs.Quantifiers.{each_weaker, each_at}
 use Rattle.fs_model.proofs.Lists.{map_map}
-use Rattle.fs_cut.specs.SoundParts.{branch_count}
+use Rattle.fs_model.specs.SoundMachines.{branch_count}
 use Rattle.fs_model.specs.Machines.{Fsmd}
 use Rattle.fs_model.specs.Limits.{most_branches}
 use Rattle.fs_cut.specs.Paths.{Point, Start, At, Done, Path}

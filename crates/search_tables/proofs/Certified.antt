@@ -3,9 +3,9 @@ use Rattle.std.proofs.Common.{◌≡◌, ℕ, zero, suc, ◌+◌, refl, ap, sym,
 use Rattle.std.specs.Prelude.{slice_get}
 use Rattle.std.specs.Option.{option_map}
 use Rattle.std.specs.List.{AllByRecursion}
-use Rattle.fs_model.proofs.Options.{option_or_parts}
-use Rattle.fs_model.proofs.Quantifiers.{each_at}
-use Rattle.fs_cut.specs.SoundParts.{IsSound}
+use Rattle.base_laws.proofs.Options.{option_or_parts}
+use Rattle.base_laws.proofs.Quantifiers.{each_at}
+use Rattle.fs_model.specs.SoundMachines.{IsSound}
 use Rattle.fs_cut.specs.Paths.{Start}
 use Rattle.fs_cut.specs.Covers.{paths_of}
 use Rattle.fs_pair.specs.Interfaces.{interface_fault}

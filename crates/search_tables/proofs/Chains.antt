@@ -1,7 +1,7 @@
 -- The ranks of a certificate are the lengths of longest chains of lone moves.
 use Rattle.std.proofs.Common.{◌≡◌, ℕ, zero, suc, refl, ap, sym, subst, ◌∙◌, Bool, true, false, cond, List, [], ◌∷◌, ◌++◌, map, Some}
 use Rattle.std.specs.Prelude.{slice_get, slice_index}
-use Rattle.fs_model.proofs.Quantifiers.{each_at}
+use Rattle.base_laws.proofs.Quantifiers.{each_at}
 use Rattle.fs_cut.specs.Paths.{Point}
 use Rattle.cert_bisimulation.specs.declared.mode.Mode.{Mode}
 use Rattle.cert_bisimulation.specs.declared.mode.Mode.TheVariants.{Both, Left, Right, End}

@@ -2,7 +2,7 @@
 use Rattle.std.proofs.Common.{◌≡◌, ℕ, zero, suc, inl, inr, subst, List, [], ◌∷◌}
 use Rattle.std.specs.Prelude.{slice_set}
 use Rattle.std.specs.List.{AllByRecursion}
-use Rattle.fs_model.proofs.Quantifiers.{each_append, each_at}
+use Rattle.base_laws.proofs.Quantifiers.{each_append, each_at}
 use Rattle.fs_cut.specs.Paths.{Point}
 use Rattle.fs_pair.specs.declared.positions.Position.{Position}
 use Rattle.propagate.specs.Execution.{Post, arrive, end_of}

@@ -6,9 +6,9 @@ use Rattle.std.proofs.lemmas.Option.{slice_get_within, get_or_from_slice_get}
 use Rattle.std.specs.Prelude.{not, ◌&&◌, ◌||◌, slice_get, slice_set}
 use Rattle.std.specs.List.{list_all, list_any, AllByRecursion}
 use Rattle.std.proofs.lemmas.Bool.{or_parts, or_from, and_from, not-true}
-use Rattle.fs_model.proofs.Booleans.{and_first, and_second}
-use Rattle.fs_model.proofs.Quantifiers.{each_weaker, each_at}
-use Rattle.fs_cut.specs.SoundParts.{IsSound}
+use Rattle.base_laws.proofs.Booleans.{and_first, and_second}
+use Rattle.base_laws.proofs.Quantifiers.{each_weaker, each_at}
+use Rattle.fs_model.specs.SoundMachines.{IsSound}
 use Rattle.fs_model.specs.Machines.{Fsmd}
 use Rattle.fs_cut.specs.Paths.{Point, Path, is_point}
 use Rattle.fs_cut.specs.Paths as cut

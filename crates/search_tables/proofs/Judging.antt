@@ -6,8 +6,8 @@ use Rattle.std.proofs.lemmas.Bool.Decides.{nat_tests}
 use Rattle.std.proofs.lemmas.Option.{get_or_from_slice_get}
 use Rattle.std.specs.Prelude.{not, ◌||◌, ◌==◌, nat_lt, slice_get, slice_index}
 use Rattle.std.specs.List.{AllByRecursion}
-use Rattle.fs_model.proofs.Booleans.{and_first, and_second}
-use Rattle.fs_model.proofs.Quantifiers.{each_at}
+use Rattle.base_laws.proofs.Booleans.{and_first, and_second}
+use Rattle.base_laws.proofs.Quantifiers.{each_at}
 use Rattle.fs_cut.specs.Paths.{Point}
 use Rattle.cert_bisimulation.specs.declared.mode.Mode.{Mode}
 use Rattle.cert_bisimulation.specs.Tables.{Node as CertificateNode}

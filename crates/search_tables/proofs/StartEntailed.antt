@@ -2,7 +2,7 @@
 use Rattle.std.proofs.Common.{◌≡◌, ◌+◌, ℕ, zero, suc, pos, refl, ap, sym, subst, ◌∙◌, Bool, true, false, cond, List, [], ◌∷◌, map, Some, None}
 use Rattle.std.specs.Prelude.{◌&&◌, slice_get}
 use Rattle.std.specs.List.{AllByRecursion}
-use Rattle.fs_cut.specs.SoundParts.{IsSound}
+use Rattle.fs_model.specs.SoundMachines.{IsSound}
 use Rattle.fs_model.specs.declared.parts.Role.TheVariants.{Input}
 use Rattle.fs_model.specs.declared.parts.Sort.{Sort}
 use Rattle.fs_model.specs.declared.parts.Sort.TheVariants.{Scalar, Array, Port}
@@ -12,11 +12,11 @@ use Rattle.fs_pair.specs.Interfaces.{interface_fault}
 use Rattle.fs_pair.specs.Positions.{position_of, positions}
 use Rattle.fs_pair.specs.Partners.{variables_on, HasPartner}
 use Rattle.fs_pair.proofs.Variables.{all_of, comes_from, stands_at}
-use Rattle.nf_terms.specs.NormalTerms.{Zero, polynomial_of_symbol, polynomial_of_number, bare_array}
+use Rattle.nf_trees.specs.NormalTerms.{Zero, polynomial_of_symbol, polynomial_of_number, bare_array}
 use Rattle.nf_terms.specs.Lists.{bare_list}
-use Rattle.nf_terms.specs.Comparison.{polynomials_equal, arrays_equal}
+use Rattle.nf_trees.specs.Comparison.{polynomials_equal, arrays_equal}
 use Rattle.nf_terms.specs.ListComparison.{lists_equal}
-use Rattle.nf_terms.specs.Mentions.{same_pos}
+use Rattle.nf_trees.specs.Mentions.{same_pos}
 use Rattle.nf_terms.specs.Forms.{same_form, sort_of_form}
 use Rattle.nf_terms.specs.Computed.{Computed, Done, after}
 use Rattle.nf_terms.specs.declared.form.Nf.{Nf}

@@ -3,8 +3,8 @@ use Rattle.std.proofs.Common.{◌≡◌, inl, inr, ℕ, suc, ◌+◌, refl, ap, 
 use Rattle.std.specs.Prelude.{◌&&◌, ◌==◌, length, slice_set}
 use Rattle.std.specs.List.{range_with_len, AllByRecursion}
 use Rattle.std.proofs.lemmas.Bool.{and_right}
-use Rattle.fs_model.proofs.Quantifiers.{each_weaker, each_at}
-use Rattle.fs_cut.specs.SoundParts.{branch_count}
+use Rattle.base_laws.proofs.Quantifiers.{each_weaker, each_at}
+use Rattle.fs_model.specs.SoundMachines.{branch_count}
 use Rattle.fs_model.specs.Machines.{Fsmd}
 use Rattle.fs_cut.specs.Paths.{Point, Start, At, Done, Path, end_at, target_of}
 use Rattle.fs_cut.specs.Covers.{same_point, state_reached, path_by, paths_of}

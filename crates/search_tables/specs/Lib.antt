@@ -12,6 +12,5 @@ pub mod View
 pub mod Pairs
 pub use Rattle.cert_model.specs.Obligations
 pub use Rattle.propagate.specs.Modes
-pub use Rattle.cert_model.specs.PointKeys
 pub use Rattle.propagate.specs.Joins
 pub use Rattle.propagate.specs.Rebases

@@ -4,7 +4,7 @@ use Rattle.std.specs.Hash as fed
 use Rattle.std.proofs.Common.{refl, ap, ap₂, sym, ◌∙◌}
 use Rattle.std.proofs.lemmas.Bool.{eq-eqb, and_from}
 use Rattle.std.specs.Cmp.{IsPartialEquivalence, IsEquivalence}
-use Rattle.fs_model.proofs.Booleans.{and_first, and_second}
+use Rattle.base_laws.proofs.Booleans.{and_first, and_second}
 use Rattle.fs_cut.specs.Paths.{Point, Start, At, Done}
 use Rattle.fs_cut.specs.Covers.{same_point}
 use Rattle.fs_cut.specs.View.{point_of}

@@ -2,7 +2,7 @@
 
 ghost use Rattle.std.specs.Prelude.{◌+◌, ◌*◌, length, ◌≤◌, slice_get, slice_index, ◌≡◌, ◌⊎◌, ℕ, List, [], Some, None};
 ghost use Rattle.std.specs.List.{AllByRecursion};
-ghost use Rattle.fs_cut.specs.SoundParts.{IsSound};
+ghost use Rattle.fs_model.specs.SoundMachines.{IsSound};
 ghost use Rattle.fs_model.specs.Machines.{Fsmd};
 ghost use Rattle.fs_pair.specs.Interfaces.{interface_fault};
 ghost use Rattle.fs_pair.specs.Positions.{positions};

@@ -8,7 +8,7 @@ use Rattle.std.specs.List.{list_all}
 use Rattle.fs_model.proofs.Booleans.{and_first, and_second}
 use Rattle.fs_model.proofs.Quantifiers.{each_at}
 use Rattle.fs_model.proofs.Lists.{slice_get-of_map}
-use Rattle.fs_ast.specs.SoundParts.{IsSound}
+use Rattle.fs_model.specs.SoundMachines.{IsSound}
 use Rattle.fs_cut.specs.Paths.{is_point}
 use Rattle.sym_facts.specs.Facts.{most_literals}
 use Rattle.sym_facts.specs.Pairings.{IsFactOf}

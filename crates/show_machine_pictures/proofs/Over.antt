@@ -1,10 +1,10 @@
--- Terms over other variables are of the same kinds.
+-- Expressions over other variables are of the same kinds.
 use Rattle.std.proofs.Common.{◌≡◌, refl}
-use Rattle.fs_model.specs.Terms.{Term, Number, Variable, Read, Sum, Difference, Product, Quotient, Remainder, Negative}
-use Rattle.fs_model.specs.Renamed.{term_over}
+use Rattle.fs_model.specs.Expressions.{Expression, Number, Variable, Read, Sum, Difference, Product, Quotient, Remainder, Negative}
+use Rattle.fs_model.specs.Renamed.{expression_over}
 use Rattle.fs_model.specs.WellFormed.{is_sum, is_product}
 
-pub sum_over : {X Y : Type 0} (f : X → Y) (t : Term X) → is_sum (term_over f t) ≡ is_sum t
+pub sum_over : {X Y : Type 0} (f : X → Y) (t : Expression X) → is_sum (expression_over f t) ≡ is_sum t
 sum_over f (Number n) = refl
 sum_over f (Variable x) = refl
 sum_over f (Read x i) = refl
@@ -15,7 +15,7 @@ sum_over f (Quotient a b) = refl
 sum_over f (Remainder a b) = refl
 sum_over f (Negative a) = refl
 
-pub product_over : {X Y : Type 0} (f : X → Y) (t : Term X) → is_product (term_over f t) ≡ is_product t
+pub product_over : {X Y : Type 0} (f : X → Y) (t : Expression X) → is_product (expression_over f t) ≡ is_product t
 product_over f (Number n) = refl
 product_over f (Variable x) = refl
 product_over f (Read x i) = refl

@@ -6,8 +6,8 @@ ghost use Rattle.fs_model.specs.View.{shared_literal_of, assignment_of, branch_o
 ghost use Rattle.show_machine_pictures.specs.Pictures.{after_and, way_text, assignment_line, branch_label, branch_edge};
 ghost use Rattle.show_machine_pictures.specs.Pictures.{branch_edges};
 
+use crate::expressions::{assignment_text, literal_text};
 use crate::graphs::write_edge;
-use crate::terms::{assignment_text, literal_text};
 use fs_ast::machine::Machine;
 use fs_cut::cover::Point;
 use fs_cut::path_text::point_text;

@@ -8,8 +8,8 @@
 #![tactic(auto)]
 
 mod branches;
+mod expressions;
 pub mod graphs;
 pub mod pictures;
 pub mod quote_laws;
 mod quotes;
-mod terms;

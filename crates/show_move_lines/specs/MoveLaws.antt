@@ -1,6 +1,6 @@
 -- What holds of moves that are made again.
 use Rattle.std.specs.Prelude.{◌≡◌, List}
-use Rattle.fs_ast.specs.SoundParts.{IsSound}
+use Rattle.fs_model.specs.SoundMachines.{IsSound}
 use Rattle.search_tables.specs.declared.moves.Move.{Move}
 use Rattle.search_tables.specs.SearchTables.{MachinePair, Table, first_table, positions_of}
 use Rattle.search_tables.specs.Legal.{Makes}

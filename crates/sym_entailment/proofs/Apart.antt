@@ -1,17 +1,17 @@
 -- A path reads the forms of its own side alone.
 use Rattle.std.proofs.Common.{◌≡◌, ℕ, cond, refl, ap, ap₂, sym, subst, ◌∙◌, List, [], ◌∷◌, ◌++◌, Option, Some}
 use Rattle.std.specs.Prelude.{◌&&◌}
-use Rattle.fs_model.specs.Terms.{Term, Number, Variable, Read, Sum, Difference, Product, Quotient, Remainder, Negative, Literal}
-use Rattle.fs_model.specs.Terms.{Assignment, Assign, ArrayWrite, Emit}
+use Rattle.fs_model.specs.Expressions.{Expression, Number, Variable, Read, Sum, Difference, Product, Quotient, Remainder, Negative, Literal}
+use Rattle.fs_model.specs.Expressions.{Assignment, Assign, ArrayWrite, Emit}
 use Rattle.fs_model.specs.Machines.{Fsmd}
 use Rattle.fs_model.specs.declared.sides.Side.{Side}
 use Rattle.fs_model.specs.declared.sides.Side.TheVariants.{Left, Right}
 use Rattle.fs_model.specs.declared.sides.Pos.{Pos}
 use Rattle.fs_cut.specs.Paths.{Path, BranchStep, state_of, branch_at, steps_in}
-use Rattle.nf_terms.specs.NormalTerms.{Polynomial, ArrayTerm, polynomial_of_symbol, bare_array}
+use Rattle.nf_trees.specs.NormalTerms.{Polynomial, ArrayTerm, polynomial_of_symbol, bare_array}
 use Rattle.nf_terms.specs.Lists.{bare_list}
 use Rattle.nf_terms.specs.Forms.{sort_of_form}
-use Rattle.nf_terms.specs.Mentions.{same_pos}
+use Rattle.nf_trees.specs.Mentions.{same_pos}
 use Rattle.nf_terms.specs.TermSorts.{same_term_sort}
 use Rattle.nf_terms.specs.Computed.{Computed, Done, Wide, Large, after}
 use Rattle.nf_terms.specs.declared.symbols.Sort.{Sort}
@@ -56,7 +56,7 @@ module _ (side : Side) where
     list_same : (x : ℕ) → list_at u (at side x) ≡ list_at v (at side x)
     list_same x = ap (list_or (bare_list (list.Sym (at side x)))) (h x sort.List)
 
-    evaluated : (e : Term ℕ) → evaluate side u e ≡ evaluate side v e
+    evaluated : (e : Expression ℕ) → evaluate side u e ≡ evaluate side v e
     evaluated (Number n) = refl
     evaluated (Variable x) = ap (λ o. Done (number_or (polynomial_of_symbol (at side x)) o)) (h x sort.Scalar)
     evaluated (Read x i) = ap₂ (λ (c : Computed Polynomial) (a : ArrayTerm). after c (λ j. read_at a j)) (evaluated i) (array_same x)

@@ -3,11 +3,11 @@ use Rattle.std.proofs.Common.{◌≡◌, ℕ, ◌+◌, ℤ, Bool, true, false, r
 use Rattle.std.proofs.lemmas.Bool.{and_from}
 use Rattle.fs_model.proofs.Orderings.{is_eq-true}
 use Rattle.fs_model.specs.Meaning.{relates}
-use Rattle.nf_terms.specs.NormalTerms.{Polynomial, ArrayTerm}
+use Rattle.nf_trees.specs.NormalTerms.{Polynomial, ArrayTerm}
 use Rattle.nf_terms.specs.Lists.{ListTerm, cmp_list}
 use Rattle.nf_terms.specs.ListComparison.{list_ties}
-use Rattle.nf_terms.specs.Order.{cmp_polynomial, cmp_array}
-use Rattle.nf_terms.specs.TermKeys.{polynomial_ties, array_ties}
+use Rattle.nf_trees.specs.Order.{cmp_polynomial, cmp_array}
+use Rattle.nf_trees.specs.TermKeys.{polynomial_ties, array_ties}
 use Rattle.nf_terms.specs.Forms.{same_form}
 use Rattle.nf_terms.specs.TermMeaning.{Valuation, value_of, contents, items_in}
 use Rattle.nf_terms.specs.Computed.{Done, after}

@@ -18,7 +18,7 @@ use Rattle.fs_pair.specs.Paired.{IsPairing}
 use Rattle.fs_pair.proofs.Lengths.{length_sided}
 use Rattle.fs_pair.proofs.Once.{many, position_once}
 use Rattle.fs_pair.proofs.Variables.{stands_for}
-use Rattle.nf_terms.specs.Mentions.{same_pos}
+use Rattle.nf_trees.specs.Mentions.{same_pos}
 use Rattle.fs_model.specs.declared.sides.Pos.{Pos}
 use Rattle.fs_model.specs.declared.sides.Side.{Side}
 use Rattle.fs_model.specs.declared.sides.Side.TheVariants.{Left, Right}

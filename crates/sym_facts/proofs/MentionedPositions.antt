@@ -9,7 +9,7 @@ use Rattle.std.proofs.lemmas.List.{length-set, get_or-set_other, length-replicat
 use Rattle.std.proofs.lemmas.List.Folds.{list_all-append}
 use Rattle.fs_model.proofs.Booleans.{or_false, or_true}
 use Rattle.nf_terms.specs.Forms.{mentions_form}
-use Rattle.nf_terms.specs.Mentions.{same_pos, mentions}
+use Rattle.nf_trees.specs.Mentions.{same_pos, mentions}
 use Rattle.nf_terms.specs.declared.symbols.Sort.{Sort}
 use Rattle.fs_model.specs.declared.sides.Pos.{Pos}
 use Rattle.fs_model.specs.declared.sides.Side.{Side}

@@ -3,7 +3,7 @@ use Rattle.std.proofs.Common.{◌≡◌, Bool, true, false, cond, refl, ap, sym,
 use Rattle.std.specs.List.{list_all}
 use Rattle.std.proofs.lemmas.Bool.{and_from}
 use Rattle.fs_model.proofs.Booleans.{and_first, and_second}
-use Rattle.nf_terms.specs.NormalTerms.{polynomial_of_symbol, bare_array}
+use Rattle.nf_trees.specs.NormalTerms.{polynomial_of_symbol, bare_array}
 use Rattle.nf_terms.specs.Lists.{bare_list}
 use Rattle.nf_terms.specs.Symbols.{symbols_of, symbols_of_array, symbols_of_list}
 use Rattle.nf_terms.specs.Computed.{Done, after}

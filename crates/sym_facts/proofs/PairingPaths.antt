@@ -5,11 +5,12 @@ use Rattle.std.specs.List.{list_all, slice_index_or}
 use Rattle.std.proofs.lemmas.Bool.{and_from}
 use Rattle.fs_model.proofs.Booleans.{and_first, and_second}
 use Rattle.fs_model.proofs.Quantifiers.{list_all_weaker}
-use Rattle.sym_paths.specs.SoundParts.{IsSound, scalar_at, array_at, port_at, input_at, is_text_number, scalars_in, arrays_in, scalars_in_assignment}
-use Rattle.sym_paths.specs.SoundParts.{arrays_in_assignment, port_in, numbers_in_assignment, changed_by}
+use Rattle.fs_model.specs.SoundMachines.{IsSound, scalar_at, array_at, port_at, input_at, is_text_number, scalars_in, arrays_in, scalars_in_assignment}
+use Rattle.fs_model.specs.SoundMachines.{arrays_in_assignment, port_in, numbers_in_assignment, changed_by}
 use Rattle.fs_model.specs.Machines.{Fsmd, transitions_of}
-use Rattle.fs_model.specs.Terms.{Term, Number, Variable, Read, Sum, Difference, Product, Quotient, Remainder, Negative, Literal, Assignment, Assign, ArrayWrite}
-use Rattle.fs_model.specs.Terms.{Emit}
+use Rattle.fs_model.specs.Expressions.{Expression, Number, Variable, Read, Sum, Difference, Product, Quotient, Remainder, Negative, Literal, Assignment, Assign}
+use Rattle.fs_model.specs.Expressions.{ArrayWrite}
+use Rattle.fs_model.specs.Expressions.{Emit}
 use Rattle.fs_model.specs.Trees.{Branch, branches_of}
 use Rattle.fs_model.specs.PartFolds.{scalars, arrays, numbers, uses_in_literal}
 use Rattle.sym_paths.specs.Branches.{is_sound_literal, is_sound_assignment}
@@ -18,7 +19,7 @@ use Rattle.sym_paths.specs.Paths.{Path, BranchStep, state_of, branch_at, steps_i
 use Rattle.fs_pair.specs.declared.positions.Position.{Position}
 use Rattle.fs_pair.specs.Positions.{positions}
 use Rattle.fs_pair.specs.Partners.{variables_on}
-use Rattle.nf_terms.specs.NormalTerms.{Polynomial}
+use Rattle.nf_trees.specs.NormalTerms.{Polynomial}
 use Rattle.nf_terms.specs.Symbols.{symbols_of}
 use Rattle.nf_terms.specs.Computed.{Done, after}
 use Rattle.nf_terms.specs.declared.symbols.Sort.{Sort as TermSort}
@@ -60,7 +61,7 @@ module _ (test : Pos × TermSort → Bool) (side : Side) (v : List (Pos × Nf)) 
   abbrev array_in : ℕ → Bool
   array_in x = test (at side x, term.Array)
 
-  evaluated_in : (e : Term ℕ) (r : Polynomial) → list_all scalar_in (scalars_in e) ≡ true → list_all array_in (arrays_in e) ≡ true
+  evaluated_in : (e : Expression ℕ) (r : Polynomial) → list_all scalar_in (scalars_in e) ≡ true → list_all array_in (arrays_in e) ≡ true
       → evaluate side v e ≡ Done r → In r
   evaluated_in (Number c) r h g e = number_done_within test c r e
   evaluated_in (Variable x) r h g e = let k : number_at v (at side x) ≡ r = cc e in

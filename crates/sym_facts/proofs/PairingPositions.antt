@@ -6,7 +6,7 @@ use Rattle.std.specs.List.{list_all, list_any}
 use Rattle.std.proofs.lemmas.List.Sums.{length-filter}
 use Rattle.std.proofs.lemmas.Bool.{or_left, and_from, or_right, eqb-true}
 use Rattle.fs_model.proofs.Booleans.{and_first, and_second}
-use Rattle.sym_paths.specs.SoundParts.{IsSound, has_sort, scalar_at, array_at, port_at}
+use Rattle.fs_model.specs.SoundMachines.{IsSound, has_sort, scalar_at, array_at, port_at}
 use Rattle.fs_model.specs.declared.parts.Sort.{Sort}
 use Rattle.fs_model.specs.declared.parts.Sort.TheVariants.{Scalar, Array, Port}
 use Rattle.fs_model.specs.declared.parts.VarInfo.{VarInfo}
@@ -17,7 +17,7 @@ use Rattle.fs_pair.specs.Positions.{positions}
 use Rattle.fs_pair.specs.Partners.{variables_on, is_position_of as stands_at}
 use Rattle.fs_pair.proofs.Once.{position_once}
 use Rattle.fs_pair.proofs.Variables.{stands_for}
-use Rattle.nf_terms.specs.Mentions.{same_pos}
+use Rattle.nf_trees.specs.Mentions.{same_pos}
 use Rattle.nf_terms.specs.Forms.{sort_of_form}
 use Rattle.nf_terms.specs.declared.symbols.Sort.{Sort as TermSort}
 use Rattle.nf_terms.specs.declared.symbols.Sort.TheVariants as term

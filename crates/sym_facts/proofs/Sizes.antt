@@ -4,7 +4,7 @@ use Rattle.std.specs.Prelude.{nat_le}
 use Rattle.std.specs.List.{list_all}
 use Rattle.fs_model.proofs.Booleans.{and_first, and_second}
 use Rattle.nf_terms.specs.TermLimits.{size_limit, depth_limit}
-use Rattle.nf_terms.specs.Measures.{size_of, depth_of}
+use Rattle.nf_trees.specs.Measures.{size_of, depth_of}
 use Rattle.nf_terms.specs.Normal.{ordered, narrow}
 use Rattle.nf_rel.specs.Literals.{NormalLiteral, True, False, Is}
 use Rattle.nf_rel.specs.NormalLiterals.{is_normal, is_primitive, is_inner_number, is_normal_literal, same_literal, size_of_literal}

@@ -4,7 +4,7 @@ use Rattle.std.proofs.Common.{inl, inr}
 use Rattle.std.specs.Coded.{Coded, code_by, coded×, coded⊎, coded_bool, coded_ℤ, coded_list, coded_option}
 use Rattle.fs_model.specs.Codes.{coded_sort}
 use Rattle.fs_model.specs.declared.parts.Sort.{Sort}
-use Rattle.nf_terms.specs.NormalTerms.{Polynomial}
+use Rattle.nf_trees.specs.NormalTerms.{Polynomial}
 use Rattle.nf_terms.specs.Codes.{coded_polynomial, coded_pos}
 use Rattle.nf_terms.specs.FormCodes.{coded_form}
 use Rattle.fs_model.specs.declared.sides.Pos.{Pos}

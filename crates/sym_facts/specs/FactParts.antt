@@ -2,7 +2,7 @@
 use Rattle.std.specs.Prelude.{ℕ, ◌≤◌, Bool, true, not, ◌&&◌, IsTrue, List, [], ◌∷◌, length, map, Option, Some, None, slice_get}
 use Rattle.std.specs.List.{list_any, position_from}
 use Rattle.fs_pair.specs.declared.positions.Position.{Position}
-use Rattle.nf_terms.specs.Mentions.{same_pos}
+use Rattle.nf_trees.specs.Mentions.{same_pos}
 use Rattle.nf_terms.specs.declared.symbols.Sort.{Sort as TermSort}
 use Rattle.fs_model.specs.declared.sides.Pos.{Pos}
 use Rattle.nf_terms.specs.declared.form.Nf.{Nf}

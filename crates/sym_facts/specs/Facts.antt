@@ -5,9 +5,9 @@ use Rattle.std.specs.List.{list_all, list_any}
 use Rattle.fs_model.specs.declared.parts.Sort.{Sort}
 use Rattle.fs_model.specs.declared.parts.Sort.TheVariants as sort
 use Rattle.fs_model.specs.Stores.{Store}
-use Rattle.nf_terms.specs.NormalTerms.{polynomial_of_symbol, bare_array}
+use Rattle.nf_trees.specs.NormalTerms.{polynomial_of_symbol, bare_array}
 use Rattle.nf_terms.specs.Lists.{bare_list}
-use Rattle.nf_terms.specs.Mentions.{mentions}
+use Rattle.nf_trees.specs.Mentions.{mentions}
 use Rattle.nf_terms.specs.Forms.{mentions_form, size_of_form, sort_of_form}
 use Rattle.nf_terms.specs.TermMeaning.{Valuation, value_of, contents, items_in}
 use Rattle.nf_terms.specs.declared.symbols.Sort.{Sort as TermSort}

@@ -6,10 +6,8 @@ pub mod FactParts
 pub mod View
 pub mod Codes
 pub mod PositionSets
-pub use Rattle.sym_paths.specs.SoundParts
 pub use Rattle.sym_paths.specs.Execution
 pub use Rattle.sym_paths.specs.ValuationStores
-pub use Rattle.nf_symbols.specs.Vectors
 pub use Rattle.nf_rel.specs.Literals
 pub use Rattle.nf_symbols.specs.SymbolTests
 pub use Rattle.fs_pair.specs.Interfaces

@@ -5,7 +5,7 @@ use Rattle.fs_model.specs.declared.parts.Role.TheVariants.{Input, Output, Local}
 use Rattle.fs_model.specs.declared.parts.Sort.{Sort}
 use Rattle.fs_model.specs.declared.parts.Sort.TheVariants as sort
 use Rattle.fs_pair.specs.declared.positions.Position.{Position}
-use Rattle.nf_terms.specs.NormalTerms.{Zero, bare_array}
+use Rattle.nf_trees.specs.NormalTerms.{Zero, bare_array}
 use Rattle.nf_terms.specs.Lists.{bare_list}
 use Rattle.fs_model.specs.declared.sides.Pos.{Pos}
 use Rattle.fs_model.specs.declared.sides.Side.{Side}

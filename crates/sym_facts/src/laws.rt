@@ -2,7 +2,7 @@
 
 ghost use Rattle.std.specs.Prelude.{◌≡◌, ℕ, Bool, IsTrue, true, List, [], Option, None};
 ghost use Rattle.std.specs.List.{list_all};
-ghost use Rattle.sym_paths.specs.SoundParts.{IsSound};
+ghost use Rattle.fs_model.specs.SoundMachines.{IsSound};
 ghost use Rattle.fs_model.specs.Machines.{Fsmd};
 ghost use Rattle.fs_model.specs.Runs.{Inputs, start};
 ghost use Rattle.sym_paths.specs.Paths.{Path, BranchStep, branch_at};

@@ -1,7 +1,7 @@
 //! The positions that terms mention.
 
 ghost use Rattle.std.specs.Prelude.{◌≡◌};
-ghost use Rattle.nf_terms.specs.View.{atom_in, monomial_in, polynomial_in, array_in};
+ghost use Rattle.nf_trees.specs.View.{atom_in, monomial_in, polynomial_in, array_in};
 ghost use Rattle.nf_terms.specs.Symbols.{symbols_of_base, symbols_of_atom, symbols_of_monomial, symbols_of, symbols_of_array};
 ghost use Rattle.nf_terms.specs.Symbols.{symbols_of_list_base, symbols_of_items, symbols_of_list, symbols_of_form};
 ghost use Rattle.sym_facts.specs.PositionSets.{with_symbols};

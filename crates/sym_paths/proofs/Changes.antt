@@ -4,15 +4,15 @@ use Rattle.std.specs.Prelude.{◌&&◌}
 use Rattle.std.specs.Ordering.{int_eq}
 use Rattle.std.proofs.lemmas.Bool.Decides.{nat_tests}
 use Rattle.std.proofs.lemmas.Bool.{and_left, and_right}
-use Rattle.fs_model.specs.Terms.{Assignment, Assign, ArrayWrite, Emit}
+use Rattle.fs_model.specs.Expressions.{Assignment, Assign, ArrayWrite, Emit}
 use Rattle.fs_model.specs.Machines.{Fsmd}
 use Rattle.fs_model.specs.Stores.{store_with_number, store_with_entry as stored, store_with_emit}
 use Rattle.fs_model.specs.Meaning.{act, act_all}
 use Rattle.fs_cut.specs.Paths.{Path, BranchStep, branch_at, steps_in, store_after_steps}
-use Rattle.nf_terms.specs.NormalTerms.{Polynomial, ArrayTerm, polynomial_of_symbol, bare_array}
+use Rattle.nf_trees.specs.NormalTerms.{Polynomial, ArrayTerm, polynomial_of_symbol, bare_array}
 use Rattle.nf_terms.specs.Lists.{ListTerm, bare_list}
 use Rattle.nf_terms.specs.Forms.{sort_of_form}
-use Rattle.nf_terms.specs.Mentions.{same_pos}
+use Rattle.nf_trees.specs.Mentions.{same_pos}
 use Rattle.nf_terms.specs.TermMeaning.{Valuation, value_of, contents, items_in}
 use Rattle.nf_terms.specs.Computed.{Done, after}
 use Rattle.nf_terms.specs.declared.symbols.Sort.{Sort}

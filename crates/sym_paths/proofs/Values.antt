@@ -3,10 +3,10 @@ use Rattle.std.proofs.Common.{◌≡◌, ℕ, refl, ap, ap₂, sym, subst, ◌�
 use Rattle.std.specs.Prelude.{◌&&◌}
 use Rattle.std.specs.List.{list_all}
 use Rattle.fs_model.specs.Division.{quotient, remainder}
-use Rattle.fs_model.specs.Terms.{Term, Number, Variable, Read, Sum, Difference, Product, Quotient, Remainder, Negative, Literal}
-use Rattle.fs_model.specs.Terms.{Assignment, Assign, ArrayWrite, Emit}
+use Rattle.fs_model.specs.Expressions.{Expression, Number, Variable, Read, Sum, Difference, Product, Quotient, Remainder, Negative, Literal}
+use Rattle.fs_model.specs.Expressions.{Assignment, Assign, ArrayWrite, Emit}
 use Rattle.fs_model.specs.Meaning.{value, relates, literal_holds}
-use Rattle.nf_terms.specs.NormalTerms.{Polynomial}
+use Rattle.nf_trees.specs.NormalTerms.{Polynomial}
 use Rattle.nf_terms.specs.TermMeaning.{Valuation, value_of, contents}
 use Rattle.nf_terms.specs.Computed.{Computed, Done, after, IfDone}
 use Rattle.nf_terms.specs.Means.{IsNumberOf}
@@ -28,14 +28,14 @@ use Rattle.sym_paths.specs.Sequences.{each}
 use Rattle.sym_paths.specs.Evaluation.{evaluate, evaluate_literal, evaluate_assignment, SetTo, PutAt, PushTo}
 
 -- what two operands give in turn
-pub record Operands (side : Side) (v : List (Pos × Nf)) (a b : Term ℕ) (f : Polynomial → Polynomial → Computed Polynomial) (r : Polynomial) : Type 0 where
+pub record Operands (side : Side) (v : List (Pos × Nf)) (a b : Expression ℕ) (f : Polynomial → Polynomial → Computed Polynomial) (r : Polynomial) : Type 0 where
   pub left : Polynomial
   pub right : Polynomial
   pub left_done : evaluate side v a ≡ Done left
   pub right_done : evaluate side v b ≡ Done right
   pub done : f left right ≡ Done r
 
-pub operands : (side : Side) (v : List (Pos × Nf)) (a b : Term ℕ) (f : Polynomial → Polynomial → Computed Polynomial) (r : Polynomial)
+pub operands : (side : Side) (v : List (Pos × Nf)) (a b : Expression ℕ) (f : Polynomial → Polynomial → Computed Polynomial) (r : Polynomial)
     → after (evaluate side v a) (λ p. after (evaluate side v b) (λ q. f p q)) ≡ Done r → Operands side v a b f r
 operands side v a b f r e =
     let s = goes_done (evaluate side v a) (λ p. after (evaluate side v b) (λ q. f p q)) r e in
@@ -43,7 +43,7 @@ operands side v a b f r e =
     record { left = s.middle; right = t.middle; left_done = s.first; right_done = t.first; done = t.next }
 
 module _ (w : Valuation) (side : Side) (v : List (Pos × Nf)) where
-  pub evaluated : (e : Term ℕ) (r : Polynomial) → evaluate side v e ≡ Done r → value_of w r ≡ value e (store_on side (vector_meaning v w))
+  pub evaluated : (e : Expression ℕ) (r : Polynomial) → evaluate side v e ≡ Done r → value_of w r ≡ value e (store_on side (vector_meaning v w))
   evaluated (Number n) r e =
       let m : IsNumberOf (λ x. n) r = subst (λ (k : Computed Polynomial). IfDone k (IsNumberOf (λ x. n))) e (number_means n) in
       m.means w
@@ -89,12 +89,12 @@ module _ (w : Valuation) (side : Side) (v : List (Pos × Nf)) where
 
 -- an assignment whose parts are evaluated
 module _ (side : Side) (v : List (Pos × Nf)) (a : Assignment ℕ) (x : ℕ) where
-  pub assigned : (e : Term ℕ) (p : Polynomial) → a ≡ Assign x e → evaluate side v e ≡ Done p → evaluate_assignment side v a ≡ Done (SetTo x p)
+  pub assigned : (e : Expression ℕ) (p : Polynomial) → a ≡ Assign x e → evaluate side v e ≡ Done p → evaluate_assignment side v a ≡ Done (SetTo x p)
   assigned e p is given = rw (is, given) refl
 
-  pub written : (i e : Term ℕ) (j p : Polynomial) → a ≡ ArrayWrite x i e → evaluate side v i ≡ Done j → evaluate side v e ≡ Done p
+  pub written : (i e : Expression ℕ) (j p : Polynomial) → a ≡ ArrayWrite x i e → evaluate side v i ≡ Done j → evaluate side v e ≡ Done p
       → evaluate_assignment side v a ≡ Done (PutAt x j p)
   written i e j p is first given = rw (is, first, given) refl
 
-  pub emitted : (e : Term ℕ) (p : Polynomial) → a ≡ Emit x e → evaluate side v e ≡ Done p → evaluate_assignment side v a ≡ Done (PushTo x p)
+  pub emitted : (e : Expression ℕ) (p : Polynomial) → a ≡ Emit x e → evaluate side v e ≡ Done p → evaluate_assignment side v a ≡ Done (PushTo x p)
   emitted e p is given = rw (is, given) refl

@@ -1,8 +1,9 @@
 -- Expressions and assignments over a vector.
 use Rattle.std.specs.Prelude.{ℕ, pos, List, [], ◌∷◌}
-use Rattle.fs_model.specs.Terms.{Term, Number, Variable, Read, Sum, Difference, Product, Quotient, Remainder, Negative, Literal}
-use Rattle.fs_model.specs.Terms.{Assignment, Assign, ArrayWrite, Emit}
-use Rattle.nf_terms.specs.NormalTerms.{Polynomial}
+use Rattle.fs_model.specs.Expressions.{Expression, Number, Variable, Read, Sum, Difference, Product, Quotient, Remainder}
+use Rattle.fs_model.specs.Expressions.{Negative, Literal}
+use Rattle.fs_model.specs.Expressions.{Assignment, Assign, ArrayWrite, Emit}
+use Rattle.nf_trees.specs.NormalTerms.{Polynomial}
 use Rattle.nf_terms.specs.Computed.{Computed, Done, after}
 use Rattle.fs_model.specs.declared.sides.Side.{Side}
 use Rattle.fs_model.specs.declared.sides.Pos.{Pos}
@@ -18,7 +19,7 @@ use Rattle.sym_paths.specs.ValuationStores.{at}
 use Rattle.sym_paths.specs.Sequences.{each}
 
 -- what the operator of a term makes of its operands, and 0 where it has not two
-abbrev pub normal_operation : Term ℕ → (left right : Polynomial) → Computed Polynomial
+abbrev pub normal_operation : Expression ℕ → (left right : Polynomial) → Computed Polynomial
 normal_operation (Number n) p q = number (pos 0)
 normal_operation (Variable x) p q = number (pos 0)
 normal_operation (Read x i) p q = number (pos 0)
@@ -30,7 +31,7 @@ normal_operation (Remainder a b) p q = remainder_of p q
 normal_operation (Negative a) p q = number (pos 0)
 
 -- the left operand, the right operand, and then the operation; of a read the index; a variable is its vector's value
-abbrev pub evaluate : Side → List (Pos × Nf) → Term ℕ → Computed Polynomial
+abbrev pub evaluate : Side → List (Pos × Nf) → Expression ℕ → Computed Polynomial
 evaluate side v (Number n) = number n
 evaluate side v (Variable x) = Done (number_at v (at side x))
 evaluate side v (Read x i) = after (evaluate side v i) (λ j. read_at (array_form v (at side x)) j)

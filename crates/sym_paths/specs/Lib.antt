@@ -4,5 +4,4 @@ pub mod Evaluation
 pub mod Execution
 pub mod View
 pub use Rattle.fs_cut.specs.Branches
-pub use Rattle.fs_cut.specs.SoundParts
 pub use Rattle.fs_cut.specs.Paths

@@ -1,7 +1,7 @@
 //! Expressions over a vector.
 
 ghost use Rattle.std.specs.Prelude.{◌≡◌, map};
-ghost use Rattle.fs_model.specs.View.{term_of, literal_of, shared_literal_of};
+ghost use Rattle.fs_model.specs.View.{expression_of, literal_of, shared_literal_of};
 ghost use Rattle.nf_terms.specs.Computed.{Answers};
 ghost use Rattle.nf_arrays.specs.Writes.{read_at as read_value};
 ghost use Rattle.nf_vectors.specs.Vectors.{array_form};
@@ -41,7 +41,7 @@ fn read_at(alloc: Global, v: &Vector, position: &Pos, index: &Poly) -> Result<Po
 
 // What the operator of an expression makes of two numbers. It is 0 where the expression has not two operands.
 fn combine(alloc: Global, e: &Expr<VarId>, left: &Poly, right: &Poly) -> Result<Poly, NfStop>
-    ensures { Answers result (normal_operation (term_of e.now) left.now right.now) }
+    ensures { Answers result (normal_operation (expression_of e.now) left.now right.now) }
 {
     match e {
         Expr::Add(..) => add(alloc, left, right),
@@ -58,7 +58,7 @@ fn combine(alloc: Global, e: &Expr<VarId>, left: &Poly, right: &Poly) -> Result<
 /// `Wide` and `Large` come exactly at the first operation that is not narrow, or narrow and not small, in this order: the left
 /// operand, the right operand, the operation; of a read the index and then the read. `NoMemory`: out of memory.
 pub fn evaluate(alloc: Global, side: Side, v: &Vector, e: &Expr<VarId>) -> Result<Poly, NfStop>
-    ensures { Answers result (evaluated side v.now (term_of e.now)) }
+    ensures { Answers result (evaluated side v.now (expression_of e.now)) }
 {
     match e {
         Expr::Num(n) => number(alloc, n),

@@ -3,7 +3,7 @@ use Rattle.std.proofs.Common.{◌≡◌, ℕ, ◌≤◌, min, nat_le, ℤ, pos, 
 use Rattle.std.proofs.lemmas.Bool.{and_parts, leb-true}
 use Rattle.fs_model.specs.Digits.{value_of_digits}
 use Rattle.nf_terms.specs.TermLimits.{weight_limit}
-use Rattle.nf_terms.specs.NormalTerms as terms
+use Rattle.nf_trees.specs.NormalTerms as terms
 use Rattle.term_text.specs.TermTexts.{Atom, Monomial, Sum, Polynomial, ArrayTerm, ListSyntax, Symbol, Read, Quotient, Remainder, Number, One, Times, Positive}
 use Rattle.term_text.specs.TermTexts.{Negative, Plus, Minus, Zero, Of, ZeroArray, Bare, Written, EmptyList, BareList, Pushed}
 use Rattle.term_condition_text.specs.DigitNumbers.{clipped_number}

@@ -1,7 +1,7 @@
 -- A list of the parts that a written one stands for.
 use Rattle.std.proofs.Common.{◌≡◌, List, map, sym, ap, ◌∙◌}
 use Rattle.nf_terms.specs.declared.tree.SeqBase.{SeqBase}
-use Rattle.nf_terms.specs.NormalTerms.{Polynomial}
+use Rattle.nf_trees.specs.NormalTerms.{Polynomial}
 use Rattle.nf_terms.specs.Lists.{ListTerm}
 use Rattle.term_text.specs.declared.tree.WrittenPolynomial.{WrittenPolynomial}
 use Rattle.term_text.specs.declared.tree.WrittenList.{WrittenList}

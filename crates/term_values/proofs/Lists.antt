@@ -5,10 +5,10 @@ use Rattle.std.specs.Result.{IfOk}
 use Rattle.std.proofs.lemmas.List.{drop_all, append-nil, map_push}
 use Rattle.std.proofs.lemmas.Result.{IfOk-at_ok}
 use Rattle.fs_model.proofs.Lists.{map_drop_next}
-use Rattle.nf_terms.specs.NormalTerms as terms
+use Rattle.nf_trees.specs.NormalTerms as terms
 use Rattle.nf_trees.specs.declared.stop.NoMemory.{NoMemory}
 use Rattle.nf_trees.specs.declared.tree.Atom.{Atom as AtomTree}
-use Rattle.nf_terms.specs.View.{atom_in}
+use Rattle.nf_trees.specs.View.{atom_in}
 use Rattle.term_text.specs.declared.tree.WrittenAtom.{WrittenAtom}
 use Rattle.term_text.specs.declared.tree.WrittenBase.{WrittenBase}
 use Rattle.term_text.specs.declared.tree.WrittenBase.TheVariants as bases

@@ -6,7 +6,7 @@ use Rattle.std.specs.Cmp.{signed_Decides}
 use Rattle.std.proofs.lemmas.Int.{ints}
 use Rattle.std.proofs.lemmas.Bool.{and_parts, and_left, and_from, and_right}
 use Rattle.fs_model.specs.Digits.{value_of_digits}
-use Rattle.nf_terms.specs.NormalTerms.{Polynomial}
+use Rattle.nf_trees.specs.NormalTerms.{Polynomial}
 use Rattle.nf_terms.specs.Normal.{IsNormal}
 use Rattle.nf_rel.specs.declared.kind.Kind.{Kind}
 use Rattle.nf_rel.specs.declared.kind.Kind.TheVariants.{Ge, Le, Eq, Ne}

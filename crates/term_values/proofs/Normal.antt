@@ -1,9 +1,9 @@
 -- What is normal passes the test, and the other way round.
 use Rattle.std.proofs.Common.{◌≡◌, nat_le, Bool, true, false, ◌&&◌, List, [], ◌∷◌, refl, sym, subst}
 use Rattle.std.proofs.lemmas.Bool.{le-leb, and_parts, and_from, leb-true}
-use Rattle.nf_terms.specs.NormalTerms.{Polynomial, ArrayTerm}
+use Rattle.nf_trees.specs.NormalTerms.{Polynomial, ArrayTerm}
 use Rattle.nf_terms.specs.TermLimits.{size_limit, depth_limit}
-use Rattle.nf_terms.specs.Measures.{size_of, depth_of, size_of_array, depth_of_array}
+use Rattle.nf_trees.specs.Measures.{size_of, depth_of, size_of_array, depth_of_array}
 use Rattle.nf_terms.specs.Normal.{IsNormal, IsNormalArray, ordered, narrow, ordered_array, narrow_array}
 use Rattle.nf_rel.specs.NormalLiterals.{is_normal}
 use Rattle.nf_rel.proofs.NormalForms.{normal_is}

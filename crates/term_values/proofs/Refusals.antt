@@ -2,7 +2,7 @@
 use Rattle.std.proofs.Common.{◌≡◌, ℕ, Bool, true, false, List, Option, Some, None, Result, Ok, Err, refl, sym, subst, ap, ◌∙◌}
 use Rattle.std.specs.Prelude.{IfOk, IfErr, IsErrAnd}
 use Rattle.std.specs.Option.{option_or}
-use Rattle.nf_terms.specs.NormalTerms as terms
+use Rattle.nf_trees.specs.NormalTerms as terms
 use Rattle.nf_terms.specs.Lists as lists
 use Rattle.term_text.specs.TermTexts.{TermSyntax, Polynomial, ArrayTerm, ListSyntax, polynomial, array, list}
 use Rattle.term_text.specs.SpellableTerms.{SpellsTermText}

@@ -2,8 +2,8 @@
 use Rattle.std.proofs.Common.{◌≡◌, ℕ, ℤ, pos, neg_ℤ, suc, ◌+◌, ◌≤◌, ◌<◌, false, List, [], ◌∷◌, map, length, sym, ◌∙◌, arith, subst}
 use Rattle.std.proofs.lemmas.List.{length-map}
 use Rattle.nf_terms.specs.TermLimits.{size_limit}
-use Rattle.nf_terms.specs.Measures.{size_of, size_of_monomial}
-use Rattle.nf_terms.specs.NormalTerms as terms
+use Rattle.nf_trees.specs.Measures.{size_of, size_of_monomial}
+use Rattle.nf_trees.specs.NormalTerms as terms
 use Rattle.nf_rel.specs.NormalLiterals.{is_normal}
 use Rattle.term_text.specs.TermTexts.{Sum, Positive, Negative, Plus, Minus, Of}
 use Rattle.term_text.specs.declared.tree.WrittenPolynomial.{WrittenPolynomial, out-WrittenPolynomial}

@@ -3,7 +3,7 @@ use Rattle.std.specs.Prelude.{◌≡◌, Bool, true, false, ◌&&◌, ◌||◌, 
 use Rattle.std.specs.Prelude.{Result, Ok, Err}
 use Rattle.nf_trees.specs.declared.tree.Base.{Base}
 use Rattle.nf_trees.specs.declared.tree.Base.TheVariants as bases
-use Rattle.nf_terms.specs.NormalTerms as terms
+use Rattle.nf_trees.specs.NormalTerms as terms
 use Rattle.nf_trees.specs.declared.stop.NoMemory.{NoMemory}
 use Rattle.term_text.specs.TermTexts.{Atom, Monomial, Polynomial, ArrayTerm, ZeroArray, Bare, Written}
 use Rattle.term_values.specs.TermValues.{Interpretation, coefficient, atoms_of, polynomial_value}

@@ -2,8 +2,8 @@
 use Rattle.std.specs.Prelude.{◌≡◌, ℕ, nat_le, Bool, true, false, ◌&&◌, cond, List, [], ◌∷◌, Option, Some, None, Result, Ok, Err}
 use Rattle.std.specs.Option.{option_or}
 use Rattle.nf_terms.specs.TermLimits.{size_limit, depth_limit}
-use Rattle.nf_terms.specs.NormalTerms as terms
-use Rattle.nf_terms.specs.Measures.{size_of_array, depth_of_array}
+use Rattle.nf_trees.specs.NormalTerms as terms
+use Rattle.nf_trees.specs.Measures.{size_of_array, depth_of_array}
 use Rattle.nf_terms.specs.Normal.{ordered_array, narrow_array}
 use Rattle.nf_terms.specs.Lists.{ListTerm, size_of_list, depth_of_list}
 use Rattle.nf_terms.specs.declared.symbols.Sort.{Sort}

@@ -1,8 +1,8 @@
 //! From written terms to trees of terms.
 
 ghost use Rattle.std.specs.Prelude.{◌≡◌, ◌++◌, map, pos, List, IfOk, Ok, unsigned_abs};
-ghost use Rattle.nf_terms.specs.NormalTerms as terms;
-ghost use Rattle.nf_terms.specs.View as view;
+ghost use Rattle.nf_trees.specs.NormalTerms as terms;
+ghost use Rattle.nf_trees.specs.View as view;
 ghost use Rattle.term_text.specs.View as text;
 ghost use Rattle.term_condition_text.specs.DigitNumbers.{clipped_number};
 ghost use Rattle.term_values.specs.TermValues.{within_limit, coefficient, atom_value, atoms_of, polynomial_value, array_value};

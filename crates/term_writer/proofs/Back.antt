@@ -12,11 +12,11 @@ use Rattle.fs_model.specs.Digits.{with_digit, value_of_digits}
 use Rattle.fs_model.specs.Words.{is_digit}
 use Rattle.fs_model.specs.declared.sides.Pos.{Pos}
 use Rattle.nf_trees.specs.declared.tree.Base.TheVariants as bases
-use Rattle.nf_terms.specs.NormalTerms as terms
+use Rattle.nf_trees.specs.NormalTerms as terms
 use Rattle.term_text.specs.TermTexts.{Atom, Monomial, Sum, ArrayTerm, Number, One, Times, ZeroArray, Bare, Written}
 use Rattle.term_text.specs.SpellableTerms.{is_number_text}
 use Rattle.term_text.proofs.Sound.{number_more}
-use Rattle.nf_terms.specs.Measures.{weight_of}
+use Rattle.nf_trees.specs.Measures.{weight_of}
 use Rattle.nf_terms.specs.Normal.{narrow_atom, narrow_monomial, narrow_inside, narrow_writes, narrow_array, is_light}
 use Rattle.term_values.specs.NameMeanings.{Find, position_meant}
 use Rattle.term_writer.specs.NamedSymbols.{IsNamed, OfAtom, OfMonomial, OfPolynomial, OfWrites, OfArray}

@@ -9,8 +9,8 @@ use Rattle.fs_model.specs.declared.sides.Pos.{Pos}
 use Rattle.fs_model.specs.declared.sides.Side.{Side}
 use Rattle.fs_model.specs.declared.sides.Side.TheVariants as sides
 use Rattle.nf_trees.specs.declared.tree.Base.TheVariants as bases
-use Rattle.nf_terms.specs.NormalTerms as terms
-use Rattle.nf_terms.specs.Measures.{size_of_atom, size_of_monomial, size_of, size_of_writes, size_of_array, weight_of}
+use Rattle.nf_trees.specs.NormalTerms as terms
+use Rattle.nf_trees.specs.Measures.{size_of_atom, size_of_monomial, size_of, size_of_writes, size_of_array, weight_of}
 use Rattle.nf_terms.specs.Normal.{narrow_atom, narrow_monomial, narrow_inside, narrow_writes, narrow_array, is_light}
 use Rattle.term_text.specs.TermTexts.{Atom, Monomial, Sum, ArrayTerm, Number, One, Times, ZeroArray, Bare, Written, symbol_text, atom_text, monomial_text}
 use Rattle.term_text.specs.TermTexts.{sum_text, polynomial_text, array_text}

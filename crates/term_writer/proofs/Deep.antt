@@ -4,8 +4,8 @@ use Rattle.std.specs.Prelude.{unsigned_abs}
 use Rattle.std.proofs.lemmas.Bool.Decides.{nat_tests}
 use Rattle.fs_model.specs.declared.sides.Pos.{Pos}
 use Rattle.nf_trees.specs.declared.tree.Base.TheVariants as bases
-use Rattle.nf_terms.specs.NormalTerms as terms
-use Rattle.nf_terms.specs.Measures.{depth_of_atom, depth_of_monomial, depth_of, depth_of_writes, depth_of_array}
+use Rattle.nf_trees.specs.NormalTerms as terms
+use Rattle.nf_trees.specs.Measures.{depth_of_atom, depth_of_monomial, depth_of, depth_of_writes, depth_of_array}
 use Rattle.term_text.specs.TermTexts.{Atom, Monomial, Sum, Polynomial, ArrayTerm, Number, One, Times, ZeroArray, Bare, Written, polynomial_text, array_text}
 use Rattle.term_text.specs.SpellableTerms.{polynomial_spelled, array_spelled}
 use Rattle.term_text.specs.Brackets.{most_open, atom_depth, monomial_depth, sum_depth, polynomial_depth, array_depth}

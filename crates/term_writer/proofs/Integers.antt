@@ -10,8 +10,8 @@ use Rattle.nf_trees.specs.declared.tree.MonoTree.{MonoTree}
 use Rattle.nf_trees.specs.declared.tree.Atom.{Atom}
 use Rattle.nf_trees.specs.declared.tree.PolyTree.{PolyTree, out-PolyTree}
 use Rattle.nf_trees.specs.declared.tree.Atom.TheFolds.{fold_out-PolyTree}
-use Rattle.nf_terms.specs.NormalTerms.{Atom as AtomTerm, ArrayTerm, Monomial, Polynomial, Zero, Plus, monomial_of, polynomial_of}
-use Rattle.nf_terms.specs.View.{atom_in, term_in, polynomial_in, atom_step, arr_step, mono_step, poly_step}
+use Rattle.nf_trees.specs.NormalTerms.{Atom as AtomTerm, ArrayTerm, Monomial, Polynomial, Zero, Plus, monomial_of, polynomial_of}
+use Rattle.nf_trees.specs.View.{atom_in, term_in, polynomial_in, atom_step, arr_step, mono_step, poly_step}
 
 pub integer_same : (z : ℤ) → sign true z ++ decimal (unsigned_abs z) ≡ integer_text (integer_written z)
 integer_same (pos zero) = decimal_digit 0 (omega arith)

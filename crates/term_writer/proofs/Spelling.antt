@@ -6,8 +6,8 @@ use Rattle.std.proofs.lemmas.Bool.{and_parts, and_from}
 use Rattle.nf_sums.proofs.Products.{abs_pos}
 use Rattle.fs_model.specs.declared.sides.Pos.{Pos}
 use Rattle.nf_trees.specs.declared.tree.Base.TheVariants as bases
-use Rattle.nf_terms.specs.NormalTerms as terms
-use Rattle.nf_terms.specs.Measures.{weight_of}
+use Rattle.nf_trees.specs.NormalTerms as terms
+use Rattle.nf_trees.specs.Measures.{weight_of}
 use Rattle.nf_terms.specs.Normal.{narrow_atom, narrow_monomial, narrow_inside, narrow_writes, narrow_array, is_light, ordered_atom, ordered_monomial, ordered}
 use Rattle.nf_terms.specs.Normal.{ordered_writes, ordered_array, atom_rises, monomial_rises, write_rises, is_written, stays_read, is_constant}
 use Rattle.term_text.specs.TermTexts.{Atom, Monomial, Sum, ArrayTerm, Number, One, Times, ZeroArray, Bare, Written}

@@ -5,8 +5,8 @@ use Rattle.nf_trees.specs.declared.tree.Base.{Base}
 use Rattle.nf_trees.specs.declared.tree.Base.TheVariants as bases
 use Rattle.nf_terms.specs.declared.tree.SeqBase.{SeqBase}
 use Rattle.nf_terms.specs.declared.tree.SeqBase.TheVariants as list_bases
-use Rattle.nf_terms.specs.NormalTerms.{Atom, Monomial, Polynomial, ArrayTerm, Writes, Symbol, Read, Quotient, Remainder, One}
-use Rattle.nf_terms.specs.NormalTerms.{Times, Zero, Plus, Over, NoWrites, Write}
+use Rattle.nf_trees.specs.NormalTerms.{Atom, Monomial, Polynomial, ArrayTerm, Writes, Symbol, Read, Quotient, Remainder, One}
+use Rattle.nf_trees.specs.NormalTerms.{Times, Zero, Plus, Over, NoWrites, Write}
 use Rattle.term_text.specs.TermTexts.{symbol_text}
 
 -- a coefficient before an atom

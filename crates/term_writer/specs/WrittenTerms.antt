@@ -2,7 +2,7 @@
 use Rattle.std.specs.Prelude.{ℕ, zero, suc, ◌==◌, ℤ, pos, negsuc, unsigned_abs, cond, List, [], ◌∷◌, decimal}
 use Rattle.fs_model.specs.declared.sides.Pos.{Pos}
 use Rattle.nf_trees.specs.declared.tree.Base.TheVariants as bases
-use Rattle.nf_terms.specs.NormalTerms as terms
+use Rattle.nf_trees.specs.NormalTerms as terms
 use Rattle.term_text.specs.TermTexts.{Atom, Monomial, Sum, Polynomial, ArrayTerm, Symbol, Read, Quotient, Remainder, Number, One}
 use Rattle.term_text.specs.TermTexts.{Times, Positive, Negative, Plus, Minus, Zero, Of, ZeroArray, Bare, Written, ListSyntax}
 use Rattle.term_text.specs.TermTexts.{EmptyList, BareList, Pushed}

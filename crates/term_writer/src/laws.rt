@@ -2,8 +2,8 @@
 
 ghost use Rattle.std.specs.Prelude.{◌≡◌, ◌≢◌, ◌≤◌, ◌+◌, ◌*◌, ℕ, List, length};
 ghost use Rattle.fs_model.specs.declared.sides.Pos.{Pos};
-ghost use Rattle.nf_terms.specs.NormalTerms.{Polynomial, ArrayTerm, NoWrites};
-ghost use Rattle.nf_terms.specs.Measures.{size_of, size_of_array};
+ghost use Rattle.nf_trees.specs.NormalTerms.{Polynomial, ArrayTerm, NoWrites};
+ghost use Rattle.nf_trees.specs.Measures.{size_of, size_of_array};
 ghost use Rattle.nf_terms.specs.Normal.{IsNormal, IsNormalArray};
 ghost use Rattle.nf_terms.specs.Lists.{ListTerm, IsNormalList, size_of_list};
 ghost use Rattle.nf_rel.specs.Literals.{NormalLiteral, True};

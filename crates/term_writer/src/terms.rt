@@ -1,8 +1,8 @@
 //! Writing trees of terms.
 
 ghost use Rattle.std.specs.Prelude.{◌≡◌, ◌++◌, map, OnOk};
-ghost use Rattle.nf_terms.specs.NormalTerms.{Symbol, monomial_of, polynomial_of};
-ghost use Rattle.nf_terms.specs.View.{atom_in, monomial_in, polynomial_in, array_in, term_in};
+ghost use Rattle.nf_trees.specs.NormalTerms.{Symbol, monomial_of, polynomial_of};
+ghost use Rattle.nf_trees.specs.View.{atom_in, monomial_in, polynomial_in, array_in, term_in};
 ghost use Rattle.term_writer.specs.Direct.{base_direct, atom_direct, head_direct, monomial_direct, has_no_terms};
 ghost use Rattle.term_writer.specs.Direct.{polynomial_direct, array_direct};
 

@@ -5,7 +5,7 @@ use crate::machines::samples::SOLVER;
 use fs_ast::machine::Machine;
 use fs_model::parts::StateId;
 use hls_sched::arrivals::count_arrivals;
-use hls_sched::lines::{Line, firsts, is_straight, item, trace_line};
+use hls_sched::lines::{Line, firsts, is_in_block, item, trace_line};
 use std::alloc::Global;
 
 // Whether a line has the states of a text, and leads where that says, as `4 5 to 0`.
@@ -56,7 +56,7 @@ fn assignment_count(text: &str, state: u32) -> Option<usize> {
 fn has_states(m: &Machine, text: &str) -> bool {
     for q in 0..m.state_count() {
         let count = assignment_count(text, q);
-        let is_told = if is_straight(m, StateId(q)) {
+        let is_told = if is_in_block(m, StateId(q)) {
             count == Some(item(m, StateId(q)).len())
         } else {
             count.is_none()

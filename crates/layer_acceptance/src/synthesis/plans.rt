@@ -4,9 +4,9 @@ use crate::machines::reading::machine;
 use crate::machines::samples::{EMITS, PRODUCTS, SOLVER};
 use fs_ast::machine::Machine;
 use fs_model::parts::StateId;
-use hls_line_filling::effects::Effects;
-use hls_line_filling::plan::{Plan, make_plan};
-use hls_line_filling::uses::{Uses, uses_of};
+use hls_block_filling::effects::Effects;
+use hls_block_filling::plan::{Plan, make_plan};
+use hls_block_filling::uses::{Uses, uses_of};
 use hls_unit_counts::{Units, read_units};
 use std::alloc::Global;
 

@@ -1,6 +1,6 @@
 use Rattle.std.proofs.Common.{◌++◌, ◌∷◌, ◌+◌, ◌≡◌, map, drop, ap, sym, ◌∙◌}
 use Rattle.fs_model.proofs.Lists.{map_drop_next}
-use Rattle.nf_terms.proofs.Loops.{one_more}
+use Rattle.nf_trees.proofs.Loops.{one_more}
 use Rattle.cert_model.specs.Lawful.{points_differ}
 use Rattle.cert_model.specs.View.{node_of}
 use Rattle.cert_check.proofs.Keyed.{none_before}

@@ -2,7 +2,7 @@ use Rattle.std.proofs.Common.{◌∙◌, sym, ap, subst}
 use Rattle.std.specs.Prelude.{map}
 use Rattle.fs_model.specs.View.{source_of, source_state_of}
 use Rattle.fs_rules.specs.Scopes.{IsScopeOf}
-use Rattle.fs_rules.specs.SoundParts.{IsSound}
+use Rattle.fs_model.specs.SoundMachines.{IsSound}
 use Rattle.fs_branches.specs.NumberedParts.{state_with_line}
 use Rattle.fs_ast.specs.Shapes.{LeadOn}
 use Rattle.fs_model.specs.Machines.{Fsmd}

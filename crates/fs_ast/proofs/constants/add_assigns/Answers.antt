@@ -1,5 +1,5 @@
 use Rattle.fs_model.specs.View.{assignment_of}
-use Rattle.fs_rules.specs.SoundParts.{numbers_in_assignment, numbers_in_assignments}
+use Rattle.fs_model.specs.SoundMachines.{numbers_in_assignment, numbers_in_assignments}
 use Rattle.fs_ast.proofs.Numbers.{assignments_push, put_numbers}
 use Rattle.fs_ast.proofs.constants.add_assigns.Goals as goal
 

@@ -1,7 +1,7 @@
 use Rattle.std.proofs.Common.{◌≡◌, ◌++◌, take}
 use Rattle.std.specs.Prelude.{map}
 use Rattle.fs_model.specs.View.{assignment_of}
-use Rattle.fs_rules.specs.SoundParts.{numbers_in_assignments}
+use Rattle.fs_model.specs.SoundMachines.{numbers_in_assignments}
 use Rattle.fs_ast.proofs.constants.add_assigns.Given as goal
 
 abbrev pub invariant-loop-assign : goal.invariant-loop-assign

@@ -1,6 +1,6 @@
 use Rattle.std.proofs.Common.{◌≡◌, take}
 use Rattle.std.specs.Prelude.{map}
-use Rattle.fs_rules.specs.SoundParts.{numbers_in_states}
+use Rattle.fs_model.specs.SoundMachines.{numbers_in_states}
 use Rattle.fs_branches.specs.NumberedParts.{resolved_state}
 use Rattle.fs_ast.proofs.constants.constants_of.Given as goal
 

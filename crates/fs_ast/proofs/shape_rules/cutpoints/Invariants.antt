@@ -1,6 +1,6 @@
 use Rattle.std.proofs.Common.{◌≡◌, ℕ, ◌<◌, length}
 use Rattle.std.specs.Prelude.{map}
-use Rattle.fs_rules.specs.SoundParts.{is_cutpoint}
+use Rattle.fs_model.specs.SoundMachines.{is_cutpoint}
 use Rattle.fs_branches.specs.NumberedParts.{state_with_line}
 use Rattle.fs_rules.specs.TargetWalks.{is_cut}
 use Rattle.fs_ast.specs.Shapes.{skeleton}

@@ -18,8 +18,8 @@ loop-k-preserved c =
     let within : i < n = omega arith in
     let after : n - k ≡ i + 1 = omega arith in
     let before : i ≡ n - (k + 1) = omega arith in
-    count_more (resolved_transition x) (map resolved_transition (drop (n - k) xs)) c.loop-k.count c.count_line-count.result c.loop-k.invariant
-    c.count_line-count.ensures
+    count_more (resolved_transition x) (map resolved_transition (drop (n - k) xs)) c.loop-k.count c.count_transition-count.result c.loop-k.invariant
+    c.count_transition-count.ensures
     ∙ ap (λ ls. capped_leaves (count_leaves (tree_of_transitions ls)))
     (ap (λ j. resolved_transition x ∷ map resolved_transition (drop j xs)) after ∙ sym (map_drop_next resolved_transition xs i x within c.index-lines-lines.is)
     ∙ ap (λ j. map resolved_transition (drop j xs)) before)

@@ -1,5 +1,5 @@
 use Rattle.std.proofs.Common.{◌≡◌, ◌-◌, ◌<◌, ◌∙◌, sym, refl, arith, length, map, true, false}
-use Rattle.fs_ast.specs.SoundParts.{is_cutpoint}
+use Rattle.fs_model.specs.SoundMachines.{is_cutpoint}
 use Rattle.fs_model.specs.declared.parts.StateId.{StateId}
 use Rattle.fs_cut.specs.Covers.{passed_states}
 use Rattle.fs_cut.proofs.Loops.{more, passed_more, reached_more, passed_none, reached_here, all_passed}

@@ -1,5 +1,5 @@
 use Rattle.std.proofs.Common.{◌<◌, ◌∙◌, arith}
-use Rattle.fs_ast.specs.SoundParts.{branch_count}
+use Rattle.fs_model.specs.SoundMachines.{branch_count}
 use Rattle.fs_cut.specs.Covers.{path_by}
 use Rattle.fs_cut.specs.View.{point_of, path_of}
 use Rattle.fs_cut.proofs.Loops.{more, range_map_step}

@@ -1,6 +1,6 @@
 use Rattle.std.proofs.Common.{◌≡◌, ◌-◌, ◌++◌, map}
 use Rattle.std.specs.List.{range_with_len}
-use Rattle.fs_ast.specs.SoundParts.{branch_count}
+use Rattle.fs_model.specs.SoundMachines.{branch_count}
 use Rattle.fs_cut.specs.Covers.{path_by, paths_by}
 use Rattle.fs_cut.specs.View.{point_of, path_of}
 use Rattle.fs_cut.proofs.walk.paths.Given as goal

@@ -1,5 +1,5 @@
 use Rattle.std.proofs.Common.{◌≡◌, ◌<◌, length, ◌+◌, ◌*◌}
-use Rattle.fs_model.specs.View.{named_term}
+use Rattle.fs_model.specs.View.{named_expression}
 use Rattle.fs_expression_text.specs.Inside.{SumContext, ProductContext, parse_expression, at_factor, at_sum, after_sum, after_product, first_factor}
 use Rattle.fs_expression_text.proofs.sums.+sums.Given as goal
 
@@ -22,7 +22,7 @@ abbrev pub decreases-sum : goal.decreases-sum
 decreases-sum l = 6 * length l.tokens.now + 4
 
 abbrev pub invariant-sum-each : goal.invariant-sum-each
-invariant-sum-each l = ((k : SumContext) → parse_expression l.tokens (at_sum k) ≡ parse_expression l.rest (after_sum (named_term l.left) k))
+invariant-sum-each l = ((k : SumContext) → parse_expression l.tokens (at_sum k) ≡ parse_expression l.rest (after_sum (named_expression l.left) k))
     × (length l.rest < length l.tokens)
 
 abbrev pub decreases-sum-each : goal.decreases-sum-each
@@ -30,7 +30,7 @@ decreases-sum-each l = length l.rest
 
 abbrev pub invariant-product-each : goal.invariant-product-each
 invariant-product-each l =
-    ((k : ProductContext) → parse_expression l.tokens (at_factor (first_factor k)) ≡ parse_expression l.rest (after_product (named_term l.left) k))
+    ((k : ProductContext) → parse_expression l.tokens (at_factor (first_factor k)) ≡ parse_expression l.rest (after_product (named_expression l.left) k))
     × (length l.rest < length l.tokens)
 
 abbrev pub decreases-product-each : goal.decreases-product-each

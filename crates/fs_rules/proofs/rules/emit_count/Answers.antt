@@ -1,6 +1,6 @@
 use Rattle.std.proofs.Common.{◌∙◌, ap, ap₂, ◌+◌, sym, map, arith}
 use Rattle.std.proofs.lemmas.List.{take_all}
-use Rattle.fs_rules.specs.SoundParts.{emit_count}
+use Rattle.fs_model.specs.SoundMachines.{emit_count}
 use Rattle.fs_model.specs.View.{named_assignment}
 use Rattle.fs_rules.proofs.Uses.{emits_more}
 use Rattle.fs_rules.proofs.rules.emit_count.Goals as goal

@@ -1,5 +1,5 @@
 use Rattle.std.proofs.Common.{[], ◌∷◌, ◌<◌, length, refl, ap, sym, ◌∙◌, arith}
-use Rattle.fs_model.specs.View.{named_term}
+use Rattle.fs_model.specs.View.{named_expression}
 use Rattle.fs_grammar.specs.Grammar.{destination_assignment, with_assignments}
 use Rattle.fs_text_parser.specs.Destinations.{destination_of}
 use Rattle.fs_phrase_text.proofs.PassedOn.{refused}
@@ -16,14 +16,16 @@ returns-in_err-destination-2-clause-goes c =
     let d = c.in_ok-destination.destination in
     λ o e. refused c.from_residual-in_err-destination-2.result c.in_err-destination-2.field-0.0 _ c.from_residual-in_err-destination-2.ensures.1
     (c.in_ok-destination.ensures.goes o e)
-    (joined _ d c.listed_value.result (λ x. after_assignment (with_assignments o (destination_assignment (destination_of x.0) (named_term x.1.0) ∷ [])) x.1.1)
+    (joined _ d c.listed_value.result
+    (λ x. after_assignment (with_assignments o (destination_assignment (destination_of x.0) (named_expression x.1.0) ∷ [])) x.1.1)
     c.in_err-destination-2.ensures refl (c.listed_value.ensures.goes o (destination_of d)))
 
 pub returns-clause-goes : goal.returns-clause-goes
 returns-clause-goes c =
     let d = c.in_ok-destination.destination in
     λ o e. c.in_ok-destination.ensures.goes o e
-    ∙ joined _ d c.listed_value.result (λ x. after_assignment (with_assignments o (destination_assignment (destination_of x.0) (named_term x.1.0) ∷ [])) x.1.1)
+    ∙ joined _ d c.listed_value.result
+    (λ x. after_assignment (with_assignments o (destination_assignment (destination_of x.0) (named_expression x.1.0) ∷ [])) x.1.1)
     c.in_ok-destination-2.ensures refl (c.listed_value.ensures.goes o (destination_of d))
     ∙ ap (λ a. after_assignment (with_assignments o (a ∷ [])) c.in_ok-destination-2.next) (sym c.assign.ensures)
 

@@ -2,7 +2,7 @@ use Rattle.std.proofs.Common.{◌≡◌, ◌≤◌, ◌++◌, List, [], sym, ◌
 use Rattle.std.specs.Prelude.{ℤ}
 use Rattle.std.specs.List.{fold, flat_map, IsDistinct}
 use Rattle.std.specs.Ordering.{int_eq}
-use Rattle.fs_ast.specs.SoundParts.{numbers_in_states}
+use Rattle.fs_model.specs.SoundMachines.{numbers_in_states}
 use Rattle.fs_trials.specs.Pool.{first_values, neighbours, with_pool_number}
 use Rattle.fs_trials.proofs.Pools.{pool_grown, list_differs, list_few, pool_begins}
 use Rattle.fs_trials.proofs.pool.pool.Goals as goal

@@ -1,7 +1,7 @@
 use Rattle.std.proofs.Common.{rules, ◌≡◌, Some, ap, subst, ◌∙◌}
 use Rattle.fs_ast.specs.StoredBranches.{state_name_of}
 use Rattle.hls_unit_counts.specs.Counts.{units_in}
-use Rattle.hls_line_filling.specs.Over.{over_in}
+use Rattle.hls_block_filling.specs.Over.{over_in}
 use Rattle.fsmd_replies.specs.declared.answer.Answer.TheVariants.{Over}
 use Rattle.fsmd_replies.specs.AskedFiles.{operand}
 use Rattle.fsmd_answers.specs.ScheduleFiles.{IsOver}

@@ -1,7 +1,7 @@
 use Rattle.std.proofs.Common.{◌<◌, ◌∙◌, sym, ap, arith}
 use Rattle.std.specs.Prelude.{map}
 use Rattle.std.specs.Option.{option_map}
-use Rattle.fs_ast.specs.SoundParts.{branch_count}
+use Rattle.fs_model.specs.SoundMachines.{branch_count}
 use Rattle.hls_bind.specs.BindingEntries.{binding_entry, conflict_of}
 use Rattle.hls_bind.specs.ConflictSearch.{conflict_at, conflict_in}
 use Rattle.hls_bind.proofs.Loops.{first_none, first_some}

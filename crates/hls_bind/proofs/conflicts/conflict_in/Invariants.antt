@@ -1,6 +1,6 @@
 use Rattle.std.proofs.Common.{◌≡◌, ◌-◌}
 use Rattle.std.specs.Prelude.{map}
-use Rattle.fs_ast.specs.SoundParts.{branch_count}
+use Rattle.fs_model.specs.SoundMachines.{branch_count}
 use Rattle.hls_bind.specs.BindingEntries.{binding_entry}
 use Rattle.hls_bind.specs.ConflictSearch.{first_from, conflict_at, conflict_in}
 use Rattle.hls_bind.proofs.conflicts.conflict_in.Given as goal

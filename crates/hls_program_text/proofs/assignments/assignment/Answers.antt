@@ -1,5 +1,5 @@
 use Rattle.std.proofs.Common.{◌<◌, length, option_map, refl, sym, ap, ◌∙◌, arith}
-use Rattle.fs_model.specs.View.{named_term}
+use Rattle.fs_model.specs.View.{named_expression}
 use Rattle.fs_grammar.specs.Tokens.{line_at}
 use Rattle.fs_grammar.specs.Grammar.{destination_assignment}
 use Rattle.fs_phrase_text.proofs.PassedOn.{refused}
@@ -16,12 +16,12 @@ returns-in_err-target-clause-goes c =
     λ o b. refused c.from_residual-in_err-target.result c.in_err-target.field-0.0 _ c.from_residual-in_err-target.ensures.1 refl
     (joined _ x c.join.result
     (λ y. program_reading y.1.1.1.now
-    (at_statement o (join_blocks b (Do n (destination_assignment (destination y.0 (option_map named_term y.1.0)) (named_term y.1.1.0)) End))))
+    (at_statement o (join_blocks b (Do n (destination_assignment (destination y.0 (option_map named_expression y.1.0)) (named_expression y.1.1.0)) End))))
     c.in_err-target.ensures (c.in_ok-name.ensures.goes o b)
     (joined c.join.result c.in_ok-name.index c.value.result
     (λ y. program_reading y.1.1.now
-    (at_statement o (join_blocks b (Do n (destination_assignment (destination x (option_map named_term y.0)) (named_term y.1.0)) End))))
-    c.join.ensures refl (c.value.ensures.goes o b n (destination x (option_map named_term c.in_ok-name.index)))))
+    (at_statement o (join_blocks b (Do n (destination_assignment (destination x (option_map named_expression y.0)) (named_expression y.1.0)) End))))
+    c.join.ensures refl (c.value.ensures.goes o b n (destination x (option_map named_expression c.in_ok-name.index)))))
 
 pub returns-clause-goes : goal.returns-clause-goes
 returns-clause-goes c =
@@ -29,12 +29,12 @@ returns-clause-goes c =
     let x = c.in_ok-name.name in
     λ o b. joined _ x c.join.result
     (λ y. program_reading y.1.1.1.now
-    (at_statement o (join_blocks b (Do n (destination_assignment (destination y.0 (option_map named_term y.1.0)) (named_term y.1.1.0)) End))))
+    (at_statement o (join_blocks b (Do n (destination_assignment (destination y.0 (option_map named_expression y.1.0)) (named_expression y.1.1.0)) End))))
     c.in_ok-target.ensures (c.in_ok-name.ensures.goes o b)
     (joined c.join.result c.in_ok-name.index c.value.result
     (λ y. program_reading y.1.1.now
-    (at_statement o (join_blocks b (Do n (destination_assignment (destination x (option_map named_term y.0)) (named_term y.1.0)) End))))
-    c.join.ensures refl (c.value.ensures.goes o b n (destination x (option_map named_term c.in_ok-name.index))))
+    (at_statement o (join_blocks b (Do n (destination_assignment (destination x (option_map named_expression y.0)) (named_expression y.1.0)) End))))
+    c.join.ensures refl (c.value.ensures.goes o b n (destination x (option_map named_expression c.in_ok-name.index))))
     ∙ ap (λ a. program_reading c.in_ok-target.rest.now (at_statement o (join_blocks b (Do n a End)))) (sym c.assign.ensures)
 
 pub returns-clause-shorter : goal.returns-clause-shorter

@@ -1,5 +1,5 @@
 use Rattle.std.proofs.Common.{option_map, ap, ◌∙◌, arith}
-use Rattle.fs_model.specs.View.{named_term}
+use Rattle.fs_model.specs.View.{named_expression}
 use Rattle.fs_grammar.specs.PartEnds.{name_in}
 use Rattle.fs_grammar.specs.Tokens.{line_at, ◌>>=◌}
 use Rattle.fs_expression_text.specs.Inside.{at_sum, sum_alone}
@@ -21,7 +21,7 @@ returns-clause-goes c =
     let ts = c.args.tokens.now in
     let name = c.in_ok-name.name in
     λ o b. joined c.join.result name c.optional_index.result
-    (λ x. program_reading x.1.1.now (inside (for_value o b (line_at ts) (destination x.0 (option_map named_term x.1.0))) (at_sum sum_alone)))
+    (λ x. program_reading x.1.1.now (inside (for_value o b (line_at ts) (destination x.0 (option_map named_expression x.1.0))) (at_sum sum_alone)))
     c.join.ensures
     (name_read ts o b c.requires ∙ ap (λ q. q >>= λ x. program_reading x.1 (after_name o b (line_at ts) x.0)) c.in_ok-name.ensures)
     (c.optional_index.ensures.goes o b (line_at ts) name)

@@ -1,5 +1,5 @@
 use Rattle.std.proofs.Common.{arith}
-use Rattle.fs_model.specs.View.{named_term}
+use Rattle.fs_model.specs.View.{named_expression}
 use Rattle.fs_grammar.specs.Grammar.{element}
 use Rattle.fs_expression_text.specs.Inside.{at_sum, sum_alone}
 use Rattle.hls_program_parts.specs.ProgramGrammar.{for_index, for_value, program_reading, inside}
@@ -10,8 +10,8 @@ pub returns-clause-goes : goal.returns-clause-goes
 returns-clause-goes c =
     let i = c.in_ok-index.index in
     λ o b n x. joined c.join.result i c.index_end.result
-    (λ y. program_reading y.1.now (inside (for_value o b n (element x (named_term y.0))) (at_sum sum_alone)))
-    c.join.ensures (c.in_ok-index.ensures.goes (for_index o b n x)) (c.index_end.ensures.goes o b n x (named_term i))
+    (λ y. program_reading y.1.now (inside (for_value o b n (element x (named_expression y.0))) (at_sum sum_alone)))
+    c.join.ensures (c.in_ok-index.ensures.goes (for_index o b n x)) (c.index_end.ensures.goes o b n x (named_expression i))
 
 pub returns-clause-shorter : goal.returns-clause-shorter
 returns-clause-shorter c =

@@ -1,5 +1,5 @@
 use Rattle.std.proofs.Common.{arith}
-use Rattle.fs_model.specs.View.{named_term}
+use Rattle.fs_model.specs.View.{named_expression}
 use Rattle.fs_grammar.specs.Grammar.{destination_assignment}
 use Rattle.hls_program_parts.specs.Programs.{End, Do, join_blocks}
 use Rattle.hls_program_parts.specs.ProgramGrammar.{for_value, program_reading, at_statement}
@@ -10,8 +10,8 @@ pub returns-clause-goes : goal.returns-clause-goes
 returns-clause-goes c =
     let v = c.in_ok-value.value in
     λ o b n d. joined c.join.result v c.semicolon.result
-    (λ y. program_reading y.1.now (at_statement o (join_blocks b (Do n (destination_assignment d (named_term y.0)) End))))
-    c.join.ensures (c.in_ok-value.ensures.goes (for_value o b n d)) (c.semicolon.ensures.goes o b n d (named_term v))
+    (λ y. program_reading y.1.now (at_statement o (join_blocks b (Do n (destination_assignment d (named_expression y.0)) End))))
+    c.join.ensures (c.in_ok-value.ensures.goes (for_value o b n d)) (c.semicolon.ensures.goes o b n d (named_expression v))
 
 pub returns-clause-shorter : goal.returns-clause-shorter
 returns-clause-shorter c =

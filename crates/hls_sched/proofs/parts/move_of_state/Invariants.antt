@@ -1,6 +1,6 @@
 use Rattle.std.proofs.Common.{◌≡◌, drop, map}
 use Rattle.fs_model.specs.Source.{Source}
-use Rattle.hls_line_filling.specs.SourceRows.{first_row_effect}
+use Rattle.hls_block_filling.specs.SourceRows.{first_row_effect}
 use Rattle.hls_sched.specs.RowMoves.{move_of}
 use Rattle.hls_sched.proofs.parts.move_of_state.Given as goal
 

@@ -1,7 +1,7 @@
 use Rattle.std.proofs.Common.{arith, length, map}
 use Rattle.fs_model.specs.View.{source_of}
-use Rattle.hls_line_filling.specs.SourceRows.{first_row_effect}
-use Rattle.hls_line_filling.specs.Sources.{states_by}
+use Rattle.hls_block_filling.specs.SourceRows.{first_row_effect}
+use Rattle.hls_block_filling.specs.Sources.{states_by}
 use Rattle.hls_sched.specs.RowMoves.{move_of}
 use Rattle.hls_sched.proofs.ByStates.{states_more}
 use Rattle.hls_sched.proofs.parts.moved_states.Goals as goal

@@ -1,9 +1,9 @@
 use Rattle.std.proofs.Common.{◌≡◌, ◌-◌, ◌++◌, length, map}
 use Rattle.std.specs.List.{range_with_len, flat_map}
 use Rattle.fs_model.specs.View.{source_state_of, source_of}
-use Rattle.hls_line_filling.specs.StraightLines.{all_states}
-use Rattle.hls_line_filling.specs.SourceRows.{first_row_effect}
-use Rattle.hls_line_filling.specs.Sources.{states_by}
+use Rattle.hls_block_filling.specs.BasicBlocks.{all_states}
+use Rattle.hls_block_filling.specs.SourceRows.{first_row_effect}
+use Rattle.hls_block_filling.specs.Sources.{states_by}
 use Rattle.hls_sched.specs.RowMoves.{move_of}
 use Rattle.hls_sched.proofs.parts.moved_states.Given as goal
 

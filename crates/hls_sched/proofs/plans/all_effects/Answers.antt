@@ -1,7 +1,7 @@
 use Rattle.std.proofs.Common.{◌∙◌, [], ap, map}
 use Rattle.fs_model.specs.declared.parts.StateId.{StateId}
-use Rattle.hls_line_filling.specs.StraightLines.{item_of}
-use Rattle.hls_line_filling.specs.EffectSets.{sets_of, sets_from, none_changed}
+use Rattle.hls_block_filling.specs.BasicBlocks.{item_of}
+use Rattle.hls_block_filling.specs.EffectSets.{sets_of, sets_from, none_changed}
 use Rattle.fs_model.proofs.Lists.{map_grown, same_there, of_whole}
 use Rattle.hls_sched.proofs.Copied.{one_more}
 use Rattle.hls_sched.proofs.plans.all_effects.Goals as goal

@@ -1,6 +1,6 @@
 use Rattle.std.proofs.Common.{◌≡◌, take, map}
-use Rattle.hls_line_filling.specs.StraightLines.{item_of}
-use Rattle.hls_line_filling.specs.EffectSets.{sets_of, sets_from, none_changed}
+use Rattle.hls_block_filling.specs.BasicBlocks.{item_of}
+use Rattle.hls_block_filling.specs.EffectSets.{sets_of, sets_from, none_changed}
 use Rattle.hls_sched.proofs.plans.all_effects.Given as goal
 
 abbrev pub invariant-loop-state : goal.invariant-loop-state

@@ -1,8 +1,8 @@
 use Rattle.std.proofs.Common.{◌∙◌, [], ap, map}
 use Rattle.fs_model.specs.declared.parts.StateId.{StateId}
-use Rattle.hls_line_filling.specs.StraightLines.{item_of}
-use Rattle.hls_line_filling.specs.ItemUnits.{used_by}
-use Rattle.hls_line_filling.specs.Profiles.{units_of_uses, capped_count}
+use Rattle.hls_block_filling.specs.BasicBlocks.{item_of}
+use Rattle.hls_block_filling.specs.ItemUnits.{used_by}
+use Rattle.hls_block_filling.specs.Profiles.{units_of_uses, capped_count}
 use Rattle.fs_model.proofs.Lists.{map_grown, same_there, of_whole}
 use Rattle.hls_sched.proofs.Copied.{one_more}
 use Rattle.hls_sched.proofs.plans.all_uses.Goals as goal

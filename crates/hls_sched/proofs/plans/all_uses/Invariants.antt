@@ -1,8 +1,8 @@
 use Rattle.std.proofs.Common.{◌≡◌, take, map}
 use Rattle.hls_unit_counts.specs.declared.units.Unit.{Unit as Kind}
-use Rattle.hls_line_filling.specs.StraightLines.{item_of}
-use Rattle.hls_line_filling.specs.ItemUnits.{used_by}
-use Rattle.hls_line_filling.specs.Profiles.{units_of_uses, capped_count}
+use Rattle.hls_block_filling.specs.BasicBlocks.{item_of}
+use Rattle.hls_block_filling.specs.ItemUnits.{used_by}
+use Rattle.hls_block_filling.specs.Profiles.{units_of_uses, capped_count}
 use Rattle.hls_sched.proofs.plans.all_uses.Given as goal
 
 abbrev pub invariant-loop-state : goal.invariant-loop-state

@@ -1,7 +1,7 @@
 use Rattle.std.proofs.Common.{◌≡◌, map}
 use Rattle.fs_model.specs.View.{source_of}
-use Rattle.hls_line_filling.specs.ItemUnits.{units_in}
-use Rattle.hls_line_filling.specs.SourceRows.{named_moves}
+use Rattle.hls_block_filling.specs.ItemUnits.{units_in}
+use Rattle.hls_block_filling.specs.SourceRows.{named_moves}
 use Rattle.hls_sched.specs.RowMoves.{move_of}
 use Rattle.hls_sched.proofs.Outcome.{parts_are}
 use Rattle.hls_sched.proofs.scheduling.parts_in_rows.Goals as goal

@@ -4,11 +4,11 @@ use Rattle.fs_model.specs.View.{source_of}
 use Rattle.fs_model.specs.WellFormed.{is_well_formed}
 use Rattle.fs_ast.specs.MachineOfParts.{machine_of}
 use Rattle.fs_ast.specs.Rules.{BreaksNoRule}
-use Rattle.hls_line_filling.specs.ItemUnits.{units_in}
-use Rattle.hls_line_filling.specs.Sources.{scheduled_source}
-use Rattle.hls_line_filling.specs.Over.{over_in}
+use Rattle.hls_block_filling.specs.ItemUnits.{units_in}
+use Rattle.hls_block_filling.specs.Sources.{scheduled_source}
+use Rattle.hls_block_filling.specs.Over.{over_in}
 use Rattle.hls_sched.specs.Reports.{report_of, reports}
-use Rattle.hls_sched.proofs.Outcome.{lines_keep_lengths, new_behaves, new_within}
+use Rattle.hls_sched.proofs.Outcome.{blocks_keep_lengths, new_behaves, new_within}
 use Rattle.hls_sched.proofs.scheduling.schedule.Goals as goal
 
 pub parts_in_rows-requires-clause-within : goal.parts_in_rows-requires-clause-within
@@ -91,4 +91,4 @@ returns-clause-lengths c =
     let fits : over_in (units_in c.args.units.now) c.args.m.now ≡ None = search rules in
     let within = c.machines_within_the_units.ensures.within c.args.m.now (units_in c.args.units.now) c.vars-vars.ensures.sound fits in
     let lines : map report_of c.in_ok-parts.lines.items ≡ reports (units_in c.args.units.now) c.args.m.now = c.in_ok-parts.ensures.lines in
-    lines_keep_lengths (units_in c.args.units.now) c.args.m.now c.vars-vars.ensures.sound within c.in_ok-parts.lines.items lines
+    blocks_keep_lengths (units_in c.args.units.now) c.args.m.now c.vars-vars.ensures.sound within c.in_ok-parts.lines.items lines

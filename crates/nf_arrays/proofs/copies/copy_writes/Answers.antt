@@ -1,6 +1,6 @@
 use Rattle.std.proofs.Common.{◌∙◌}
-use Rattle.nf_terms.specs.View.{write_in}
-use Rattle.nf_terms.proofs.Loops.{one_more, all_there}
+use Rattle.nf_trees.specs.View.{write_in}
+use Rattle.nf_trees.proofs.Loops.{one_more, all_there}
 use Rattle.nf_arrays.proofs.copies.copy_writes.Goals as goal
 
 pub loop-index-preserved : goal.loop-index-preserved

@@ -1,5 +1,5 @@
 use Rattle.std.proofs.Common.{◌≡◌, ◌++◌, map, drop}
-use Rattle.nf_terms.specs.View.{write_in}
+use Rattle.nf_trees.specs.View.{write_in}
 use Rattle.nf_arrays.proofs.copies.copy_writes.Given as goal
 
 abbrev pub invariant-loop-index : goal.invariant-loop-index

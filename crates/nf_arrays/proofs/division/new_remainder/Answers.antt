@@ -1,5 +1,5 @@
 use Rattle.std.proofs.Common.{ap₂, sym, subst, ◌∙◌}
-use Rattle.nf_terms.specs.NormalTerms.{Remainder}
+use Rattle.nf_trees.specs.NormalTerms.{Remainder}
 use Rattle.nf_terms.specs.Computed.{Answers}
 use Rattle.nf_arrays.specs.NewAtoms.{IsNewAtom, new_atom}
 use Rattle.nf_arrays.proofs.NewAtoms.{new_remainder}

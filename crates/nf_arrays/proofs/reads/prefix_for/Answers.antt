@@ -1,5 +1,5 @@
 use Rattle.std.proofs.Common.{sym, ◌∙◌}
-use Rattle.nf_terms.specs.View.{polynomial_in}
+use Rattle.nf_trees.specs.View.{polynomial_in}
 use Rattle.nf_arrays.proofs.Stopping.{none_passed, one_passed, back_ordered, stops}
 use Rattle.nf_arrays.proofs.reads.prefix_for.Goals as goal
 

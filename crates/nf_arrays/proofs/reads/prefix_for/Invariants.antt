@@ -1,5 +1,5 @@
 use Rattle.std.proofs.Common.{length}
-use Rattle.nf_terms.specs.View.{polynomial_in}
+use Rattle.nf_trees.specs.View.{polynomial_in}
 use Rattle.nf_arrays.proofs.Stopping.{ArePassed}
 use Rattle.nf_arrays.proofs.reads.prefix_for.Given as goal
 

@@ -1,6 +1,6 @@
 use Rattle.std.proofs.Common.{map, ap, sym, subst, ◌∙◌}
-use Rattle.nf_terms.specs.NormalTerms.{Over, Read, writes_of}
-use Rattle.nf_terms.specs.View.{write_in}
+use Rattle.nf_trees.specs.NormalTerms.{Over, Read, writes_of}
+use Rattle.nf_trees.specs.View.{write_in}
 use Rattle.nf_terms.specs.Computed.{Answers}
 use Rattle.nf_arrays.specs.NewAtoms.{IsNewAtom, new_atom}
 use Rattle.nf_arrays.proofs.NewAtoms.{new_read}

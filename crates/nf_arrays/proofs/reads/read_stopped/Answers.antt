@@ -1,7 +1,7 @@
 use Rattle.std.proofs.Common.{ap, sym, subst, ◌∙◌}
-use Rattle.nf_terms.specs.NormalTerms.{Read, Over}
-use Rattle.nf_terms.specs.View.{polynomial_in}
-use Rattle.nf_terms.specs.Order.{same_polynomial}
+use Rattle.nf_trees.specs.NormalTerms.{Read, Over}
+use Rattle.nf_trees.specs.View.{polynomial_in}
+use Rattle.nf_trees.specs.Order.{same_polynomial}
 use Rattle.nf_terms.specs.Normal.{IsNormal, stays_read}
 use Rattle.nf_terms.specs.Computed.{Answers, Done}
 use Rattle.nf_arrays.specs.NewAtoms.{new_atom}

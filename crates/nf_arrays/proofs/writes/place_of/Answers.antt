@@ -1,5 +1,5 @@
 use Rattle.std.proofs.Common.{sym, ◌∙◌}
-use Rattle.nf_terms.specs.View.{polynomial_in}
+use Rattle.nf_trees.specs.View.{polynomial_in}
 use Rattle.nf_arrays.proofs.Inserting.{ordered_at, place_passed, place_here, place_last}
 use Rattle.nf_arrays.proofs.writes.place_of.Goals as goal
 

@@ -1,6 +1,6 @@
 use Rattle.std.proofs.Common.{◌≡◌, map, take, drop}
-use Rattle.nf_terms.specs.NormalTerms.{Polynomial}
-use Rattle.nf_terms.specs.View.{polynomial_in, write_in}
+use Rattle.nf_trees.specs.NormalTerms.{Polynomial}
+use Rattle.nf_trees.specs.View.{polynomial_in, write_in}
 use Rattle.nf_terms.specs.Tidied.{with_write}
 use Rattle.nf_arrays.proofs.Inserting.{followed}
 use Rattle.nf_arrays.proofs.Stopping.{writes_in}

@@ -1,5 +1,5 @@
 use Rattle.std.proofs.Common.{sym, ◌∙◌}
-use Rattle.nf_terms.specs.View.{polynomial_in}
+use Rattle.nf_trees.specs.View.{polynomial_in}
 use Rattle.nf_arrays.proofs.Inserting.{index_now, turn_dropped, turn_placed}
 use Rattle.nf_arrays.proofs.writes.tidied_with.Goals as goal
 

@@ -1,11 +1,11 @@
 use Rattle.std.proofs.Common.{◌≡◌, arith, ap, sym, subst, ◌∙◌, map, refl}
 use Rattle.std.proofs.lemmas.List.{at_drop_all}
 use Rattle.std.proofs.lemmas.Grind.{common_steps}
-use Rattle.nf_terms.specs.NormalTerms.{Atom, Monomial, Polynomial, ArrayTerm, Read, Quotient, Remainder, monomial_of, polynomial_of, writes_of}
+use Rattle.nf_trees.specs.NormalTerms.{Atom, Monomial, Polynomial, ArrayTerm, Read, Quotient, Remainder, monomial_of, polynomial_of, writes_of}
 use Rattle.nf_trees.specs.declared.tree.Atom.TheFolds.{fold-roll-Atom}
 use Rattle.nf_trees.specs.declared.tree.Atom.TheVariants.{rolls-Read, rolls-Div, rolls-Rem}
 use Rattle.nf_trees.specs.declared.tree.Atom.TheOpen as open_tree
-use Rattle.nf_terms.specs.View.{atom_step, arr_step, mono_step, poly_step, atom_in, monomial_in, polynomial_in, array_in, term_in, write_in}
+use Rattle.nf_trees.specs.View.{atom_step, arr_step, mono_step, poly_step, atom_in, monomial_in, polynomial_in, array_in, term_in, write_in}
 use Rattle.nf_trees.specs.declared.tree.ArrTree.{out-ArrTree}
 use Rattle.nf_bank.specs.declared.node.Node.TheVariants as node
 use Rattle.nf_bank.specs.Atoms.{with_monomial, with_terms, with_writes, with_array, with_inner}

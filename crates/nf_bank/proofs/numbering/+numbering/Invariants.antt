@@ -1,6 +1,6 @@
 use Rattle.std.proofs.Common.{◌≡◌, map, drop}
-use Rattle.nf_terms.specs.NormalTerms.{monomial_of, polynomial_of, writes_of, Over}
-use Rattle.nf_terms.specs.View.{atom_in, monomial_in, polynomial_in, array_in, term_in, write_in}
+use Rattle.nf_trees.specs.NormalTerms.{monomial_of, polynomial_of, writes_of, Over}
+use Rattle.nf_trees.specs.View.{atom_in, monomial_in, polynomial_in, array_in, term_in, write_in}
 use Rattle.nf_trees.specs.declared.tree.ArrTree.{out-ArrTree}
 use Rattle.nf_bank.specs.Atoms.{with_monomial, with_terms, with_writes, with_array, IsFront}
 use Rattle.nf_bank.specs.AtomNumbers.{bound_of_number, bound_of_term, bound_of_write, atom_of_number, scaled_monomial_over, write_over}

@@ -1,9 +1,9 @@
 use Rattle.std.proofs.Common.{◌≡◌, ◌≤◌, IfOk, map, ap, sym, subst, arith, ◌∙◌}
-use Rattle.nf_terms.specs.NormalTerms.{Read, Quotient, Remainder, monomial_of, polynomial_of, writes_of, Over}
-use Rattle.nf_terms.specs.View.{atom_in, monomial_in, polynomial_in, term_in, write_in}
-use Rattle.nf_terms.proofs.Degrees.{monomial_in-is}
-use Rattle.nf_terms.proofs.Loops.{all_there}
-use Rattle.nf_terms.proofs.TreeParts.{polynomial_of_terms, array_over_writes}
+use Rattle.nf_trees.specs.NormalTerms.{Read, Quotient, Remainder, monomial_of, polynomial_of, writes_of, Over}
+use Rattle.nf_trees.specs.View.{atom_in, monomial_in, polynomial_in, term_in, write_in}
+use Rattle.nf_trees.proofs.Degrees.{monomial_in-is}
+use Rattle.nf_trees.proofs.Loops.{all_there}
+use Rattle.nf_trees.proofs.TreeParts.{polynomial_of_terms, array_over_writes}
 use Rattle.nf_bank.specs.AtomNumbers.{bound_of_node, bound_of_sum, atom_of_number, atom_over, scaled_monomial_over, write_over, monomial_over, sum_over}
 use Rattle.nf_bank.proofs.Made.{one_made}
 use Rattle.nf_bank.proofs.trees.+trees.Goals as goal

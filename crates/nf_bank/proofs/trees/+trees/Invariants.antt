@@ -1,6 +1,6 @@
 use Rattle.std.proofs.Common.{◌≡◌, ◌+◌, ◌*◌, ◌++◌, map, drop}
-use Rattle.nf_terms.specs.NormalTerms.{monomial_of, polynomial_of, writes_of}
-use Rattle.nf_terms.specs.View.{atom_in, term_in, write_in}
+use Rattle.nf_trees.specs.NormalTerms.{monomial_of, polynomial_of, writes_of}
+use Rattle.nf_trees.specs.View.{atom_in, term_in, write_in}
 use Rattle.nf_bank.specs.AtomNumbers.{bound_over, bound_of_number, bound_of_sum, bound_of_array, atom_of_number, scaled_monomial_over, write_over}
 use Rattle.nf_bank.specs.AtomNumbers.{monomial_over, sum_over}
 use Rattle.nf_bank.proofs.trees.+trees.Given as goal

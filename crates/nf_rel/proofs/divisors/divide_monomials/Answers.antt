@@ -1,5 +1,5 @@
 use Rattle.std.proofs.Common.{map, arith}
-use Rattle.nf_terms.specs.View.{term_in}
+use Rattle.nf_trees.specs.View.{term_in}
 use Rattle.nf_sums.proofs.Turns.{weight_at}
 use Rattle.nf_rel.proofs.Divided.{one_more, divided_all}
 use Rattle.nf_rel.proofs.divisors.divide_monomials.Goals as goal

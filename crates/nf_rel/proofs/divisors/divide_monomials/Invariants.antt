@@ -1,6 +1,6 @@
 use Rattle.std.proofs.Common.{◌≡◌, ◌++◌, map, drop}
 use Rattle.std.specs.List.{flat_map}
-use Rattle.nf_terms.specs.View.{term_in}
+use Rattle.nf_trees.specs.View.{term_in}
 use Rattle.nf_rel.proofs.Divided.{kept_term}
 use Rattle.nf_rel.proofs.divisors.divide_monomials.Given as goal
 

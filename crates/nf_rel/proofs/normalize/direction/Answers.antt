@@ -1,7 +1,7 @@
 use Rattle.std.proofs.Common.{◌≡◌, map, rules, to_z-of_z, FitsSigned}
 use Rattle.std.specs.Int.{w128}
-use Rattle.nf_terms.specs.NormalTerms.{polynomial_of}
-use Rattle.nf_terms.specs.View.{term_in}
+use Rattle.nf_trees.specs.NormalTerms.{polynomial_of}
+use Rattle.nf_trees.specs.View.{term_in}
 use Rattle.nf_terms.specs.Normal.{part_with_atoms}
 use Rattle.nf_rel.specs.Literals.{divide_coefficients}
 use Rattle.nf_rel.proofs.Directions.{terms_normal}

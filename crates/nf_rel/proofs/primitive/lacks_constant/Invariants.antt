@@ -1,6 +1,6 @@
 use Rattle.std.proofs.Common.{◌≡◌, map, drop}
-use Rattle.nf_terms.specs.NormalTerms.{polynomial_of}
-use Rattle.nf_terms.specs.View.{term_in}
+use Rattle.nf_trees.specs.NormalTerms.{polynomial_of}
+use Rattle.nf_trees.specs.View.{term_in}
 use Rattle.nf_rel.specs.NormalLiterals.{lacks_constant}
 use Rattle.nf_rel.proofs.primitive.lacks_constant.Given as goal
 

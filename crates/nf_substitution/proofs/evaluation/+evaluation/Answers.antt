@@ -1,6 +1,6 @@
 use Rattle.std.proofs.Common.{◌≡◌, ◌+◌, ◌*◌, ◌≤◌, Err, length, get_or, map, arith, ap, sym, subst, ◌∙◌}
 use Rattle.std.proofs.lemmas.List.{at_drop_all}
-use Rattle.nf_terms.specs.NormalTerms.{Polynomial, ArrayTerm, monomial_of, polynomial_of, writes_of}
+use Rattle.nf_trees.specs.NormalTerms.{Polynomial, ArrayTerm, monomial_of, polynomial_of, writes_of}
 use Rattle.nf_terms.specs.Computed.{Computed, Done, Answers, after}
 use Rattle.nf_bank.specs.AtomNumbers.{atom_of_number, scaled_monomial_over, write_over, monomial_over, sum_over, array_over, bound_over, bound_of_number}
 use Rattle.nf_bank.specs.AtomNumbers.{bound_of_node, bound_of_term, bound_of_write, atom_over}

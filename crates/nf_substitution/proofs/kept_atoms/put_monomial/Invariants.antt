@@ -1,6 +1,6 @@
 use Rattle.std.proofs.Common.{◌≡◌, map, drop}
-use Rattle.nf_terms.specs.NormalTerms.{monomial_of}
-use Rattle.nf_terms.specs.View.{atom_in, monomial_in}
+use Rattle.nf_trees.specs.NormalTerms.{monomial_of}
+use Rattle.nf_trees.specs.View.{atom_in, monomial_in}
 use Rattle.nf_bank.specs.Atoms.{with_monomial, IsFront}
 use Rattle.nf_substitution.proofs.kept_atoms.put_monomial.Given as goal
 

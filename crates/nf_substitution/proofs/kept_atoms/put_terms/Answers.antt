@@ -1,8 +1,8 @@
 use Rattle.std.proofs.Common.{◌+◌, map, drop, ap, sym, ◌∙◌}
 use Rattle.std.proofs.lemmas.List.{at_drop_all}
 use Rattle.fs_model.proofs.Lists.{map_drop_next}
-use Rattle.nf_terms.specs.NormalTerms.{polynomial_of}
-use Rattle.nf_terms.specs.View.{term_in}
+use Rattle.nf_trees.specs.NormalTerms.{polynomial_of}
+use Rattle.nf_trees.specs.View.{term_in}
 use Rattle.nf_bank.specs.Atoms.{with_terms}
 use Rattle.nf_bank.proofs.Fronts.{front_trans}
 use Rattle.nf_substitution.proofs.kept_atoms.put_terms.Goals as goal

@@ -1,6 +1,6 @@
 use Rattle.std.proofs.Common.{◌≡◌, map, drop}
-use Rattle.nf_terms.specs.NormalTerms.{polynomial_of}
-use Rattle.nf_terms.specs.View.{polynomial_in, term_in}
+use Rattle.nf_trees.specs.NormalTerms.{polynomial_of}
+use Rattle.nf_trees.specs.View.{polynomial_in, term_in}
 use Rattle.nf_bank.specs.Atoms.{with_terms, IsFront}
 use Rattle.nf_substitution.proofs.kept_atoms.put_terms.Given as goal
 

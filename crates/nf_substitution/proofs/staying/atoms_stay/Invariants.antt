@@ -1,6 +1,6 @@
 use Rattle.std.proofs.Common.{◌≡◌, map, drop}
-use Rattle.nf_terms.specs.NormalTerms.{monomial_of}
-use Rattle.nf_terms.specs.View.{atom_in, monomial_in}
+use Rattle.nf_trees.specs.NormalTerms.{monomial_of}
+use Rattle.nf_trees.specs.View.{atom_in, monomial_in}
 use Rattle.nf_substitution.specs.StayingTerms.{atoms_stay}
 use Rattle.nf_substitution.proofs.staying.atoms_stay.Given as goal
 

@@ -1,5 +1,5 @@
 use Rattle.std.proofs.Common.{subst}
-use Rattle.nf_terms.specs.NormalTerms.{Polynomial}
+use Rattle.nf_trees.specs.NormalTerms.{Polynomial}
 use Rattle.nf_terms.specs.Computed.{Answers}
 use Rattle.nf_substitution.specs.Keeping.{VectorWithAtoms}
 use Rattle.nf_substitution.specs.Substitution.{polynomial_substituted}

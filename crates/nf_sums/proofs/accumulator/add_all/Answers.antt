@@ -1,5 +1,5 @@
 use Rattle.std.proofs.Common.{◌+◌, drop, arith}
-use Rattle.nf_terms.specs.View.{monomial_in}
+use Rattle.nf_trees.specs.View.{monomial_in}
 use Rattle.nf_sums.specs.RawSumForms.{with_terms}
 use Rattle.nf_sums.proofs.Terms.{terms_in}
 use Rattle.nf_sums.proofs.Grown.{grown, at_term}

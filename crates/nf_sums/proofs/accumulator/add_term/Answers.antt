@@ -1,5 +1,5 @@
 use Rattle.std.proofs.Common.{◌≡◌, true, false, take, drop, sym, subst, ◌∙◌}
-use Rattle.nf_terms.specs.View.{monomial_in}
+use Rattle.nf_trees.specs.View.{monomial_in}
 use Rattle.nf_sums.specs.Accumulators.{stand_before, begins_behind, begins_with}
 use Rattle.nf_sums.proofs.Terms.{terms_in}
 use Rattle.nf_sums.proofs.Placed.{new_is, new_measured, old_is, old_measured}

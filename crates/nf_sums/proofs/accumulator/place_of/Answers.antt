@@ -1,7 +1,7 @@
 use Rattle.std.proofs.Common.{◌≡◌, ◌+◌, ◌-◌, ◌/◌, ◌<◌, true, false, length, arith, ap, sym, ◌∙◌}
 use Rattle.std.specs.Ordering.{is_lt}
-use Rattle.nf_terms.specs.View.{monomial_in}
-use Rattle.nf_terms.specs.Order.{cmp_monomial}
+use Rattle.nf_trees.specs.View.{monomial_in}
+use Rattle.nf_trees.specs.Order.{cmp_monomial}
 use Rattle.nf_sums.proofs.Placed.{before_more, behind_here}
 use Rattle.nf_sums.proofs.accumulator.place_of.Goals as goal
 

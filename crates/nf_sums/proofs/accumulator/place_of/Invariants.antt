@@ -1,6 +1,6 @@
 use Rattle.std.proofs.Common.{◌≡◌, ◌-◌, ◌≤◌, true, map, take, drop, length}
-use Rattle.nf_terms.specs.NormalTerms.{polynomial_of}
-use Rattle.nf_terms.specs.View.{monomial_in, term_in}
+use Rattle.nf_trees.specs.NormalTerms.{polynomial_of}
+use Rattle.nf_trees.specs.View.{monomial_in, term_in}
 use Rattle.nf_sums.specs.Accumulators.{stand_before, begins_behind}
 use Rattle.nf_sums.proofs.accumulator.place_of.Given as goal
 

@@ -1,5 +1,5 @@
 use Rattle.std.proofs.Common.{◌∙◌, arith}
-use Rattle.nf_terms.proofs.Loops.{one_more}
+use Rattle.nf_trees.proofs.Loops.{one_more}
 use Rattle.nf_sums.proofs.Negations.{opposite, negated_all}
 use Rattle.nf_sums.proofs.Turns.{weight_at}
 use Rattle.nf_sums.proofs.negation.negate_terms.Goals as goal

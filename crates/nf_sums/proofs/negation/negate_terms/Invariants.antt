@@ -1,5 +1,5 @@
 use Rattle.std.proofs.Common.{◌≡◌, ◌++◌, map, drop}
-use Rattle.nf_terms.specs.View.{term_in}
+use Rattle.nf_trees.specs.View.{term_in}
 use Rattle.nf_sums.proofs.Negations.{opposite}
 use Rattle.nf_sums.proofs.negation.negate_terms.Given as goal
 

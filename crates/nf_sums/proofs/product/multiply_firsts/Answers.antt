@@ -1,6 +1,6 @@
 use Rattle.std.proofs.Common.{◌*ℤ◌, refl}
 use Rattle.std.proofs.lemmas.Result.{on_ok_weaker}
-use Rattle.nf_terms.specs.View.{monomial_in}
+use Rattle.nf_trees.specs.View.{monomial_in}
 use Rattle.nf_sums.proofs.Products.{single_product, one_ordered, ones_narrow}
 use Rattle.nf_sums.proofs.product.multiply_firsts.Goals as goal
 

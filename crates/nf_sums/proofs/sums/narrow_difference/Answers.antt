@@ -1,5 +1,5 @@
 use Rattle.std.proofs.Common.{◌≡◌, true, arith, refl, ap, sym, subst, ◌∙◌}
-use Rattle.nf_terms.specs.Measures.{weight_of}
+use Rattle.nf_trees.specs.Measures.{weight_of}
 use Rattle.nf_terms.specs.Normal.{ordered}
 use Rattle.nf_terms.specs.RawSums.{raw_negation}
 use Rattle.nf_sums.proofs.Exact.{difference_gives}

@@ -1,12 +1,12 @@
 use Rattle.std.proofs.Common.{◌≡◌, ◌+◌, OnOk, ap, subst, sym, ◌∙◌, map, drop}
 use Rattle.std.proofs.lemmas.List.{at_drop_all}
 use Rattle.fs_model.proofs.Lists.{map_drop_next}
-use Rattle.nf_terms.specs.NormalTerms.{monomial_of, polynomial_of, writes_of}
+use Rattle.nf_trees.specs.NormalTerms.{monomial_of, polynomial_of, writes_of}
 use Rattle.nf_symbols.specs.GatheredSymbols.{with_atom, with_monomial, with_polynomial, with_writes, with_array}
-use Rattle.nf_terms.specs.View.{atom_in, polynomial_in, array_in, term_in, write_in}
-use Rattle.nf_terms.proofs.TreeParts.{atom_of_read}
-use Rattle.nf_terms.proofs.Compared.{polynomial_in-is}
-use Rattle.nf_terms.proofs.Degrees.{monomial_in-is}
+use Rattle.nf_trees.specs.View.{atom_in, polynomial_in, array_in, term_in, write_in}
+use Rattle.nf_trees.proofs.TreeParts.{atom_of_read}
+use Rattle.nf_trees.proofs.Compared.{polynomial_in-is}
+use Rattle.nf_trees.proofs.Degrees.{monomial_in-is}
 use Rattle.nf_symbols.proofs.Gathered.{with_pair}
 use Rattle.nf_terms.proofs.LastWrite.{array_in-is}
 use Rattle.nf_symbols.proofs.gathering.+symbols.Goals as goal

@@ -1,6 +1,6 @@
 use Rattle.std.proofs.Common.{◌≡◌, map, drop}
-use Rattle.nf_terms.specs.NormalTerms.{monomial_of, polynomial_of, writes_of}
-use Rattle.nf_terms.specs.View.{atom_in, term_in, write_in}
+use Rattle.nf_trees.specs.NormalTerms.{monomial_of, polynomial_of, writes_of}
+use Rattle.nf_trees.specs.View.{atom_in, term_in, write_in}
 use Rattle.nf_symbols.specs.GatheredSymbols.{with_monomial, with_polynomial, with_writes}
 use Rattle.nf_symbols.proofs.gathering.+symbols.Given as goal
 

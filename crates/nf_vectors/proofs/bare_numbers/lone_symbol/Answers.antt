@@ -1,7 +1,7 @@
 use Rattle.std.proofs.Common.{ap, sym, ◌∙◌, map}
-use Rattle.nf_terms.specs.NormalTerms.{monomial_of}
-use Rattle.nf_terms.specs.View.{atom_in}
-use Rattle.nf_terms.proofs.Degrees.{monomial_in-is}
+use Rattle.nf_trees.specs.NormalTerms.{monomial_of}
+use Rattle.nf_trees.specs.View.{atom_in}
+use Rattle.nf_trees.proofs.Degrees.{monomial_in-is}
 use Rattle.nf_vectors.specs.BareNumbers.{lone_symbol}
 use Rattle.nf_vectors.proofs.LoneSymbols.{two_atoms}
 use Rattle.nf_vectors.proofs.bare_numbers.lone_symbol.Goals as goal

@@ -1,6 +1,6 @@
 use Rattle.std.proofs.Common.{◌∙◌}
-use Rattle.nf_terms.specs.View.{term_in}
-use Rattle.nf_terms.proofs.Loops.{one_more, all_there}
+use Rattle.nf_trees.specs.View.{term_in}
+use Rattle.nf_trees.proofs.Loops.{one_more, all_there}
 use Rattle.propagate_equations.proofs.splits.push_terms.Goals as goal
 
 pub loop-mono-preserved : goal.loop-mono-preserved

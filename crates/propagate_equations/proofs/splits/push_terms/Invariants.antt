@@ -1,5 +1,5 @@
 use Rattle.std.proofs.Common.{◌≡◌, ◌++◌, map, drop}
-use Rattle.nf_terms.specs.View.{term_in}
+use Rattle.nf_trees.specs.View.{term_in}
 use Rattle.propagate_equations.proofs.splits.push_terms.Given as goal
 
 abbrev pub invariant-loop-mono : goal.invariant-loop-mono

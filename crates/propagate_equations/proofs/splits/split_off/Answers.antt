@@ -1,5 +1,5 @@
 use Rattle.std.proofs.Common.{ap, sym, ◌∙◌, map, take, Some}
-use Rattle.nf_terms.specs.View.{term_in}
+use Rattle.nf_trees.specs.View.{term_in}
 use Rattle.propagate_equations.specs.Equations.{split_off_symbol}
 use Rattle.propagate_equations.proofs.Splitting.{split_here, none_split}
 use Rattle.propagate_equations.proofs.SplitTurns.{splits_in_turn}

@@ -1,5 +1,5 @@
 use Rattle.std.proofs.Common.{◌≡◌, [], map, take, drop}
-use Rattle.nf_terms.specs.View.{term_in}
+use Rattle.nf_trees.specs.View.{term_in}
 use Rattle.propagate_equations.specs.EquationSteps.{split_from}
 use Rattle.propagate_equations.proofs.splits.split_off.Given as goal
 

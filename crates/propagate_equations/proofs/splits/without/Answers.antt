@@ -1,7 +1,7 @@
 use Rattle.std.proofs.Common.{ap, sym, subst, ◌∙◌}
-use Rattle.nf_terms.specs.NormalTerms.{polynomial_of}
+use Rattle.nf_trees.specs.NormalTerms.{polynomial_of}
 use Rattle.nf_terms.specs.Normal.{IsNormal}
-use Rattle.nf_terms.specs.View.{term_in}
+use Rattle.nf_trees.specs.View.{term_in}
 use Rattle.propagate_equations.proofs.Without.{rest_normal, without_place}
 use Rattle.propagate_equations.proofs.splits.without.Goals as goal
 

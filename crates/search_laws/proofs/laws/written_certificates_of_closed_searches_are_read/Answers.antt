@@ -1,4 +1,4 @@
-use Rattle.search_laws.specs.WrittenCertificates.{certificate_text}
+use Rattle.cert_writer.specs.WrittenCertificates.{certificate_text}
 use Rattle.search_laws.proofs.laws.written_certificates_of_closed_searches_are_read.Goals as goal
 
 pub returns-clause-spelled : goal.returns-clause-spelled

@@ -1,12 +1,12 @@
 use Rattle.std.proofs.Common.{rules, ◌≡◌, ◌+◌, ◌++◌, map, drop, refl, ap, sym, ◌∙◌}
 use Rattle.std.proofs.lemmas.List.{at_drop_all}
 use Rattle.fs_model.proofs.Lists.{map_drop_next}
-use Rattle.nf_terms.specs.NormalTerms.{monomial_of, polynomial_of, writes_of}
-use Rattle.nf_terms.proofs.Compared.{polynomial_in-is}
-use Rattle.nf_terms.proofs.Degrees.{monomial_in-is}
+use Rattle.nf_trees.specs.NormalTerms.{monomial_of, polynomial_of, writes_of}
+use Rattle.nf_trees.proofs.Compared.{polynomial_in-is}
+use Rattle.nf_trees.proofs.Degrees.{monomial_in-is}
 use Rattle.nf_terms.proofs.LastWrite.{array_in-is}
 use Rattle.nf_terms.specs.Symbols.{symbols_of_base, symbols_of_atom, symbols_of_monomial, symbols_of, symbols_of_writes, symbols_of_array}
-use Rattle.nf_terms.specs.View.{atom_in, monomial_in, polynomial_in, array_in, term_in, write_in}
+use Rattle.nf_trees.specs.View.{atom_in, monomial_in, polynomial_in, array_in, term_in, write_in}
 use Rattle.nf_trees.specs.declared.tree.ArrTree.{out-ArrTree}
 use Rattle.nf_trees.specs.declared.tree.Atom.{the_lemmas}
 use Rattle.sym_facts.specs.PositionSets.{with_symbols}

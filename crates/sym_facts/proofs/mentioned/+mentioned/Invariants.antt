@@ -1,6 +1,6 @@
 use Rattle.std.proofs.Common.{◌≡◌, map, drop}
-use Rattle.nf_terms.specs.NormalTerms.{monomial_of, polynomial_of, writes_of}
-use Rattle.nf_terms.specs.View.{atom_in, term_in, write_in}
+use Rattle.nf_trees.specs.NormalTerms.{monomial_of, polynomial_of, writes_of}
+use Rattle.nf_trees.specs.View.{atom_in, term_in, write_in}
 use Rattle.nf_terms.specs.Symbols.{symbols_of_monomial, symbols_of, symbols_of_writes}
 use Rattle.sym_facts.specs.PositionSets.{with_symbols}
 use Rattle.sym_facts.specs.View.{set_in}

@@ -1,6 +1,6 @@
 use Rattle.std.proofs.Common.{Ok, Err, sym, ◌∙◌}
-use Rattle.nf_terms.specs.NormalTerms as terms
-use Rattle.nf_terms.specs.View.{array_in}
+use Rattle.nf_trees.specs.NormalTerms as terms
+use Rattle.nf_trees.specs.View.{array_in}
 use Rattle.term_text.specs.TermTexts.{array}
 use Rattle.term_text.specs.View.{written_array_in}
 use Rattle.term_values.specs.declared.faults.TermError.TheVariants.{NotNormal}

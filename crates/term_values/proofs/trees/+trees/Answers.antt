@@ -2,8 +2,8 @@ use Rattle.std.proofs.Common.{◌≡◌, ◌++◌, IfOk, map, ap, subst, ◌∙�
 use Rattle.std.proofs.lemmas.Result.{IfOk-at_ok}
 use Rattle.std.specs.Int.{w128}
 use Rattle.std.proofs.lemmas.Int.{to_z-of_z}
-use Rattle.nf_terms.specs.NormalTerms as terms
-use Rattle.nf_terms.specs.View as view
+use Rattle.nf_trees.specs.NormalTerms as terms
+use Rattle.nf_trees.specs.View as view
 use Rattle.term_text.specs.declared.tree.WrittenMonomial.{out-WrittenMonomial}
 use Rattle.term_text.specs.declared.tree.WrittenArray.{out-WrittenArray}
 use Rattle.term_text.specs.View as text

@@ -1,6 +1,6 @@
 use Rattle.std.proofs.Common.{◌≡◌, ◌++◌, map, drop}
-use Rattle.nf_terms.specs.NormalTerms as terms
-use Rattle.nf_terms.specs.View as view
+use Rattle.nf_trees.specs.NormalTerms as terms
+use Rattle.nf_trees.specs.View as view
 use Rattle.term_text.specs.declared.tree.WrittenArray.{out-WrittenArray}
 use Rattle.term_text.specs.View as text
 use Rattle.term_values.specs.TermValues.{within_limit, atom_value, atoms_of, polynomial_value, array_value}

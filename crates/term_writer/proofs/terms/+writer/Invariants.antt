@@ -1,6 +1,6 @@
 use Rattle.std.proofs.Common.{◌≡◌, ◌++◌, map, drop}
-use Rattle.nf_terms.specs.NormalTerms.{monomial_of, polynomial_of, writes_of}
-use Rattle.nf_terms.specs.View.{atom_in, monomial_in, term_in, write_in, array_in, polynomial_in}
+use Rattle.nf_trees.specs.NormalTerms.{monomial_of, polynomial_of, writes_of}
+use Rattle.nf_trees.specs.View.{atom_in, monomial_in, term_in, write_in, array_in, polynomial_in}
 use Rattle.term_writer.specs.Direct.{monomial_direct, polynomial_direct, atoms_direct, terms_direct, writes_direct, array_direct}
 use Rattle.term_writer.proofs.terms.+writer.Given as goal
 

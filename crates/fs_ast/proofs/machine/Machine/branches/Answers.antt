@@ -17,6 +17,7 @@ returns-clause-branches c =
     let states = map resolved_state m.states.items in
     let low : q < length states = subst (λ x. q < length x.states) (sym c.self.view_is) c.requires in
     ap (map branch_of) c.as_slice.ensures.value
-    ∙ same_at (λ b. map branch_of b.items) (λ (s : State). branches_of s.lines) m.branches.items states c.self.invariant.branched q c.index.result.now no_state
+    ∙ same_at (λ b. map branch_of b.items) (λ (s : State). branches_of s.transitions) m.branches.items states c.self.invariant.branched q c.index.result.now
+    no_state
     low (c.index.ensures ∙ ap (λ (x : StoredMachine). slice_index_or x.branches.items q c.index.result.now) c.deref.ensures)
     ∙ ap (λ x. branches_of (transitions_of x q)) c.self.view_is

@@ -7,7 +7,7 @@ use Rattle.fs_model.proofs.Lists.{map_map}
 use Rattle.fs_model.specs.View.{named_assignment}
 use Rattle.fs_model.specs.Renamed.{assignment_over}
 use Rattle.fs_rules.specs.MachineOfParts.{place_or_end, names_of}
-use Rattle.fs_rules.specs.SoundParts.{assigned_in, all_differ}
+use Rattle.fs_model.specs.SoundMachines.{assigned_in, all_differ}
 use Rattle.fs_rules.proofs.Uses.{seen_start, seen_more, seen_again, seen_all}
 use Rattle.fs_rules.proofs.scope.Scope.assigns_twice.Goals as goal
 

@@ -3,7 +3,7 @@ use Rattle.std.specs.Prelude.{map}
 use Rattle.fs_model.specs.View.{named_assignment}
 use Rattle.fs_model.specs.Renamed.{assignment_over}
 use Rattle.fs_rules.specs.MachineOfParts.{place_or_end, names_of}
-use Rattle.fs_rules.specs.SoundParts.{scalars_in_assignments, arrays_in_assignments, ports_in_assignments}
+use Rattle.fs_model.specs.SoundMachines.{scalars_in_assignments, arrays_in_assignments, ports_in_assignments}
 use Rattle.fs_rules.specs.Uses.{uses_of}
 use Rattle.fs_rules.proofs.scope.Scope.assigns_uses.Given as goal
 

@@ -6,7 +6,7 @@ use Rattle.fs_model.proofs.Quantifiers.{list_any_map}
 use Rattle.fs_model.specs.View.{named_assignment}
 use Rattle.fs_model.specs.Renamed.{assignment_over}
 use Rattle.fs_rules.specs.MachineOfParts.{place_or_end, names_of}
-use Rattle.fs_rules.specs.SoundParts.{input_at, changed_by}
+use Rattle.fs_model.specs.SoundMachines.{input_at, changed_by}
 use Rattle.fs_rules.proofs.scope.Scope.some_changes_input.Goals as goal
 
 pub returns : goal.returns

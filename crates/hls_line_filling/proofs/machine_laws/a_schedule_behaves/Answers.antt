@@ -1,5 +1,0 @@
-use Rattle.hls_line_filling.proofs.Schedules.{behaves}
-use Rattle.hls_line_filling.proofs.machine_laws.a_schedule_behaves.Goals as goal
-
-pub returns : goal.returns
-returns c = behaves

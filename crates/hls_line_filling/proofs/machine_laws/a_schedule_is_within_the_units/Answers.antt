@@ -1,5 +1,0 @@
-use Rattle.hls_line_filling.proofs.Within.{stays_within}
-use Rattle.hls_line_filling.proofs.machine_laws.a_schedule_is_within_the_units.Goals as goal
-
-pub returns : goal.returns
-returns c = stays_within

@@ -1,5 +1,0 @@
-use Rattle.hls_line_filling.proofs.Once.{assigns_once}
-use Rattle.hls_line_filling.proofs.placing_laws.a_row_assigns_no_scalar_twice.Goals as goal
-
-pub returns : goal.returns
-returns c = assigns_once

@@ -1,5 +1,0 @@
-use Rattle.hls_line_filling.proofs.Found.{text_by_rows}
-use Rattle.hls_line_filling.proofs.source_laws.rows_decide_the_text.Goals as goal
-
-pub returns : goal.returns
-returns c = text_by_rows
