@@ -29,13 +29,13 @@ abbrev AllPart : List Branch → Type 0
 AllPart [] = Unit {0}
 AllPart (x ∷ xs) = PartsFrom x xs × AllPart xs
 
-one_more : (way : List (Literal ℕ)) (l : Literal ℕ) (rest : List (Literal ℕ)) → (way ++ l ∷ []) ++ rest ≡ way ++ l ∷ rest
-one_more [] l rest = refl
-one_more (x ∷ way) l rest = ap (λ z. x ∷ z) (one_more way l rest)
+append_behind_last : (way : List (Literal ℕ)) (l : Literal ℕ) (rest : List (Literal ℕ)) → (way ++ l ∷ []) ++ rest ≡ way ++ l ∷ rest
+append_behind_last [] l rest = refl
+append_behind_last (x ∷ way) l rest = ap (λ z. x ∷ z) (append_behind_last way l rest)
 
 shorter : (way : List (Literal ℕ)) (l : Literal ℕ) (bs : List Branch) → Begins (way ++ l ∷ []) bs → Begins way bs
 shorter way l [] h = tt
-shorter way l (b ∷ bs) (h, hs) = (record { rest = l ∷ h.rest; whole = h.whole ∙ one_more way l h.rest }, shorter way l bs hs)
+shorter way l (b ∷ bs) (h, hs) = (record { rest = l ∷ h.rest; whole = h.whole ∙ append_behind_last way l h.rest }, shorter way l bs hs)
 
 begins_both : (way : List (Literal ℕ)) (xs ys : List Branch) → Begins way xs → Begins way ys → Begins way (xs ++ ys)
 begins_both way [] ys h g = g
@@ -66,8 +66,8 @@ across way l x (y ∷ ys) h (g, gs) = (
     literal = l;
     mine = h.rest;
     theirs = g.rest;
-    first = h.whole ∙ one_more way l h.rest;
-    second = g.whole ∙ one_more way (negated_literal l) g.rest;
+    first = h.whole ∙ append_behind_last way l h.rest;
+    second = g.whole ∙ append_behind_last way (negated_literal l) g.rest;
   },
   across way l x ys h gs,
 )

@@ -54,10 +54,10 @@ AreNone [] = Unit {0}
 AreNone (None ∷ rs) = AreNone rs
 AreNone (Some r ∷ rs) = ⊥
 
-pub one_more : (rs : List (Option ReadText)) → AreNone rs → AreNone (rs ++ None ∷ [])
-one_more [] h = tt
-one_more (None ∷ rs) h = one_more rs h
-one_more (Some r ∷ rs) h = absurd h
+pub append_keeps_none : (rs : List (Option ReadText)) → AreNone rs → AreNone (rs ++ None ∷ [])
+append_keeps_none [] h = tt
+append_keeps_none (None ∷ rs) h = append_keeps_none rs h
+append_keeps_none (Some r ∷ rs) h = absurd h
 
 none_there : (P : ℕ → ReadText → Type 0) (rs : List (Option ReadText)) → AreNone rs → All P rs
 none_there P [] h k r e = absurd (cc e)

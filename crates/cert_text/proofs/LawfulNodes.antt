@@ -48,9 +48,9 @@ differ_last (x ∷ xs) n h e =
     (differ_last xs n (and_second (not (list_any test xs)) (points_differ xs) h) f.1)
 
 -- a node more, at other points
-one_more : (a b : Fsmd) (ps : List Position) (ns : List (Node Fact)) (n : Node Fact) → AreNodesOf a b ps ns → IsNodeOf a b ps n
+append_keeps_nodes : (a b : Fsmd) (ps : List Position) (ns : List (Node Fact)) (n : Node Fact) → AreNodesOf a b ps ns → IsNodeOf a b ps n
     → list_any (node_is_at n.left n.right) ns ≡ false → AreNodesOf a b ps (ns ++ n ∷ [])
-one_more a b ps ns n h i e = record { each = all_last (IsNodeOf a b ps) ns n h.each i; differ = differ_last ns n h.differ e }
+append_keeps_nodes a b ps ns n h i e = record { each = all_last (IsNodeOf a b ps) ns n h.each i; differ = differ_last ns n h.differ e }
 
 -- the same of nodes of the code
 pub pushed : (a b : Fsmd) (ps : List Position) (xs olds ys : List CodeNode) (x : CodeNode) → xs ≡ olds → ys ≡ olds ++ x ∷ [] → IsNodeOf a b ps (node_of x)
@@ -58,7 +58,7 @@ pub pushed : (a b : Fsmd) (ps : List Position) (xs olds ys : List CodeNode) (x :
     → AreNodesOf a b ps (map node_of olds) → AreNodesOf a b ps (map node_of ys)
 pushed a b ps xs olds ys x same e i free h =
     subst (AreNodesOf a b ps) (sym (ap (map node_of) e ∙ map_push node_of olds x))
-    (one_more a b ps (map node_of olds) (node_of x) h i
+    (append_keeps_nodes a b ps (map node_of olds) (node_of x) h i
     (subst (λ zs. list_any (node_is_at (node_of x).left (node_of x).right) (map node_of zs) ≡ false) same free))
 
 -- nodes of two machines are lawful where they are few

@@ -29,10 +29,11 @@ done_all : {X : Type 0} (f : X → Data) (done : List Data) (xs : List X) (k : �
 done_all f done xs k h e = sym (append-nil done) ∙ ap (λ ys. done ++ map f ys) (sym (drop_all k xs h)) ∙ e
 
 -- one value more
-pub one_more : {X : Type 0} (f : X → Data) (old new : List Value) (v : Value) (xs : List X) (k : ℕ) (x : X) → k < length xs → x ≡ get_or xs k x → view v ≡ f x
+pub append_value_keeps_whole : {X : Type 0} (f : X → Data) (old new : List Value) (v : Value) (xs : List X) (k : ℕ) (x : X) → k < length xs
+    → x ≡ get_or xs k x → view v ≡ f x
     → new ≡ old ++ v ∷ []
     → map view old ++ map f (drop k xs) ≡ map f xs → map view new ++ map f (drop (k + 1) xs) ≡ map f xs
-one_more f old new v xs k x h e g n w =
+append_value_keeps_whole f old new v xs k x h e g n w =
     let j : suc k ≡ k + 1 = omega arith in
     let more : drop k xs ≡ x ∷ drop (k + 1) xs = drop-cons xs k x h ∙ ap (λ y. y ∷ drop (suc k) xs) (sym e) ∙ ap (λ i. x ∷ drop i xs) j in
     ap (λ vs. map view vs ++ map f (drop (k + 1) xs)) n ∙ ap (λ ds. ds ++ map f (drop (k + 1) xs)) (map_push view old v)

@@ -45,14 +45,14 @@ module _ (m : Fsmd) where
         let is_p : IsPath m p = record { point = h; goes = d; numbered = (takes_branch m sound q s i).within; rest = f.rest; left = refl; passes = f.passes } in
         (p, f.paths, refl, is_p, f.chain, ap (λ (l : List BranchStep). step_at m q s ∷ l) f.all)
 
-    one_more : (q : ℕ) (s : Store) (rest : List BranchStep) (b : Bool) → q < length m.states → q ≢ m.reset → is_cutpoint m q ≡ b
+    front_with_step_before : (q : ℕ) (s : Store) (rest : List BranchStep) (b : Bool) → q < length m.states → q ≢ m.reset → is_cutpoint m q ≡ b
         → Front m (target_of m q (branch_taken m q s)) rest → Front m q (step_at m q s ∷ rest)
-    one_more q s rest true h r c f =
+    front_with_step_before q s rest true h r c f =
         let t : (q == m.reset) ≡ false = grind (arith, nat_tests) in
         let fork : is_fork m q ≡ true = grind (arith, nat_tests) in
         let d = front_path (At q) s rest fork (λ e. cc e) h f in
         record { rest = []; to = At q; paths = d.0 ∷ d.1; passes = (c, sym (ap (λ (b : Bool). cond b Done (At q)) t)); chain = (d.2, d.3, d.4); all = d.5 }
-    one_more q s rest false h r c f =
+    front_with_step_before q s rest false h r c f =
         let z = only_branch m sound q s h c in
         let same : only_step q ≡ step_at m q s = ap (λ (b : ℕ). record { state = q; branch = b }) (sym z) in
         record {
@@ -68,7 +68,7 @@ module _ (m : Fsmd) where
     front zero q s t h r = at_reset q r.0
     front (suc n) q s t h r =
         let k = branch_taken m q s in
-        one_more q s _ (is_cutpoint m q) h r.0 refl
+        front_with_step_before q s _ (is_cutpoint m q) h r.0 refl
         (front n (target_of m q k) (store_after m (step_at m q s) s) t (target_in m sound q k (takes_branch m sound q s h).within)
         (step_down m sound q s (λ x u. ReachesReset m n x u t) h r.1))
 

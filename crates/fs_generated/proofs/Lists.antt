@@ -85,9 +85,10 @@ made_more f a (suc n) =
     ∙ ap (λ m. (f a ++ flat_map f (range_with_len (a + 1) n)) ++ f m) same
 
 -- what one more number makes is appended
-pub one_more : {X Y : Type 0} (g : X → Y) (f : ℕ → List Y) (k : ℕ) (old new round : List X) → map g old ≡ flat_map f (range_with_len 0 k) → new ≡ old ++ round
+pub flat_map_grows : {X Y : Type 0} (g : X → Y) (f : ℕ → List Y) (k : ℕ) (old new round : List X) → map g old ≡ flat_map f (range_with_len 0 k)
+    → new ≡ old ++ round
     → map g round ≡ f k → map g new ≡ flat_map f (range_with_len 0 (k + 1))
-one_more g f k old new round before put made =
+flat_map_grows g f k old new round before put made =
     rw add-one
     (ap (map g) put ∙ map-append g old round ∙ ap (λ r. r ++ map g round) before ∙ ap (λ r. flat_map f (range_with_len 0 k) ++ r) made
     ∙ sym (made_more f 0 k ∙ ap (λ m. flat_map f (range_with_len 0 k) ++ f m) (zero-add k)))

@@ -39,8 +39,8 @@ use Rattle.fs_grammar.proofs.Reached.{BeforeSum, Reached}
 pub snoc : (ws a b : List Word) (w : Word) → ws ≡ a ++ b → ws ++ w ∷ [] ≡ a ++ (b ++ w ∷ [])
 snoc ws a b w e = ap (λ (l : List Word). l ++ w ∷ []) e ∙ append_assoc a b (w ∷ [])
 
-one_more : {P : List Word → Type 0} (v ws : List Word) (w : Word) (h : Cut P (Is v) ws) → ws ++ w ∷ [] ≡ h.a ++ (v ++ w ∷ [])
-one_more v ws w h = snoc ws h.a v w (h.is ∙ ap (λ (l : List Word). h.a ++ l) h.back)
+snoc_cut : {P : List Word → Type 0} (v ws : List Word) (w : Word) (h : Cut P (Is v) ws) → ws ++ w ∷ [] ≡ h.a ++ (v ++ w ∷ [])
+snoc_cut v ws w h = snoc ws h.a v w (h.is ∙ ap (λ (l : List Word). h.a ++ l) h.back)
 
 sum_at : (k : SumContext) (ws : List Word) → BeforeSum k ws → BeforeFactor (first_factor (first_product k)) ws
 sum_at k ws h = before.first_factor (first_product k) ws (before.first_product k ws h)
@@ -321,7 +321,7 @@ array_kept f n m r ds ws h = record {
   b = at n (Declare r) ∷ at m Array ∷ [];
   front = h.front;
   back = record { a = at n (Declare r) ∷ at m Array ∷ []; b = []; front = grammar.arrays f n m r; back = before.no_name; is = refl };
-  is = one_more (at n (Declare r) ∷ []) ws (at m Array) h;
+  is = snoc_cut (at n (Declare r) ∷ []) ws (at m Array) h;
 }
 
 scalar_kept : (f : Format) (n m : ℕ) (r : Role) (x : List ℕ) (ds : List Declaration) (ws : List Word) → Cut (IsHead f ds) (Is (at n (Declare r) ∷ [])) ws
@@ -331,7 +331,7 @@ scalar_kept f n m r x ds ws h = record {
   b = at n (Declare r) ∷ at m (Name x) ∷ [];
   front = h.front;
   back = record { a = at n (Declare r) ∷ []; b = at m (Name x) ∷ []; front = grammar.scalars f n r; back = grammar.one_name m x; is = refl };
-  is = one_more (at n (Declare r) ∷ []) ws (at m (Name x)) h;
+  is = snoc_cut (at n (Declare r) ∷ []) ws (at m (Name x)) h;
 }
 
 port_kept : (f : Format) (n : ℕ) (ds : List Declaration) (ws : List Word) → IsHead f ds ws
@@ -399,7 +399,7 @@ reset_kept : (f : Format) (n m : ℕ) (x : List ℕ) (ds : List Declaration) (ws
     → AfterReset f (record { declarations = ds; reset_line = n; reset = x; states = [] }) (ws ++ at m (Name x) ∷ [])
 reset_kept f n m x ds ws h =
     subst (λ (l : List Word). AfterReset f (record { declarations = ds; reset_line = n; reset = x; states = [] }) l)
-    (sym (one_more (at n Reset ∷ []) ws (at m (Name x)) h)) (before.reset f n m ds x h.a h.front)
+    (sym (snoc_cut (at n Reset ∷ []) ws (at m (Name x)) h)) (before.reset f n m ds x h.a h.front)
 
 file_kept : (f : Format) (s : Source) (ws : List Word) → AfterReset f s ws → (l : ℕ) → IsFile f s (ws ++ at l Semicolon ∷ [])
 file_kept _ _ _ (before.reset f n m ds x a h) l =
@@ -410,7 +410,7 @@ state_kept : (f : Format) (s : Source) (n m : ℕ) (x : List ℕ) (ws : List Wor
     → AfterState (record { format = f; source = s; state = record { line = n; name = x; transitions = [] } }) (ws ++ at m (Name x) ∷ [])
 state_kept f s n m x ws h =
     subst (λ (l : List Word). AfterState (record { format = f; source = s; state = record { line = n; name = x; transitions = [] } }) l)
-    (sym (one_more (at n State ∷ []) ws (at m (Name x)) h)) (before.named f n m s x h.a h.front)
+    (sym (snoc_cut (at n State ∷ []) ws (at m (Name x)) h)) (before.named f n m s x h.a h.front)
 
 open_state_kept : (d : OpenState) (ws : List Word) → AfterState d ws → (k : ℕ) → IsOpenState d (ws ++ at k Colon ∷ [])
 open_state_kept _ _ (before.named f n m s x a h) k = record {
@@ -509,15 +509,15 @@ keeps (at_assignment o) n (Name x) ws h = (n, record { a = ws; b = at n (Name x)
 keeps (at_assignment o) n Emit ws h = emit_kept n o ws h o.state.format refl
 keeps (at_assignment o) n _ ws h = tt
 keeps (at_port o) n (Name x) ws h =
-    subst (λ (l : List Word). BeforeFactor (first_factor (first_product (value o (port x)))) l) (sym (one_more (at h.0 Emit ∷ []) ws (at n (Name x)) h.2))
+    subst (λ (l : List Word). BeforeFactor (first_factor (first_product (value o (port x)))) l) (sym (snoc_cut (at h.0 Emit ∷ []) ws (at n (Name x)) h.2))
     (sum_at (value o (port x)) (h.2.a ++ (at h.0 Emit ∷ at n (Name x) ∷ [])) (before.emitted h.0 n o x h.2.a h.1 h.2.front))
 keeps (at_port o) n _ ws h = tt
 keeps (after_assignment_name o x) n Equals ws h =
-    subst (λ (l : List Word). BeforeFactor (first_factor (first_product (value o (scalar x)))) l) (sym (one_more (at h.0 (Name x) ∷ []) ws (at n Equals) h.1))
+    subst (λ (l : List Word). BeforeFactor (first_factor (first_product (value o (scalar x)))) l) (sym (snoc_cut (at h.0 (Name x) ∷ []) ws (at n Equals) h.1))
     (sum_at (value o (scalar x)) (h.1.a ++ (at h.0 (Name x) ∷ at n Equals ∷ []))
     (before.value n o (scalar x) h.1.a (at h.0 (Name x) ∷ []) h.1.front (grammar.scalar_name h.0 x)))
 keeps (after_assignment_name o x) n OpenBracket ws h =
-    subst (λ (l : List Word). BeforeFactor (first_factor (first_product (write_index o x))) l) (sym (one_more (at h.0 (Name x) ∷ []) ws (at n OpenBracket) h.1))
+    subst (λ (l : List Word). BeforeFactor (first_factor (first_product (write_index o x))) l) (sym (snoc_cut (at h.0 (Name x) ∷ []) ws (at n OpenBracket) h.1))
     (sum_at (write_index o x) (h.1.a ++ (at h.0 (Name x) ∷ at n OpenBracket ∷ [])) (before.write_index h.0 n o x h.1.a h.1.front))
 keeps (after_assignment_name o x) n _ ws h = tt
 keeps (at_equals o d) n Equals ws h =

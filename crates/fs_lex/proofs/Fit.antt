@@ -126,8 +126,8 @@ IsFit (after_sum e k) = IsNatural e × IsFitForSum k
 
 -- ---- lists and parts that grow
 
-one_more : {X : Type 0} (p : X → Bool) (xs : List X) (x : X) → IsTrue (list_all p xs) → IsTrue (p x) → IsTrue (list_all p (xs ++ x ∷ []))
-one_more p xs x h j = list_all-append p xs (x ∷ []) ∙ and_from (list_all p xs) (p x && true) h (and_from (p x) true j refl)
+list_all_with_last : {X : Type 0} (p : X → Bool) (xs : List X) (x : X) → IsTrue (list_all p xs) → IsTrue (p x) → IsTrue (list_all p (xs ++ x ∷ []))
+list_all_with_last p xs x h j = list_all-append p xs (x ∷ []) ∙ and_from (list_all p xs) (p x && true) h (and_from (p x) true j refl)
 
 snoc_some : (xs : List (List ℕ)) (x : List ℕ) → IsTrue (not (length (xs ++ x ∷ []) == 0))
 snoc_some xs x = grind (arith, length-append xs (x ∷ []))
@@ -136,14 +136,14 @@ state_ends : (d : OpenState) → IsFitState d → IsTrue (is_well_formed (with_o
 state_ends d h =
     and_from (list_all is_well_formed_declaration d.source.declarations) (list_all is_well_formed_state (d.source.states ++ d.state ∷ []))
     (and_first (list_all is_well_formed_declaration d.source.declarations) (list_all is_well_formed_state d.source.states) h.source)
-    (one_more is_well_formed_state d.source.states d.state
+    (list_all_with_last is_well_formed_state d.source.states d.state
     (and_second (list_all is_well_formed_declaration d.source.declarations) (list_all is_well_formed_state d.source.states) h.source) h.transitions)
 
 transition_ends : (o : OpenTransition) → IsFitTransition o → IsFitState (close_transition o)
 transition_ends o h =
     record {
       source = h.state.source;
-      transitions = one_more is_well_formed_transition o.state.state.transitions (transition_read o) h.state.transitions
+      transitions = list_all_with_last is_well_formed_transition o.state.state.transitions (transition_read o) h.state.transitions
           (and_from (is_well_formed_condition o.guard) (list_all is_well_formed_assignment o.assignments) h.guard h.assignments);
     }
 
@@ -164,7 +164,7 @@ assignment_read : (o : OpenTransition) (d : Destination) (e : Expression (List �
 assignment_read o d e h j n b = record {
   state = h.state;
   guard = h.guard;
-  assignments = one_more is_well_formed_assignment o.assignments (destination_assignment d e) h.assignments (assignment_fits d e j n b);
+  assignments = list_all_with_last is_well_formed_assignment o.assignments (destination_assignment d e) h.assignments (assignment_fits d e j n b);
 }
 
 guard_fits : (g : Guard (List ℕ)) → IsNaturalGuard g → operators_of_guard g ≤ 128 → IsTrue (is_well_formed_condition (Some g))
@@ -294,7 +294,7 @@ step_keeps (at_sort f ds m r) n _ p h b = tt
 step_keeps (at_declared f ds d) n (Name x) p h b = (h.0, and_from (not (length (d.names ++ x ∷ []) == 0)) (is_no_port_or_output d) (snoc_some d.names x) h.1)
 step_keeps (at_declared f ds d) n _ p h b = tt
 step_keeps (after_declared f ds d) n Comma p h b = (h.0, and_second (not (length d.names == 0)) (is_no_port_or_output d) h.1)
-step_keeps (after_declared f ds d) n Semicolon p h b = one_more is_well_formed_declaration ds d h.0 h.1
+step_keeps (after_declared f ds d) n Semicolon p h b = list_all_with_last is_well_formed_declaration ds d h.0 h.1
 step_keeps (after_declared f ds d) n _ p h b = tt
 step_keeps (at_reset f ds m) n (Name x) p h b = and_from (list_all is_well_formed_declaration ds) true h refl
 step_keeps (at_reset f ds m) n _ p h b = tt

@@ -54,16 +54,17 @@ name_spelled own n =
     let free : reserved_kind own ≡ None = none_of (reserved_kind own) (sym (reserved_tells own) ∙ not-true (is_reserved own) two.1) in
     kind_of_word own None word free ∙ ap (λ (b : Bool). cond b (Name own) (Bad flaws.Word)) n
 
-not_both : (n : ℕ) → 32 < n → nat_le n 32 ≡ true → ⊥
-not_both n h e = grind (arith, h, e)
+above_32_is_not_within : (n : ℕ) → 32 < n → nat_le n 32 ≡ true → ⊥
+above_32_is_not_within n h e = grind (arith, h, e)
 
 pub long_spelled : (own : List ℕ) → IsTrue (is_word own) → 32 < length own → spelled own ≡ Bad flaws.Word
 long_spelled own w h =
     let free : reserved_kind own ≡ None =
-    none_unless (reserved_kind own) (λ t q. not_both (length own) h (so_of_key (λ (k : List ℕ). nat_le (length k) 32) reserved_tokens own t refl q)) in
+    none_unless (reserved_kind own) (λ t q. above_32_is_not_within (length own) h
+    (so_of_key (λ (k : List ℕ). nat_le (length k) 32) reserved_tokens own t refl q)) in
     let no_name : is_name own ≡ false =
     false_unless (is_name own)
-    (λ n. not_both (length own) h
+    (λ n. above_32_is_not_within (length own) h
     (and_parts (is_word own) (nat_le (length own) 32) (and_parts (is_word own && nat_le (length own) 32) (not (is_reserved own)) n).0).1) in
     kind_of_word own None w free ∙ ap (λ (b : Bool). cond b (Name own) (Bad flaws.Word)) no_name
 

@@ -53,5 +53,5 @@ one_source bytes s r t u = same_source (reading (tokens_of bytes) at_start) s r 
 pub one_fault : (bytes : List ℕ) (f g : TextFault) → TextStops bytes f → TextStops bytes g → f ≡ g
 one_fault bytes f g t u = same_fault (reading (tokens_of bytes) at_start) f g (refuses bytes f t) (refuses bytes g u)
 
-pub not_both : (bytes : List ℕ) (s : Source) (f : TextFault) → TextSpells bytes s → TextStops bytes f → ⊥
-not_both bytes s f t u = differ (reading (tokens_of bytes) at_start) s f (reads bytes s t) (refuses bytes f u)
+pub spelled_text_never_stops : (bytes : List ℕ) (s : Source) (f : TextFault) → TextSpells bytes s → TextStops bytes f → ⊥
+spelled_text_never_stops bytes s f t u = differ (reading (tokens_of bytes) at_start) s f (reads bytes s t) (refuses bytes f u)

@@ -126,10 +126,10 @@ more_tokens : (front bytes : List ℕ) (t : Token) (ts : List Token) (n : IsNext
 more_tokens front bytes t [] n e h = absurd h
 more_tokens front bytes t (u ∷ ts) n e h = (n, e, h)
 
-one_more : (b : Bool) (front bytes : List ℕ) (t : Token) (ts : List Token) (n : IsNextToken front bytes t) → ends_text t.kind ≡ b
+next_token_begins_tokens : (b : Bool) (front bytes : List ℕ) (t : Token) (ts : List Token) (n : IsNextToken front bytes t) → ends_text t.kind ≡ b
     → (b ≡ false → AreTokens (front ++ (n.gap ++ n.own)) n.rest ts) → AreTokens front bytes (t ∷ cond b [] ts)
-one_more true front bytes t ts n e f = (n, e)
-one_more false front bytes t ts n e f = more_tokens front bytes t ts n e (f refl)
+next_token_begins_tokens true front bytes t ts n e f = (n, e)
+next_token_begins_tokens false front bytes t ts n e f = more_tokens front bytes t ts n e (f refl)
 
 line_feed : (c : ℕ) → is_in_comment c ≡ false → c ≡ 10
 line_feed c e = eqb-true c 10 (not-false (c == 10) e)
@@ -195,7 +195,8 @@ token_step n go bs t k front passed operators l some fits few stands g =
     subst (λ (q : TextPlace). AreTokens behind rest (scan rest 0 q (operators_up_to_token t operators))) place
     (go rest shorter behind [] (operators_up_to_token t operators) nothing) in
     subst (λ (ts : List Token). AreTokens front (passed ++ bs) ts) (sym (token_scans bs t k p operators l some fits))
-    (one_more (is_bad t) front (passed ++ bs) (token_at t operators p) (scan rest 0 (place_after_bytes p own) (operators_up_to_token t operators)) next
+    (next_token_begins_tokens (is_bad t) front (passed ++ bs) (token_at t operators p)
+    (scan rest 0 (place_after_bytes p own) (operators_up_to_token t operators)) next
     (ends_as_bad t own rest stands owned) (λ good. others))
 
 blank_read : (n : ℕ) → ((bs : List ℕ) → length bs ≤ n → (front passed : List ℕ) (operators : ℕ) → IsGap passed → From front passed bs operators)

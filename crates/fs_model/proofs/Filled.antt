@@ -16,7 +16,7 @@ one_more_done f g old new xs i x y h at n e so_far =
     ∙ ap (λ k. map g (take k xs)) next
 
 -- an item is seen by one function after another
-pub one_more : {A B C D : Type 0} (f : B → C) (g : D → C) (k : A → D) (old new : List B) (xs : List A) (i : ℕ) (x : A) (y : B) → i < length xs
+pub map_of_map_grows : {A B C D : Type 0} (f : B → C) (g : D → C) (k : A → D) (old new : List B) (xs : List A) (i : ℕ) (x : A) (y : B) → i < length xs
     → x ≡ get_or xs i x → new ≡ old ++ y ∷ [] → f y ≡ g (k x) → map f old ≡ map g (map k (take i xs)) → map f new ≡ map g (map k (take (i + 1) xs))
-one_more f g k old new xs i x y h at n e so_far =
+map_of_map_grows f g k old new xs i x y h at n e so_far =
     one_more_done f (λ z. g (k z)) old new xs i x y h at n e (so_far ∙ map_map g k (take i xs)) ∙ sym (map_map g k (take (i + 1) xs))

@@ -38,8 +38,8 @@ module _ (T : Literal ℕ → Bool) (same : (l : Literal ℕ) → T (negated_lit
       (and_second (condition_passes T l.guard) (C l.assignments && S l.target) here)
       (transitions_tree ls (and_second (transition_passes T C S l) (list_all (transition_passes T C S) ls) h))
 
-  one_more : (way : List (Literal ℕ)) (l : Literal ℕ) → list_all T way ≡ true → T l ≡ true → list_all T (way ++ l ∷ []) ≡ true
-  one_more way l h p = list_all-append T way (l ∷ []) ∙ and_from (list_all T way) (T l && true) h (and_from (T l) true p refl)
+  list_all_with_last : (way : List (Literal ℕ)) (l : Literal ℕ) → list_all T way ≡ true → T l ≡ true → list_all T (way ++ l ∷ []) ≡ true
+  list_all_with_last way l h p = list_all-append T way (l ∷ []) ∙ and_from (list_all T way) (T l && true) h (and_from (T l) true p refl)
 
   leaves_pass : (t : Tree) (way : List (Literal ℕ)) → tree_passes t ≡ true → list_all T way ≡ true → list_all (branch_passes T C S) (leaves t way) ≡ true
   leaves_pass Empty way h p = refl
@@ -50,8 +50,9 @@ module _ (T : Literal ℕ → Bool) (same : (l : Literal ℕ) → T (negated_lit
       let below = and_second (T l) (tree_passes y && tree_passes n) h in
       list_all-append (branch_passes T C S) (leaves y (way ++ l ∷ [])) (leaves n (way ++ negated_literal l ∷ []))
       ∙ and_from (list_all (branch_passes T C S) (leaves y (way ++ l ∷ []))) (list_all (branch_passes T C S) (leaves n (way ++ negated_literal l ∷ [])))
-      (leaves_pass y (way ++ l ∷ []) (and_first (tree_passes y) (tree_passes n) below) (one_more way l p here))
-      (leaves_pass n (way ++ negated_literal l ∷ []) (and_second (tree_passes y) (tree_passes n) below) (one_more way (negated_literal l) p (same l ∙ here)))
+      (leaves_pass y (way ++ l ∷ []) (and_first (tree_passes y) (tree_passes n) below) (list_all_with_last way l p here))
+      (leaves_pass n (way ++ negated_literal l ∷ []) (and_second (tree_passes y) (tree_passes n) below)
+      (list_all_with_last way (negated_literal l) p (same l ∙ here)))
 
   pub branches_pass : (ls : List (Transition ℕ ℕ)) → list_all (transition_passes T C S) ls ≡ true → list_all (branch_passes T C S) (branches_of ls) ≡ true
   branches_pass ls h = leaves_pass (tree_of_transitions ls) [] (transitions_tree ls h) refl

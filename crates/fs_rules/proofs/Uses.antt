@@ -26,11 +26,11 @@ use Rattle.fs_rules.specs.Rules.{is_known}
 use Rattle.fs_rules.specs.declared.rules.Uses.{Uses}
 use Rattle.fs_rules.specs.Uses.{uses_of, either_of}
 
-not_both : (a b c d : Bool) → (not (a && b) || not (c && d)) ≡ not ((a && c) && (b && d))
-not_both true true c d = refl
-not_both true false true d = refl
-not_both true false false d = refl
-not_both false b c d = refl
+not_and_of_pairs : (a b c d : Bool) → (not (a && b) || not (c && d)) ≡ not ((a && c) && (b && d))
+not_and_of_pairs true true c d = refl
+not_and_of_pairs true false true d = refl
+not_and_of_pairs true false false d = refl
+not_and_of_pairs false b c d = refl
 
 or_both : (a b c d : Bool) → ((a || b) || (c || d)) ≡ ((a || c) || (b || d))
 or_both true b c d = refl
@@ -39,7 +39,7 @@ or_both false true false d = refl
 or_both false false c d = refl
 
 unknown_both : (a b c d e f : Bool) → (not (a && (b && c)) || not (d && (e && f))) ≡ not ((a && d) && ((b && e) && (c && f)))
-unknown_both a b c d e f = not_both a (b && c) d (e && f) ∙ ap (λ x. not ((a && d) && x)) (and_swap b c e f)
+unknown_both a b c d e f = not_and_of_pairs a (b && c) d (e && f) ∙ ap (λ x. not ((a && d) && x)) (and_swap b c e f)
 
 wrong_both : (a b c d e f : Bool) → ((a || (b || c)) || (d || (e || f))) ≡ ((a || d) || ((b || e) || (c || f)))
 wrong_both a b c d e f = or_both a (b || c) d (e || f) ∙ ap (λ x. (a || d) || x) (or_both b c e f)

@@ -30,11 +30,11 @@ one_stop_text m ins limit t u a b =
     let same : a.stop ≡ b.stop = one_stop m ins limit a.stop b.stop a.stopped b.stopped (told_of_run Only a.stop t a.told) (told_of_run Only b.stop u b.told) in
     stop_once Only b.stop t u (subst (λ x. IsStopText Only x t) same a.told) b.told
 
-not_both : (m : Fsmd) (ins : Inputs) (limit : ℕ) (t u : List ℕ) → EndsAs m ins limit t → StopsAs m ins limit u → ⊥
-not_both m ins limit t u a b = end_or_stop m ins limit a.outs a.steps b.stop a.ends b.stopped (told_of_run Only b.stop u b.told)
+run_that_ends_never_stops : (m : Fsmd) (ins : Inputs) (limit : ℕ) (t u : List ℕ) → EndsAs m ins limit t → StopsAs m ins limit u → ⊥
+run_that_ends_never_stops m ins limit t u a b = end_or_stop m ins limit a.outs a.steps b.stop a.ends b.stopped (told_of_run Only b.stop u b.told)
 
 pub run_once : OneRunText
 run_once m ins limit t u (inl a) (inl b) = one_end_text m ins limit t u a b
-run_once m ins limit t u (inl a) (inr b) = absurd (not_both m ins limit t u a b)
-run_once m ins limit t u (inr a) (inl b) = absurd (not_both m ins limit u t b a)
+run_once m ins limit t u (inl a) (inr b) = absurd (run_that_ends_never_stops m ins limit t u a b)
+run_once m ins limit t u (inr a) (inl b) = absurd (run_that_ends_never_stops m ins limit u t b a)
 run_once m ins limit t u (inr a) (inr b) = one_stop_text m ins limit t u a b

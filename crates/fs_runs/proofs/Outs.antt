@@ -54,9 +54,9 @@ told_all m vs name e = told_from m.variables vs 0 (store_from vs) name e
     first : (j : ℕ) → j ≡ 0 + j
     first j = omega arith
 
-one_more : (b : Bool) (c : Content) (outs : List Content) → cond b (c ∷ outs) outs ≡ cond b (c ∷ []) [] ++ outs
-one_more true c outs = refl
-one_more false c outs = refl
+cond_cons_append : (b : Bool) (c : Content) (outs : List Content) → cond b (c ∷ outs) outs ≡ cond b (c ∷ []) [] ++ outs
+cond_cons_append true c outs = refl
+cond_cons_append false c outs = refl
 
 -- one more variable
 pub outs_next : (vars : List VarInfo) (vs : List Value) (k : ℕ) (v : VarInfo) (w : Value) (done more total : List Content) → k < length vars → k < length vs
@@ -65,7 +65,8 @@ pub outs_next : (vars : List VarInfo) (vs : List Value) (k : ℕ) (v : VarInfo) 
 outs_next vars vs k v w done more total h g e f =
     ap (λ l. l ++ outs_of (drop (k + 1) vars) (drop (k + 1) vs)) e
     ∙ append_assoc done (outs_of (get_or vars k v ∷ []) (get_or vs k w ∷ [])) (outs_of (drop (k + 1) vars) (drop (k + 1) vs))
-    ∙ ap (λ l. done ++ l) (sym (one_more (is_output (get_or vars k v).role) (content_of (get_or vs k w)) (outs_of (drop (k + 1) vars) (drop (k + 1) vs))))
+    ∙ ap (λ l. done ++ l) (sym (cond_cons_append (is_output (get_or vars k v).role) (content_of (get_or vs k w))
+    (outs_of (drop (k + 1) vars) (drop (k + 1) vs))))
     ∙ ap₂ (λ (a : List VarInfo) (b : List Value). done ++ outs_of a b) (sym (left_cons vars k v h)) (sym (left_cons vs k w g))
     ∙ f
 

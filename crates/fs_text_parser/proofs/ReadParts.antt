@@ -28,11 +28,11 @@ if_pushed (Ok x) y old new P is h = subst P (sym is.1) h
 if_pushed (Err d) y old new P is h = absurd is
 
 -- where what is read so far takes the part at its end
-pub one_more : {X Y Z B S : Type 0} (f : X → B) (with_more : S → List B → S) (on : S → Y → Result Z TextFault)
+pub parses_on_with_pushed : {X Y Z B S : Type 0} (f : X → B) (with_more : S → List B → S) (on : S → Y → Result Z TextFault)
     → ((s : S) (xs ys : List B) → with_more (with_more s xs) ys ≡ with_more s (xs ++ ys))
     → (r : Result (X × Y) ReadError) (y : Y) (s : S) (old new : List X) (v : Result Z TextFault) → PushesRead old new r (Ok y)
     → ParsesOn r v (λ x. on (with_more (with_more s (map f old)) (f x.0 ∷ [])) x.1) → v ≡ on (with_more s (map f new)) y
-one_more f with_more on law r y s old new v is g =
+parses_on_with_pushed f with_more on law r y s old new v is g =
     pushed r y old new _ (λ xs z. on (with_more s (map f xs)) z) is g
     (λ x. ap (λ t. on t x.1) (law s (map f old) (f x.0 ∷ []) ∙ ap (with_more s) (sym (map-append f old (x.0 ∷ [])))))
 

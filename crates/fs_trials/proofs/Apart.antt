@@ -65,8 +65,8 @@ pub shown_at : (a b : Fsmd) (limit j : ℕ) (ins : Inputs) (left right : Ended) 
     → DiffersAt a b limit j
 shown_at a b limit j ins left right e d = subst (λ x. ShowsDifference a b x limit) e (apart_shows a b ins limit left right d)
 
-pub one_more : (P : ℕ → Type 0) (j : ℕ) → ((i : ℕ) → i < j → P i) → P j → (i : ℕ) → i < j + 1 → P i
-one_more P j before here i h =
+pub holds_below_next : (P : ℕ → Type 0) (j : ℕ) → ((i : ℕ) → i < j → P i) → P j → (i : ℕ) → i < j + 1 → P i
+holds_below_next P j before here i h =
     elim (cases_lt i j) as (λ _. P i) [
       | inl less ↦ before i less
       | inr more ↦ let same : j ≡ i = omega arith in subst P same here

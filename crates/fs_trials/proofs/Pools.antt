@@ -20,9 +20,9 @@ use Rattle.fs_trials.specs.Pool.{with_both_signs, signed_values, with_pool_numbe
 -- ---- loops that add numbers
 
 -- one more number, in front of those that are left
-pub one_more : (room : ℕ) (old new xs : List ℤ) (i : ℕ) (x : ℤ) → i < length xs → x ≡ get_or xs i x → new ≡ with_pool_number room old x
+pub number_moves_into_pool : (room : ℕ) (old new xs : List ℤ) (i : ℕ) (x : ℤ) → i < length xs → x ≡ get_or xs i x → new ≡ with_pool_number room old x
     → fold (with_pool_number room) new (drop (i + 1) xs) ≡ fold (with_pool_number room) old (drop i xs)
-one_more room old new xs i x h at n =
+number_moves_into_pool room old new xs i x h at n =
     ap (λ p. fold (with_pool_number room) p (drop (i + 1) xs)) n ∙ ap (fold (with_pool_number room) old) (sym (drop_next xs i x h at))
 
 -- what one more number makes, in front of what the numbers that are left make

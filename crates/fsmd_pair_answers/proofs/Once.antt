@@ -54,8 +54,8 @@ not_stopped m cs moves points o x y =
     in
     no_certificate m x.table o x.ranks (subst (λ T. StandsIn m T o) (sym same) y.stands) x.closed x.none_differ x.are_ranks
 
-not_both : (m : MachinePair) (cs : Nodes) → IsClosedWith m cs → IsLeftOpen m → ⊥
-not_both m cs x y = not_stopped m cs y.moves y.points y.obstacle x y.stops
+closed_pair_is_not_open : (m : MachinePair) (cs : Nodes) → IsClosedWith m cs → IsLeftOpen m → ⊥
+closed_pair_is_not_open m cs x y = not_stopped m cs y.moves y.points y.obstacle x y.stops
 
 -- certificates of two machines are one, or both are found beyond the search
 pub one_or_beyond : (m : MachinePair) (cs ds : Nodes) → ShowsSame m cs → ShowsSame m ds → (cs ≡ ds) ⊎ (IsFoundBeyond m cs × IsFoundBeyond m ds)
@@ -63,8 +63,8 @@ one_or_beyond m cs ds p q = by_found p.found q.found
   where
     by_found : IsClosedWith m cs ⊎ IsLeftOpen m → IsClosedWith m ds ⊎ IsLeftOpen m → (cs ≡ ds) ⊎ (IsFoundBeyond m cs × IsFoundBeyond m ds)
     by_found (inl x) (inl y) = inl (same_certificate m cs ds x y)
-    by_found (inl x) (inr y) = absurd (not_both m cs x y)
-    by_found (inr x) (inl y) = absurd (not_both m ds y x)
+    by_found (inl x) (inr y) = absurd (closed_pair_is_not_open m cs x y)
+    by_found (inr x) (inl y) = absurd (closed_pair_is_not_open m ds y x)
     by_found (inr x) (inr y) = inr (record { left_open = x; certificate = p.certificate }, record { left_open = y; certificate = q.certificate })
 
 -- where a search has an obstacle, a certificate is found beyond it
@@ -147,7 +147,7 @@ both_open o p (inl e) = ap is_open_obstacle e
 both_open o p (inr c) = ap is_open_obstacle c.0.is ∙ sym (ap is_open_obstacle c.1.is)
 
 pub closed_not_open : ClosedIsNotOpen
-closed_not_open m cs x y = not_both m cs x y
+closed_not_open m cs x y = closed_pair_is_not_open m cs x y
 
 pub limit_not_open : LimitIsNotOpen
 limit_not_open m moves points o x limit y =

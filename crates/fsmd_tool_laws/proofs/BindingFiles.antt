@@ -82,8 +82,8 @@ is_among n ns = list_any (λ m. bytes_eq m n) ns
 not_below : (x : List ℕ) → slice_cmp nat_cmp x x ≡ Less → ⊥
 not_below x h = let a = nat_list_cmp_total.antisymm x x in cc
 
-not_both : (x y : List ℕ) → slice_cmp nat_cmp x y ≡ Less → slice_cmp nat_cmp y x ≡ Less → ⊥
-not_both x y g h = let a = nat_list_cmp_total.antisymm x y in cc
+less_is_one_way : (x y : List ℕ) → slice_cmp nat_cmp x y ≡ Less → slice_cmp nat_cmp y x ≡ Less → ⊥
+less_is_one_way x y g h = let a = nat_list_cmp_total.antisymm x y in cc
 
 first_among : (n : List ℕ) (ns : List (List ℕ)) → is_among n (n ∷ ns) ≡ true
 first_among n ns = ap (λ b. b || is_among n ns) ((bytes_eq-Decides n n).1 refl)
@@ -106,7 +106,7 @@ same_heads : (x y : List ℕ) (xs ys : List (List ℕ)) → AllByRecursion (λ z
     → AllByRecursion (λ z. slice_cmp nat_cmp y z ≡ Less) ys → is_among x (y ∷ ys) ≡ true → is_among y (x ∷ xs) ≡ true → x ≡ y
 same_heads x y xs ys p q f g =
     split (x ≡ y) x y ys f (λ e. sym e)
-    (λ u. split (x ≡ y) y x xs g (λ e. e) (λ v. absurd (not_both x y (below_all x xs p y v) (below_all y ys q x u))))
+    (λ u. split (x ≡ y) y x xs g (λ e. e) (λ v. absurd (less_is_one_way x y (below_all x xs p y v) (below_all y ys q x u))))
 
 -- what is behind the first of one list is behind that of the other
 behind : (x y : List ℕ) (xs ys : List (List ℕ)) → x ≡ y → AllByRecursion (λ z. slice_cmp nat_cmp x z ≡ Less) xs

@@ -143,5 +143,5 @@ pub certificate_opens : (w : ReadInOneWay) → (a b : Fsmd) → OpensInOneWay (L
 certificate_opens w a b = record {
   one_refusal = λ file c x y p q. refused_once w a b file c x y p q;
   one_value = λ bytes n k p q. certificate_once w a b bytes n k p q;
-  not_both = λ file c n x s p. spelled_or_refused w a b file c n x s p;
+  spelled_is_not_refused = λ file c n x s p. spelled_or_refused w a b file c n x s p;
 }

@@ -18,7 +18,7 @@ unreadable_bytes c P e p = subst (λ d. OfBytes d P) e p
 pub record OpensInOneWay (T : Type 0) (R : Operand → FileContent → Answer → Type 0) (S : T → List ℕ → Type 0) : Type 0 where
   pub one_refusal : (file : Operand) (c : FileContent) (x y : Answer) → R file c x → R file c y → x ≡ y
   pub one_value : (b : List ℕ) (v w : T) → S v b → S w b → v ≡ w
-  pub not_both : (file : Operand) (c : FileContent) (v : T) (x : Answer) → OfBytes c (S v) → R file c x → ⊥
+  pub spelled_is_not_refused : (file : Operand) (c : FileContent) (v : T) (x : Answer) → OfBytes c (S v) → R file c x → ⊥
 
 -- a file spells one value
 pub one_spelled : (T : Type 0) (R : Operand → FileContent → Answer → Type 0) (S : T → List ℕ → Type 0) → OpensInOneWay T R S → (c : FileContent) (v w : T)

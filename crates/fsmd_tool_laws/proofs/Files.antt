@@ -50,7 +50,7 @@ pub machine_opens : OpensInOneWay Fsmd RefusesMachine SpellsMachine
 machine_opens = record {
   one_refusal = machine_once;
   one_value = spells_once;
-  not_both = machine_or_refused;
+  spelled_is_not_refused = machine_or_refused;
 }
 
 -- what spells parts spells their machine
@@ -63,5 +63,5 @@ pub parts_open : OpensInOneWay Source RefusesMachine SpellsParts
 parts_open = record {
   one_refusal = machine_once;
   one_value = parts_once;
-  not_both = λ file c p x s r. machine_or_refused file c (machine_of p) x (parts_machine c p s) r;
+  spelled_is_not_refused = λ file c p x s r. machine_or_refused file c (machine_of p) x (parts_machine c p s) r;
 }

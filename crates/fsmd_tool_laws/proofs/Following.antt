@@ -90,8 +90,8 @@ module _ (T : Type 0) (R : Operand → FileContent → Answer → Type 0) (S : T
   opened_by : (file : ℕ) (c : FileContent) (r s : Reading) (x y : Answer) → Agree r s → OpensWith T R S P file c r x → OpensWith T R S P file c s y
       → (r ≡ s) × Say (c ∷ s) x y
   opened_by file c r s x y a (Refused p e) (Refused q h) = (e ∙ sym h, same (c ∷ s) x y (o.one_refusal (operand file) c x y p q))
-  opened_by file c r s x y a (Refused p e) (Spelled w k q) = absurd (o.not_both (operand file) c w x k p)
-  opened_by file c r s x y a (Spelled v l p) (Refused q h) = absurd (o.not_both (operand file) c v y l q)
+  opened_by file c r s x y a (Refused p e) (Spelled w k q) = absurd (o.spelled_is_not_refused (operand file) c w x k p)
+  opened_by file c r s x y a (Spelled v l p) (Refused q h) = absurd (o.spelled_is_not_refused (operand file) c v y l q)
   opened_by file c r s x y a (Spelled v l p) (Spelled w k q) =
       once w c k (file + 1) r s x y a (subst (λ u. P u (file + 1) r x) (one_spelled T R S o c v w l k) p) q
 
@@ -150,7 +150,7 @@ pub at_link : (o : Option Asked) (link : ℕ) (T : Type 0) (R : Operand → File
 at_link o link T R S i = record {
   one_refusal = λ f c x y p q. at_link_once o link (R f c) (i.one_refusal f c) x y p q;
   one_value = i.one_value;
-  not_both = λ f c v x s p. i.not_both f c v p.stop s p.meets;
+  spelled_is_not_refused = λ f c v x s p. i.spelled_is_not_refused f c v p.stop s p.meets;
 }
 
 judges : (o : Option Asked) (link : ℕ) (a b : Fsmd) (nodes : List (Node Fact)) (P : Rule) → IsOne P → IsOne (Judges o link a b nodes P)

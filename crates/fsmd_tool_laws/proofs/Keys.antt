@@ -66,5 +66,5 @@ pub keys_open : (T : Type 0) (F : KeyFault → (key bytes : List ℕ) → Type 0
 keys_open T F S o = record {
   one_refusal = λ file c x y p q. refused_once T F S o file c x y p q;
   one_value = o.one_value;
-  not_both = λ file c v x i p. spelled_or_refused T F S o file c v x i p;
+  spelled_is_not_refused = λ file c v x i p. spelled_or_refused T F S o file c v x i p;
 }

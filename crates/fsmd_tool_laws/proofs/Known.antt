@@ -58,7 +58,7 @@ module _ (T : Type 0) (R : Operand → FileContent → Answer → Type 0) (S : T
     (file : ℕ) (v : T)
     (x : Answer) where
   spelled_of : (c : FileContent) (r : Reading) → OfBytes c (S v) → MayRead g (file + 1) r → OpensWith T R S P file c r x → IsCorrectFrom (P v) (file + 1) g x
-  spelled_of c r s m (Refused p e) = absurd (o.not_both (operand file) c v x s p)
+  spelled_of c r s m (Refused p e) = absurd (o.spelled_is_not_refused (operand file) c v x s p)
   spelled_of c r s m (Spelled w l p) = record { reading = r; may_be_read = m; follows = subst (λ u. P u (file + 1) r x) (one_spelled T R S o c w v l s) p }
 
   opened_of : (r : Reading) → IsKnown g file (S v) → MayRead g file r → Opens T R S P file r x → IsCorrectFrom (P v) (file + 1) g x

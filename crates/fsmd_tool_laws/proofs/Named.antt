@@ -41,8 +41,8 @@ IsWithin n P = (file : ℕ) (r : Reading) (x : Answer) → P file r x → length
 few : (n : ℕ) → 0 ≤ n
 few n = omega arith
 
-pub one_more : (n k : ℕ) → n ≤ k → suc n ≤ suc k
-one_more n k h = omega arith
+pub suc_le_suc : (n k : ℕ) → n ≤ k → suc n ≤ suc k
+suc_le_suc n k h = omega arith
 
 -- where no file more was opened
 pub at_end : (r : Reading) (n : ℕ) → r ≡ [] → length r ≤ n
@@ -59,7 +59,7 @@ module _ (T : Type 0) (R : Operand → FileContent → Answer → Type 0) (S : T
 
   pub opens : IsWithin (suc n) (Opens T R S P)
   opens file [] x p = absurd p
-  opens file (c ∷ r) x p = one_more (length r) n (opened file c r x p)
+  opens file (c ∷ r) x p = suc_le_suc (length r) n (opened file c r x p)
 
 pairs : (a b : Fsmd) (R : Answer → Type 0) (P : Rule) (n : ℕ) → IsWithin n P → IsWithin n (ComparesPairs a b R P)
 pairs a b R P n within file r x (Other p e) = at_end r n e

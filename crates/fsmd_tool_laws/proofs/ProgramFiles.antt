@@ -6,7 +6,7 @@ use Rattle.fs_rules.specs.declared.check.CheckFault.{CheckFault}
 use Rattle.fs_rules.specs.Rules.{BreaksNoRule, IsFirstBroken}
 use Rattle.hls_program_parts.specs.Programs.{Program}
 use Rattle.hls_program_parts.specs.Compiled.{parts_of}
-use Rattle.hls_program_parts.proofs.Texts.{one_program, one_fault, not_both}
+use Rattle.hls_program_parts.proofs.Texts.{one_program, one_fault, spelled_program_never_stops}
 use Rattle.fsmd_replies.specs.declared.answer.Operand.{Operand}
 use Rattle.fsmd_replies.specs.declared.answer.Answer.{Answer}
 use Rattle.fsmd_replies.specs.declared.answer.Answer.TheVariants.{Text, TextRefused, CheckRefused}
@@ -29,10 +29,10 @@ rule_once bytes f g p q =
     q.broken
 
 text_or_rule : (bytes : List ℕ) (f : TextFault) (g : CheckFault) → HasProgramFault f bytes → BreaksRule g bytes → ⊥
-text_or_rule bytes f g p q = not_both bytes q.program f q.spells p.stops
+text_or_rule bytes f g p q = spelled_program_never_stops bytes q.program f q.spells p.stops
 
 program_or_text : (bytes : List ℕ) (p : Program) (f : TextFault) → SpellsProgram p bytes → HasProgramFault f bytes → ⊥
-program_or_text bytes p f s q = not_both bytes p f s.spells q.stops
+program_or_text bytes p f s q = spelled_program_never_stops bytes p f s.spells q.stops
 
 program_or_rule : (bytes : List ℕ) (p : Program) (f : CheckFault) → SpellsProgram p bytes → BreaksRule f bytes → ⊥
 program_or_rule bytes p f s q =
@@ -68,7 +68,7 @@ pub program_opens : OpensInOneWay Program RefusesProgram SpellsProgram
 program_opens = record {
   one_refusal = refused_once;
   one_value = program_once;
-  not_both = spelled_or_refused;
+  spelled_is_not_refused = spelled_or_refused;
 }
 
 -- a program gets one answer

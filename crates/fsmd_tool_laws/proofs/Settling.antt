@@ -31,7 +31,7 @@ use Rattle.fsmd_tool_laws.proofs.Contents.{some_none, one_spelled}
 use Rattle.fsmd_tool_laws.proofs.Files.{machine_opens, parts_open}
 use Rattle.fsmd_tool_laws.proofs.Certificates.{ReadInOneWay}
 use Rattle.fsmd_tool_laws.proofs.Following.{Rule, follows_one, BehindPair}
-use Rattle.fsmd_tool_laws.proofs.Named.{at_end, one_more, ends, opens, named_only}
+use Rattle.fsmd_tool_laws.proofs.Named.{at_end, suc_le_suc, ends, opens, named_only}
 use Rattle.fsmd_tool_laws.proofs.Known.{settled_read, known_settled, known_meets}
 use Rattle.fsmd_tool_laws.proofs.Correct.{below, first_below, below_sum, correct_once, correct_one}
 
@@ -100,16 +100,16 @@ opens_one : (T : Type 0) (R : Operand → FileContent → Answer → Type 0) (S 
     → ((v : T) → OfBytes c (S v) → ⊥) → Agree r (c ∷ []) → Opens T R S P file r x
     → length r ≤ 1
 opens_one T R S P file [] x c none a f = absurd f
-opens_one T R S P file (d ∷ r) x c none a (Refused p e) = one_more (length r) 0 (at_end r 0 e)
+opens_one T R S P file (d ∷ r) x c none a (Refused p e) = suc_le_suc (length r) 0 (at_end r 0 e)
 opens_one T R S P file (d ∷ r) x c none a (Spelled v l p) = absurd (none v (subst (λ k. OfBytes k (S v)) a.0 l))
 
 -- where the first file is no machine
 module _ (c : FileContent) (y : Answer) (refused : RefusesMachine (operand 0) c y) where
   machine_one : (P : Fsmd → Rule) (r : Reading) (x : Answer) → Agree r (c ∷ []) → OpensMachine P 0 r x → length r ≤ 1
-  machine_one P r x a f = opens_one Fsmd RefusesMachine SpellsMachine P 0 r x c (λ m l. machine_opens.not_both (operand 0) c m y l refused) a f
+  machine_one P r x a f = opens_one Fsmd RefusesMachine SpellsMachine P 0 r x c (λ m l. machine_opens.spelled_is_not_refused (operand 0) c m y l refused) a f
 
   parts_one : (P : Source → Rule) (r : Reading) (x : Answer) → Agree r (c ∷ []) → Opens Source RefusesMachine SpellsParts P 0 r x → length r ≤ 1
-  parts_one P r x a f = opens_one Source RefusesMachine SpellsParts P 0 r x c (λ m l. parts_open.not_both (operand 0) c m y l refused) a f
+  parts_one P r x a f = opens_one Source RefusesMachine SpellsParts P 0 r x c (λ m l. parts_open.spelled_is_not_refused (operand 0) c m y l refused) a f
 
   first_stops : (o : Option Asked) (r : Reading) (x : Answer) → Agree r (c ∷ []) → Follows o r x → length r ≤ 1
   first_stops None r x a f = few_one (length r) (named_only None 0 r x f)
@@ -162,13 +162,13 @@ module _ (R : Fsmd → Operand → FileContent → Answer → Type 0) (Q : (a b 
   second_ends : (file : ℕ) (c : FileContent) (r : Reading) (a : Fsmd) → OfBytes c (SpellsMachine a) → NoPair (c ∷ r)
       → Opens Fsmd (R a) SpellsMachine (λ b. ComparesPairs a b (Q a b) (P a b)) file r x → length r ≤ 1
   second_ends file c [] a l none f = absurd f
-  second_ends file c (d ∷ r) a l none (Refused p e) = one_more (length r) 0 (at_end r 0 e)
-  second_ends file c (d ∷ r) a l none (Spelled b k p) = one_more (length r) 0 (at_end r 0 (pairs_end (file + 1) r a b (none a b (l, k)) p))
+  second_ends file c (d ∷ r) a l none (Refused p e) = suc_le_suc (length r) 0 (at_end r 0 e)
+  second_ends file c (d ∷ r) a l none (Spelled b k p) = suc_le_suc (length r) 0 (at_end r 0 (pairs_end (file + 1) r a b (none a b (l, k)) p))
 
   two : (r : Reading) → NoPair r → Two R Q P 0 r x → length r ≤ 2
   two [] none f = absurd f
-  two (c ∷ r) none (Refused p e) = one_more (length r) 1 (at_end r 1 e)
-  two (c ∷ r) none (Spelled a l p) = one_more (length r) 1 (second_ends 1 c r a l none p)
+  two (c ∷ r) none (Refused p e) = suc_le_suc (length r) 1 (at_end r 1 e)
+  two (c ∷ r) none (Spelled a l p) = suc_le_suc (length r) 1 (second_ends 1 c r a l none p)
 
 pair_two : (P : Fsmd → Fsmd → Rule) (r : Reading) (x : Answer) → NoPair r → Two (λ a. RefusesMachine) RefusesPair P 0 r x → length r ≤ 2
 pair_two P r x none f = two (λ a. RefusesMachine) RefusesPair P x r none f
@@ -219,7 +219,7 @@ two_settled g s t none = record {
 not_spelled : (c d : FileContent) (y : Answer) → RefusesMachine (operand 1) d y → (r : Reading) → Agree r (c ∷ d ∷ []) → NoPair r
 not_spelled c d y p [] a m n l i = absurd l
 not_spelled c d y p (e ∷ []) a m n l i = absurd l
-not_spelled c d y p (e ∷ f ∷ r) a m n l i = machine_opens.not_both (operand 1) d n y (subst (λ k. OfBytes k (SpellsMachine n)) a.1.0 l.1) p
+not_spelled c d y p (e ∷ f ∷ r) a m n l i = machine_opens.spelled_is_not_refused (operand 1) d n y (subst (λ k. OfBytes k (SpellsMachine n)) a.1.0 l.1) p
 
 pub second_refused : (g : Call) → IsSettled g 0 → IsRefusedAsMachine g 1 → AreSettledUpToRefused g
 second_refused g s k = two_settled g s k.settled

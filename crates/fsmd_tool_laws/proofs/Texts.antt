@@ -14,7 +14,7 @@ use Rattle.fs_rules.specs.declared.check.CheckFault.{CheckFault}
 use Rattle.fs_rules.specs.MachineOfParts.{machine_of}
 use Rattle.fs_rules.specs.Rules.{rule_rank, is_sooner, plain_faults, branch_faults, IsFirstBroken, BreaksNoRule}
 use Rattle.fs_model.specs.Limits.{most_text_bytes}
-use Rattle.fs_lex.proofs.Texts.{one_source, one_fault, not_both}
+use Rattle.fs_lex.proofs.Texts.{one_source, one_fault, spelled_text_never_stops}
 use Rattle.fsmd_answers.specs.MachineFiles.{SpellsParts, SpellsMachine, IsTooLong, HasTextFault, HasCheckFault}
 
 -- ---- the broken rule that is answered is one
@@ -86,10 +86,10 @@ check_fault_once bytes f g s t = first_broken_once t.parts f g
     (subst (λ p. IsFirstBroken p f) (one_source bytes s.parts t.parts s.spells t.spells) s.broken) t.broken
 
 pub text_or_check : (bytes : List ℕ) (f : TextFault) (g : CheckFault) → HasTextFault f bytes → HasCheckFault g bytes → ⊥
-text_or_check bytes f g s t = not_both bytes t.parts f t.spells s.stops
+text_or_check bytes f g s t = spelled_text_never_stops bytes t.parts f t.spells s.stops
 
 pub spells_no_text_fault : (bytes : List ℕ) (m : Fsmd) (f : TextFault) → SpellsMachine m bytes → HasTextFault f bytes → ⊥
-spells_no_text_fault bytes m f s t = not_both bytes s.parts f s.spells.spells t.stops
+spells_no_text_fault bytes m f s t = spelled_text_never_stops bytes s.parts f s.spells.spells t.stops
 
 pub spells_no_check_fault : (bytes : List ℕ) (m : Fsmd) (f : CheckFault) → SpellsMachine m bytes → HasCheckFault f bytes → ⊥
 spells_no_check_fault bytes m f s t = lawful_unbroken t.parts f

@@ -61,13 +61,13 @@ plain_stays false word h = refl
 plain_stays true word h = refl
 
 -- a word that goes to the positional is one more file
-pub one_more : (files : List Text) (waits is_trailing : Bool) (word : Text)
+pub positional_adds_file : (files : List Text) (waits is_trailing : Bool) (word : Text)
     → to_positional chain_rules (arg_by_index chain_rules 1) word (between files waits is_trailing) (held_files files)
     ≡ between (files ++ word ∷ []) true is_trailing
-one_more [] waits false word = refl
-one_more [] waits true word = refl
-one_more (v ∷ vs) waits false word = refl
-one_more (v ∷ vs) waits true word = refl
+positional_adds_file [] waits false word = refl
+positional_adds_file [] waits true word = refl
+positional_adds_file (v ∷ vs) waits false word = refl
+positional_adds_file (v ∷ vs) waits true word = refl
 
 -- the flag for help fails, and so does each other flag
 short_fails : (b : Bool) (h : Held) (rest : Text) (next : Held → Kinds)
@@ -127,12 +127,12 @@ after_word true files waits word e = record { files = files; waits = waits; is_t
 after_word false files waits word e =
     subst (λ (m : Held × Step). IsBetween (after_step chain_rules word (between files waits false) m.0 m.1))
     (sym (long_stays (long_of word) files waits word e))
-    (record { files = files ++ word ∷ []; waits = true; is_trailing = false; is = one_more files waits false word })
+    (record { files = files ++ word ∷ []; waits = true; is_trailing = false; is = positional_adds_file files waits false word })
 
 turn : (word : Text) (files : List Text) (waits is_trailing : Bool) → turn_fault chain_built [] (between files waits is_trailing) word ≡ []
     → IsBetween (walked chain_rules [] (between files waits is_trailing) word)
 unfolding walked
-turn word files waits true e = record { files = files ++ word ∷ []; waits = true; is_trailing = true; is = one_more files waits true word }
+turn word files waits true e = record { files = files ++ word ∷ []; waits = true; is_trailing = true; is = positional_adds_file files waits true word }
 turn word files false false e = after_word (bytes_eq word (45 ∷ 45 ∷ [])) files false word (first_none _ _ e)
 turn word files true false e = after_word (bytes_eq word (45 ∷ 45 ∷ [])) files true word (first_none _ _ e)
 

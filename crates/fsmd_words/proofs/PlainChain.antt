@@ -8,7 +8,7 @@ use Rattle.clap.specs.Simple.{entered}
 use Rattle.clap.specs.Walk.{Held, Text, Walk, finished, nothing_held, settled, walked}
 use Rattle.clap.specs.Faults.{check_fault, defaults_fault, level_fault, settle_fault, turn_fault, walk_fault}
 use Rattle.clap.specs.declared.builder.value_parser.ValueParser.TheVariants as parsers
-use Rattle.fsmd_words.proofs.Chained.{between, chain_built, chain_rules, held_files, one_more}
+use Rattle.fsmd_words.proofs.Chained.{between, chain_built, chain_rules, held_files, positional_adds_file}
 use Rattle.fsmd_words.proofs.CommandWalks.{NamesCommand, line, line_fault, line_walk, line_walk_fault}
 use Rattle.fsmd_words.proofs.Named.{parsed_asks}
 use Rattle.fsmd_words.proofs.Plain.{no_hyphens, no_long, no_short}
@@ -26,8 +26,8 @@ plain_fault word p (v ∷ vs) true = rw (no_hyphens word p, no_long word p, no_s
 plain_step : (word : Text) → IsPlainWord word → (done : List Text) (waits : Bool)
     → walked chain_rules [] (between done waits false) word ≡ between (done ++ word ∷ []) true false
 unfolding walked
-plain_step word p done false = rw (no_hyphens word p, no_long word p, no_short word p) (one_more done false false word)
-plain_step word p done true = rw (no_hyphens word p, no_long word p, no_short word p) (one_more done true false word)
+plain_step word p done false = rw (no_hyphens word p, no_long word p, no_short word p) (positional_adds_file done false false word)
+plain_step word p done true = rw (no_hyphens word p, no_long word p, no_short word p) (positional_adds_file done true false word)
 
 plain_walk : (ws : List Text) → All IsPlainWord ws → (done : List Text) (waits : Bool)
     → (fold (walked chain_rules []) (between done waits false) ws).held ≡ held_files (done ++ ws)

@@ -65,29 +65,29 @@ module _ {X Y : Type 0} (f : X → Y) where
   operand : (c d : Bool) (m n : ℕ) → c ≡ d → m ≡ n → bracket c + m ≡ bracket d + n
   operand c d m n e h = ap₂ (λ (x : Bool) (y : ℕ). bracket x + y) e h
 
-  one_more : (a b c d : ℕ) → a ≡ b → c ≡ d → 1 + (a + c) ≡ 1 + (b + d)
-  one_more a b c d e h = ap₂ (λ (x y : ℕ). 1 + (x + y)) e h
+  suc_sum_equal : (a b c d : ℕ) → a ≡ b → c ≡ d → 1 + (a + c) ≡ 1 + (b + d)
+  suc_sum_equal a b c d e h = ap₂ (λ (x y : ℕ). 1 + (x + y)) e h
 
   operators : (e : Expression X) → operators_of_expression (expression_over f e) ≡ operators_of_expression e
   operators (Number n) = refl
   operators (Variable x) = refl
   operators (Read x i) = ap (λ n. 1 + n) (operators i)
-  operators (Sum a b) = one_more _ _ _ _ (operators a) (operand _ _ _ _ (sums b) (operators b))
-  operators (Difference a b) = one_more _ _ _ _ (operators a) (operand _ _ _ _ (sums b) (operators b))
-  operators (Product a b) = one_more _ _ _ _ (operand _ _ _ _ (sums a) (operators a)) (operand _ _ _ _ (compound b) (operators b))
-  operators (Quotient a b) = one_more _ _ _ _ (operand _ _ _ _ (sums a) (operators a)) (operand _ _ _ _ (compound b) (operators b))
-  operators (Remainder a b) = one_more _ _ _ _ (operand _ _ _ _ (sums a) (operators a)) (operand _ _ _ _ (compound b) (operators b))
+  operators (Sum a b) = suc_sum_equal _ _ _ _ (operators a) (operand _ _ _ _ (sums b) (operators b))
+  operators (Difference a b) = suc_sum_equal _ _ _ _ (operators a) (operand _ _ _ _ (sums b) (operators b))
+  operators (Product a b) = suc_sum_equal _ _ _ _ (operand _ _ _ _ (sums a) (operators a)) (operand _ _ _ _ (compound b) (operators b))
+  operators (Quotient a b) = suc_sum_equal _ _ _ _ (operand _ _ _ _ (sums a) (operators a)) (operand _ _ _ _ (compound b) (operators b))
+  operators (Remainder a b) = suc_sum_equal _ _ _ _ (operand _ _ _ _ (sums a) (operators a)) (operand _ _ _ _ (compound b) (operators b))
   operators (Negative a) = ap (λ n. 1 + n) (operand _ _ _ _ (compound a) (operators a))
 
   guard_operators : (g : Guard X) → operators_of_guard (guard_over f g) ≡ operators_of_guard g
-  guard_operators (Test l) = one_more _ _ _ _ (operators l.left) (operators l.right)
+  guard_operators (Test l) = suc_sum_equal _ _ _ _ (operators l.left) (operators l.right)
   guard_operators (Not g) = ap (λ n. 1 + n) (operand _ _ _ _ (joined g) (guard_operators g))
-  guard_operators (And a b) = one_more _ _ _ _ (operand _ _ _ _ (ors a) (guard_operators a)) (operand _ _ _ _ (joined b) (guard_operators b))
-  guard_operators (Or a b) = one_more _ _ _ _ (guard_operators a) (operand _ _ _ _ (ors b) (guard_operators b))
+  guard_operators (And a b) = suc_sum_equal _ _ _ _ (operand _ _ _ _ (ors a) (guard_operators a)) (operand _ _ _ _ (joined b) (guard_operators b))
+  guard_operators (Or a b) = suc_sum_equal _ _ _ _ (guard_operators a) (operand _ _ _ _ (ors b) (guard_operators b))
 
   assignment_operators : (a : Assignment X) → operators_of_assignment (assignment_over f a) ≡ operators_of_assignment a
   assignment_operators (Assign x e) = operators e
-  assignment_operators (ArrayWrite x i e) = one_more _ _ _ _ (operators i) (operators e)
+  assignment_operators (ArrayWrite x i e) = suc_sum_equal _ _ _ _ (operators i) (operators e)
   assignment_operators (Emit x e) = operators e
 
   both_of : (a b c d : Bool) → a ≡ b → c ≡ d → (a && c) ≡ (b && d)

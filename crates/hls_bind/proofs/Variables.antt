@@ -112,8 +112,8 @@ pub some_there : (o : Option VarInfo) → is_scalar_local o ≡ true → (v : Va
 some_there None h = absurd (cc h)
 some_there (Some v) h = (v, refl)
 
-not_both : (o : Option VarInfo) (v : VarInfo) → o ≡ None → o ≡ Some v → ⊥
-not_both o v h i = cc (h, i)
+none_is_not_some : (o : Option VarInfo) (v : VarInfo) → o ≡ None → o ≡ Some v → ⊥
+none_is_not_some o v h i = cc (h, i)
 
 -- a binding of variables vs with registers rs, and the new variables
 module _ (b : List (ℕ × List ℕ)) (vs : List VarInfo) (rs : List (List ℕ)) (binds : IsBindingOf vs b) (are : AreRegisters b rs)
@@ -193,7 +193,7 @@ module _ (b : List (ℕ × List ℕ)) (vs : List VarInfo) (rs : List (List ℕ))
 
   -- ---- numbers that differ
   not_fresh : (x y : ℕ) (v : VarInfo) (r : List ℕ) → slice_get vs x ≡ Some v → register b y ≡ Some r → v.name ≡ r → ⊥
-  not_fresh x y v r h e same = not_both (look vs r) v (look_none vs r (binds.fresh y r e)) (subst (λ n. look vs n ≡ Some v) same (look_own x v h))
+  not_fresh x y v r h e same = none_is_not_some (look vs r) v (look_none vs r (binds.fresh y r e)) (subst (λ n. look vs n ≡ Some v) same (look_own x v h))
 
   apart_in : (x y : ℕ) (v : VarInfo) (o : Option (List ℕ)) → register b x ≡ None → slice_get vs x ≡ Some v → register b y ≡ o → y < length vs
       → number_for x ≡ number_for y → x ≡ y

@@ -134,8 +134,8 @@ pub open_all : (n : ℕ) → open_below (λ i. None) n ≡ n
 open_all zero = refl
 open_all (suc n) = omega (arith, open_all n)
 
-pub not_both : (a b c : Bool) → a ≡ false → (a && b && c) ≡ false
-not_both a b c e = grind arith
+pub and_of_false : (a b c : Bool) → a ≡ false → (a && b && c) ≡ false
+and_of_false a b c e = grind arith
 
 pub one_less : (b : Bool) (x y : ℕ) → b ≡ true → x + cond b 1 0 ≡ y → x + 1 ≡ y
 one_less true x y e h = h
@@ -187,7 +187,7 @@ module _ (g : ItemGraph) (units : Units) (S : ℕ → Rows → Type 0) (I : ℕ 
       (and_first (is_none (rows j) && is_ready g rows r j) (suffice units used (g.uses j)) e)
 
   full_row : (rows : Rows) (r : ℕ) (used : Units) (j : ℕ) → is_none (rows j) ≡ false → may_stand g units rows r used j ≡ false
-  full_row rows r used j e = not_both (is_none (rows j)) (is_ready g rows r j) (suffice units used (g.uses j)) e
+  full_row rows r used j e = and_of_false (is_none (rows j)) (is_ready g rows r j) (suffice units used (g.uses j)) e
 
   row_step : (n r : ℕ) (rows : Rows) (used : Units) (o : Option ℕ) → next_item g units rows r used ≡ o → I r rows used → open_below rows g.count ≤ suc n
       → ((k : ℕ) → I r (place_item rows k r) (more_units used (g.uses k)) → open_below (place_item rows k r) g.count ≤ n

@@ -55,9 +55,9 @@ mid_open x y u v true b false h e = rw e (omega (arith, h))
 mid_open x y u v false b true h e = rw e (omega (arith, h))
 mid_open x y u v false b false h e = rw e (omega (arith, h))
 
-one_more : (x y u v : ℕ) (a : Bool) → a ≡ true → x ≡ y + cond a v 0 → y + v ≤ u → x ≤ u
-one_more x y u v true e h i = omega (arith, h, i)
-one_more x y u v false e h i = absurd (cc e)
+more_used_within : (x y u v : ℕ) (a : Bool) → a ≡ true → x ≡ y + cond a v 0 → y + v ≤ u → x ≤ u
+more_used_within x y u v true e h i = omega (arith, h, i)
+more_used_within x y u v false e h i = absurd (cc e)
 
 no_more_used : (x y u : ℕ) (a : Bool) → x ≡ y + cond a 0 0 → y ≤ u → x ≤ u
 no_more_used x y u true h i = omega (arith, h, i)
@@ -191,7 +191,7 @@ module _ (g : ItemGraph) (units : Units) where
   used_now : (rows : Rows) (k r q : ℕ) (x : Kind) (u : ℕ) (b : Bool) → (r == q) ≡ b → nat_lt k g.count ≡ true
       → used_in g (place_item rows k r) q x ≡ used_in g rows q x + cond (nat_lt k g.count) (cond b (g.uses k x) 0) 0 → used_in g rows q x ≤ u
       → (r ≡ q → used_in g rows q x + g.uses k x ≤ u) → used_in g (place_item rows k r) q x ≤ u
-  used_now rows k r q x u true e f h i w = let c : r ≡ q = grind (arith, nat_tests) in one_more _ _ _ _ (nat_lt k g.count) f h (w c)
+  used_now rows k r q x u true e f h i w = let c : r ≡ q = grind (arith, nat_tests) in more_used_within _ _ _ _ (nat_lt k g.count) f h (w c)
   used_now rows k r q x u false e f h i w = no_more_used _ _ _ (nat_lt k g.count) h i
 
   pub keeps : (r : ℕ) (rows : Rows) (used : Units) (k : ℕ) → Going r rows used → k < g.count → may_stand g units rows r used k ≡ true

@@ -227,5 +227,5 @@ one_program bytes p q t u = same_program (program_reading (program_tokens (token
 pub one_fault : (bytes : List ℕ) (f g : TextFault) → ProgramTextStops bytes f → ProgramTextStops bytes g → f ≡ g
 one_fault bytes f g t u = same_fault (program_reading (program_tokens (tokens_of bytes)) at_prog) f g (refuses bytes f t) (refuses bytes g u)
 
-pub not_both : (bytes : List ℕ) (p : Program) (f : TextFault) → TextSpellsProgram bytes p → ProgramTextStops bytes f → ⊥
-not_both bytes p f t u = differ (program_reading (program_tokens (tokens_of bytes)) at_prog) p f (reads bytes p t) (refuses bytes f u)
+pub spelled_program_never_stops : (bytes : List ℕ) (p : Program) (f : TextFault) → TextSpellsProgram bytes p → ProgramTextStops bytes f → ⊥
+spelled_program_never_stops bytes p f t u = differ (program_reading (program_tokens (tokens_of bytes)) at_prog) p f (reads bytes p t) (refuses bytes f u)

@@ -19,9 +19,9 @@ use Rattle.hls_block_filling.specs.Sources.{state_with_row, state_by, states_by}
 use Rattle.hls_sched.specs.RowMoves.{transition_with_row}
 
 -- one item more of a list, behind others
-pub one_more : {A C : Type 0} (g : A → C) (start : List C) (xs : List A) (i : ℕ) (x : A) (old new : List C) → i < length xs → x ≡ get_or xs i x
+pub map_behind_start_grows : {A C : Type 0} (g : A → C) (start : List C) (xs : List A) (i : ℕ) (x : A) (old new : List C) → i < length xs → x ≡ get_or xs i x
     → new ≡ old ++ g x ∷ [] → old ≡ start ++ map g (take i xs) → new ≡ start ++ map g (take (i + 1) xs)
-one_more g start xs i x old new h e n o = n ∙ ap (λ l. l ++ g x ∷ []) o ∙ append_assoc start (map g (take i xs)) (g x ∷ [])
+map_behind_start_grows g start xs i x old new h e n o = n ∙ ap (λ l. l ++ g x ∷ []) o ∙ append_assoc start (map g (take i xs)) (g x ∷ [])
     ∙ ap (λ l. start ++ l) (sym (map_more g xs i x h ∙ ap (λ y. map g (take i xs) ++ g y ∷ []) (sym e)))
 
 -- what holds where a value is made, where it was made

@@ -12,9 +12,9 @@ use Rattle.nf_sums.proofs.Values.{small_is}
 use Rattle.nf_arrays.specs.Pushes.{with_last_item, list_with_item}
 
 -- a copy of an item behind those of the items in front of it
-pub one_more : (ps old new : List Polynomial) (i : ℕ) (p q : Polynomial) → i < length ps → p ≡ get_or ps i p → new ≡ old ++ q ∷ [] → q ≡ p
+pub push_moves_item : (ps old new : List Polynomial) (i : ℕ) (p q : Polynomial) → i < length ps → p ≡ get_or ps i p → new ≡ old ++ q ∷ [] → q ≡ p
     → old ++ drop i ps ≡ ps → new ++ drop (i + 1) ps ≡ ps
-one_more ps old new i p q h at n e so_far =
+push_moves_item ps old new i p q h at n e so_far =
     ap (λ l. l ++ drop (i + 1) ps) (n ∙ ap (λ y. old ++ y ∷ []) e)
     ∙ append_assoc old (p ∷ []) (drop (i + 1) ps)
     ∙ ap (λ l. old ++ l) (sym (drop_next ps i p h at))

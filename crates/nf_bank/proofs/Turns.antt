@@ -23,10 +23,10 @@ module _ {N V T : Type 0} (bound : N → ℕ) (over : List Atom → N → V) (se
   SpellsFirst atoms ns items k = SpellsOverAtoms (bound_over bound) (λ l. map (over l)) atoms ns (map seen (take k items))
 
   -- one item more is spelled
-  pub one_more : Grows bound over → (atoms whole : List Atom) (ns : List N) (items : List T) (k : ℕ) (n : N) (x : T) → SpellsFirst atoms ns items k
+  pub append_spells_first : Grows bound over → (atoms whole : List Atom) (ns : List N) (items : List T) (k : ℕ) (n : N) (x : T) → SpellsFirst atoms ns items k
       → IsFront atoms whole → k < length items → x ≡ get_or items k x → SpellsOverAtoms bound over whole n (seen x)
       → SpellsFirst whole (ns ++ n ∷ []) items (k + 1)
-  one_more g atoms whole ns items k n x s f h e t =
+  append_spells_first g atoms whole ns items k n x s f h e t =
       let r = spells_list bound over g atoms whole ns (map seen (take k items)) f s in
       record {
         within = bound_push bound ns n (length whole) r.within t.within;

@@ -21,9 +21,9 @@ use Rattle.nf_refutation.specs.BoundTables.{bound_in, has_number, is_below, is_a
 use Rattle.nf_refutation.specs.declared.bound_table.BoundTable.{BoundTable}
 
 -- ---- a list
-pub one_more : (list : List NLit) (i : ℕ) (x : NLit) → i < length list → x ≡ get_or list i x
+pub literals_left_begin : (list : List NLit) (i : ℕ) (x : NLit) → i < length list → x ≡ get_or list i x
     → map literal_in (drop i list) ≡ literal_in x ∷ map literal_in (drop (i + 1) list)
-one_more list i x h e = at_drop_more (map literal_in) list i x h ∙ ap (λ y. literal_in y ∷ map literal_in (drop (i + 1) list)) (sym e)
+literals_left_begin list i x h e = at_drop_more (map literal_in) list i x h ∙ ap (λ y. literal_in y ∷ map literal_in (drop (i + 1) list)) (sym e)
 
 pub no_more : (list : List NLit) (i : ℕ) → length list ≤ i → map literal_in (drop i list) ≡ []
 no_more list i h = ap (map literal_in) (drop_all i list h)

@@ -107,11 +107,11 @@ number_done c z w =
 -- ---- one atom, a monomial, a sum
 
 -- a monomial times a symbol behind its atoms
-one_more : (k : Monomial) (c : ℤ) (p : Pos) → int_eq c (pos 0) ≡ false → unsigned_abs c ≤ weight_limit
+monomial_times_symbol : (k : Monomial) (c : ℤ) (p : Pos) → int_eq c (pos 0) ≡ false → unsigned_abs c ≤ weight_limit
     → ordered_monomial (monomial_product k (Times (Symbol p) One)) ≡ true → depth_of_monomial (monomial_product k (Times (Symbol p) One)) ≤ depth_limit
     → size_of_monomial (monomial_product k (Times (Symbol p) One)) ≤ most_atoms
     → normal_product (Plus k c Zero) (polynomial_of_symbol p) ≡ Done (Plus (monomial_product k (Times (Symbol p) One)) c Zero)
-one_more k c p z w o d s =
+monomial_times_symbol k c p z w o d s =
     let n = monomial_product k (Times (Symbol p) One) in
     (λ i. operation (Plus k c Zero) (polynomial_of_symbol p) (weight_of (Plus k c Zero) * weight_of (polynomial_of_symbol p))
     (size_of (Plus k c Zero) * size_of (polynomial_of_symbol p)) (Plus n (times_one c i) Zero))
@@ -154,7 +154,7 @@ module _ (v : List (Pos × Nf)) where
         let j : size_of_monomial n ≤ most_atoms = omega (arith, size-joined n m, ap size_of_monomial f, s) in
         ap (λ g. after (normal_product (Plus k c Zero) g) (λ q. atoms_substituted v m q))
         (number_stays p (and_first (symbol_stays v p) (atoms_stay v m) h))
-        ∙ ap (λ r. after r (λ q. atoms_substituted v m q)) (one_more k c p z w in_order i j)
+        ∙ ap (λ r. after r (λ q. atoms_substituted v m q)) (monomial_times_symbol k c p z w in_order i j)
         ∙ product_stays n m f (and_second (symbol_stays v p) (atoms_stay v m) h)
     product_stays k (Times (Read a i) m) e h = absurd (cc h)
     product_stays k (Times (Quotient p q) m) e h = absurd (cc h)

@@ -9,8 +9,8 @@ pub pushed_normal : (ps : List Polynomial) (p : Polynomial) → AreNormalItems p
 pushed_normal [] p a n = (n, tt)
 pushed_normal (q ∷ ps) p a n = (a.0, pushed_normal ps p a.1 n)
 
-pub one_more : (ps : List Polynomial) (i : ℕ) (d : Polynomial) → i < length ps → AreNormalItems (take i ps) → IsNormal (get_or ps i d)
+pub next_keeps_normal_items : (ps : List Polynomial) (i : ℕ) (d : Polynomial) → i < length ps → AreNormalItems (take i ps) → IsNormal (get_or ps i d)
     → AreNormalItems (take (i + 1) ps)
-one_more ps i d h a n =
+next_keeps_normal_items ps i d h a n =
     let s : suc i ≡ i + 1 = omega arith in
     subst (λ j. AreNormalItems (take j ps)) s (subst AreNormalItems (sym (take-suc ps i d h)) (pushed_normal (take i ps) (get_or ps i d) a n))

@@ -56,7 +56,7 @@ fn depth_of(items: &[Poly]) -> u32
 }
 
 // Items are normal.
-#[tactic(auto, using(crate::proofs::Items::one_more))]
+#[tactic(auto, using(crate::proofs::Items::next_keeps_normal_items))]
 fn see_normal(items: &[Poly])
     ensures { AreNormalItems items.now }
 {

@@ -4,9 +4,9 @@ use Rattle.std.proofs.Common.{Result, Ok, IfOk}
 use Rattle.std.proofs.lemmas.List.{append-nil, at_drop_all}
 use Rattle.fs_model.proofs.Lists.{map_drop_next}
 
-pub one_more : {A B : Type 0} (f : A → B) (old new : List B) (xs : List A) (i : ℕ) (x : A) → i < length xs → x ≡ get_or xs i x
+pub append_moves_mapped : {A B : Type 0} (f : A → B) (old new : List B) (xs : List A) (i : ℕ) (x : A) → i < length xs → x ≡ get_or xs i x
     → new ≡ old ++ f x ∷ [] → new ++ map f (drop (i + 1) xs) ≡ old ++ map f (drop i xs)
-one_more f old new xs i x h e n =
+append_moves_mapped f old new xs i x h e n =
     ap (λ l. l ++ map f (drop (i + 1) xs)) n
     ∙ append_assoc old (f x ∷ []) (map f (drop (i + 1) xs))
     ∙ ap (λ l. old ++ l) (sym (map_drop_next f xs i x h e))

@@ -21,8 +21,8 @@ inserted_last (e ∷ done) rest k f h =
     ap (λ b. if b then (e.0, f) ∷ done else e ∷ insert_entry same_place done k f) other ∙ ap (λ es. e ∷ es) (inserted_last done rest k f h.1)
 
 -- one more entry of a map is copied
-pub one_more : (done rest all new : List (Place × Nf)) (k : Place) (f : Nf) → IsDistinct same_place (keys_of all) → done ++ (k, f) ∷ rest ≡ all
+pub insert_moves_entry : (done rest all new : List (Place × Nf)) (k : Place) (f : Nf) → IsDistinct same_place (keys_of all) → done ++ (k, f) ∷ rest ≡ all
     → new ≡ insert_entry same_place done k f → new ++ rest ≡ all
-one_more done rest all new k f h e n =
+insert_moves_entry done rest all new k f h e n =
     ap (λ es. es ++ rest) (n ∙ inserted_last done rest k f (subst (λ es. IsDistinct same_place (keys_of es)) (sym e) h))
     ∙ append_assoc done ((k, f) ∷ []) rest ∙ e

@@ -75,9 +75,9 @@ abbrev pub AllEquations : (Pos → Option Nf → Type 0) → List FactPosition �
 AllEquations E [] = Unit {0}
 AllEquations E (p ∷ ps) = E p.pos p.equation × AllEquations E ps
 
-one_more : (Q : Sort → Pos → Type 0) (qs : List Position) (p : Position) → AllPass Q qs → Q p.sort p.pos → AllPass Q (qs ++ p ∷ [])
-one_more Q [] p h g = (g, tt)
-one_more Q (q ∷ qs) p h g = (h.0, one_more Q qs p h.1 g)
+all_pass_with_last : (Q : Sort → Pos → Type 0) (qs : List Position) (p : Position) → AllPass Q qs → Q p.sort p.pos → AllPass Q (qs ++ p ∷ [])
+all_pass_with_last Q [] p h g = (g, tt)
+all_pass_with_last Q (q ∷ qs) p h g = (h.0, all_pass_with_last Q qs p h.1 g)
 
 unheld_is : (ms : List (Pos × Nf)) (s : TermSort) (o : Option Pos) (x : Pos) → unheld_symbol ms s o ≡ Some x → o ≡ Some x
 unheld_is ms s None x e = e
@@ -151,7 +151,7 @@ module _ (v ms : List (Pos × Nf)) (Q : Sort → Pos → Type 0) (E : Pos → Op
   by_finding s p qs (Some f) h e = found s p qs f h e
 
   still_pass : (p : Position) (o : Option Nf) (qs : List Position) → AllPass Q qs → (o ≡ None → Q p.sort p.pos) → AllPass Q (freed_with p o qs)
-  still_pass p None qs h g = one_more Q qs p h (g refl)
+  still_pass p None qs h g = all_pass_with_last Q qs p h (g refl)
   still_pass p (Some f) qs h g = h
 
   abbrev Third : List Position → List Bool → List FactPosition → Type 0

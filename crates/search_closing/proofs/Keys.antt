@@ -42,9 +42,9 @@ is_new (x ∷ xs) rest n h =
     (is_new xs rest n (and_second (not any) (nodes_differ (xs ++ n ∷ rest)) h))
 
 -- the keys of nodes and of one more behind them, which stands at other points
-pub one_more : (xs rest : List SearchNode) (n : SearchNode) (old new : List (ℕ × ℕ)) → nodes_differ (xs ++ n ∷ rest) ≡ true → old ≡ keys_in xs
+pub insert_key_adds_node : (xs rest : List SearchNode) (n : SearchNode) (old new : List (ℕ × ℕ)) → nodes_differ (xs ++ n ∷ rest) ≡ true → old ≡ keys_in xs
     → new ≡ insert_key same_key old (key_at n) → new ≡ keys_in (xs ++ n ∷ [])
-one_more xs rest n old new h e i =
+insert_key_adds_node xs rest n old new h e i =
     i ∙ ap (λ ks. insert_key same_key ks (key_at n)) e ∙ ap (λ b. cond b (keys_in xs) (keys_in xs ++ key_at n ∷ [])) (is_new xs rest n h)
     ∙ sym (map-append key_at xs (n ∷ []))
 
@@ -89,5 +89,5 @@ key_more ns i n key old new lt e h k o g =
     ∙ ap (λ xs. table_in (take i ns) ++ table_in xs) (drop_next ns i n lt e) in
     let more : table_in (take (i + 1) ns) ≡ table_in (take i ns) ++ search_node_in n ∷ [] = ap table_in (next_done ns i n lt e)
     ∙ map-append search_node_in (take i ns) (n ∷ []) in
-    one_more (table_in (take i ns)) (table_in (drop (i + 1) ns)) (search_node_in n) old new (ap nodes_differ (sym split) ∙ h) o
+    insert_key_adds_node (table_in (take i ns)) (table_in (drop (i + 1) ns)) (search_node_in n) old new (ap nodes_differ (sym split) ∙ h) o
     (g ∙ ap (insert_key same_key old) k) ∙ ap keys_in (sym more)

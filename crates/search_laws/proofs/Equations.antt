@@ -59,9 +59,9 @@ done (inl a) = a
 done (inr b) = absurd b
 
 module _ (c : TermContext) (i : ℕ) (goal : List (Option Nf)) where
-  one_more : (fs : List (Option Nf)) (e : List ℕ × List ℕ) (es : List (List ℕ × List ℕ)) → length fs ≡ length goal → (h : IsOneOf c i goal e) → (k : ℕ)
+  set_after_first : (fs : List (Option Nf)) (e : List ℕ × List ℕ) (es : List (List ℕ × List ℕ)) → length fs ≡ length goal → (h : IsOneOf c i goal e) → (k : ℕ)
       → IsSet c fs goal (e ∷ es) k → IsSet c (set fs h.place (Some h.form)) goal es k
-  one_more fs e es n h k g = by_test (k == h.place) refl g
+  set_after_first fs e es n h k g = by_test (k == h.place) refl g
     where
       other : k ≢ h.place → IsSet c fs goal (e ∷ es) k → IsSet c (set fs h.place (Some h.form)) goal es k
       other d (inl s) = inl (set_there fs k h.place (Some h.form) d ∙ s)
@@ -87,4 +87,4 @@ module _ (c : TermContext) (i : ℕ) (goal : List (Option Nf)) where
   all_read [] fs h n g = ap Ok (same_lists fs goal (λ k. done (g k)))
   all_read (e ∷ es) fs h n g =
       put_read fs e es h.0 ∙ all_read es (set fs h.0.place (Some h.0.form)) h.1 (length-set fs h.0.place (Some h.0.form) ∙ n)
-      (λ k. one_more fs e es n h.0 k (g k))
+      (λ k. set_after_first fs e es n h.0 k (g k))

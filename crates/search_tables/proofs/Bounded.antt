@@ -91,10 +91,10 @@ module _ (m : MachinePair) where
     where
       at_once : (s t : ℕ) → s ≡ t → 0 + t ≤ s
       at_once s t e = omega (arith, e)
-  lead_short (x ∷ xs) S T h = one_more (length xs) (potential T) (potential h.0) (potential S) (lead_short xs h.0 T h.3) (next_less S h.0 x h.2)
+  lead_short (x ∷ xs) S T h = suc_sum_within (length xs) (potential T) (potential h.0) (potential S) (lead_short xs h.0 T h.3) (next_less S h.0 x h.2)
     where
-      one_more : (n t v s : ℕ) → n + t ≤ v → v < s → suc n + t ≤ s
-      one_more n t v s a b = omega (arith, a, b)
+      suc_sum_within : (n t v s : ℕ) → n + t ≤ v → v < s → suc n + t ≤ s
+      suc_sum_within n t v s a b = omega (arith, a, b)
 
   first_low : potential (first_table m) ≤ most_nodes * moves_a_node
   first_low =

@@ -217,9 +217,9 @@ list_is r l = λ k. record {
 
 -- ---- a loop over a list: its next item
 
-pub one_more : {X Y A : Type 0} (f : X → Y) (g : Y → A) (old new : List A) (xs : List X) (i : ℕ) (x : X) → i < length xs → x ≡ get_or xs i x
+pub append_moves_twice_mapped : {X Y A : Type 0} (f : X → Y) (g : Y → A) (old new : List A) (xs : List X) (i : ℕ) (x : X) → i < length xs → x ≡ get_or xs i x
     → new ≡ old ++ g (f x) ∷ [] → new ++ map g (map f (drop (i + 1) xs)) ≡ old ++ map g (map f (drop i xs))
-one_more f g old new xs i x h e n =
+append_moves_twice_mapped f g old new xs i x h e n =
     ap (λ l. l ++ map g (map f (drop (i + 1) xs))) n
     ∙ append_assoc old (g (f x) ∷ []) (map g (map f (drop (i + 1) xs)))
     ∙ ap (λ l. old ++ map g l) (sym (map_drop_next f xs i x h e))
@@ -228,7 +228,7 @@ one_more f g old new xs i x h e n =
 pub one_made : {T X Y A : Type 0} (view : T → A) (f : X → Y) (g : Y → A) (made : Result T NoMemory) (old new : List T) (xs : List X) (i : ℕ) (x : X)
     → i < length xs → x ≡ get_or xs i x → IsPushed made old new → IfOk made (λ t. view t ≡ g (f x))
     → map view new ++ map g (map f (drop (i + 1) xs)) ≡ map view old ++ map g (map f (drop i xs))
-one_made view f g (Ok t) old new xs i x h e n m = one_more f g (map view old) (map view new) xs i x h e
+one_made view f g (Ok t) old new xs i x h e n m = append_moves_twice_mapped f g (map view old) (map view new) xs i x h e
     (ap (map view) n ∙ map_push view old t ∙ ap (λ a. map view old ++ a ∷ []) m)
 one_made view f g (Err d) old new xs i x h e n m = absurd n
 

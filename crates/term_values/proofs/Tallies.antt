@@ -62,8 +62,8 @@ more_count s (false, m) = refl
 most_one : (a b n : ℕ) → a ≤ suc b → b ≡ 0 → n ≡ 1 → a ≤ n
 most_one a b n h e f = omega (arith, h, e, f)
 
-one_more : (a b n k : ℕ) → a ≤ suc b → b ≤ k → n ≡ suc k → a ≤ n
-one_more a b n k h e f = omega (arith, h, e, f)
+within_next : (a b n k : ℕ) → a ≤ suc b → b ≤ k → n ≡ suc k → a ≤ n
+within_next a b n k h e f = omega (arith, h, e, f)
 
 pub first_tally : (find : Find) (bytes rest : List ℕ) (t : Tally) (m : Bool × Monomial)
     → ((k : ForPolynomial) → term_reading bytes (at_polynomial k) ≡ term_reading rest (after_sum (first_sum m) k))
@@ -84,7 +84,7 @@ pub more_tally : (find : Find) (bytes rest signed_at left : List ℕ) (old new :
 more_tally find bytes rest signed_at left old new m h e goes c = record {
   sum = more_sum h.sum m;
   goes = h.goes ∙ ap (λ (bs : List ℕ). term_reading bs (after_sum h.sum whole_polynomial)) e ∙ goes h.sum whole_polynomial;
-  count = one_more new.count old.count (monomial_count (more_sum h.sum m)) (monomial_count h.sum) c.count h.count (more_count h.sum m);
+  count = within_next new.count old.count (monomial_count (more_sum h.sum m)) (monomial_count h.sum) c.count h.count (more_count h.sum m);
   numbers = c.numbers ∙ ap (λ b. b && monomial_passes numbers_fit m.1) h.numbers ∙ sym (more_passes numbers_fit h.sum m);
   names = c.names ∙ ap (λ b. b && monomial_passes (names_known find) m.1) h.names ∙ sym (more_passes (names_known find) h.sum m);
   sorts = c.sorts ∙ ap (λ b. b && monomial_passes (sorts_fit find) m.1) h.sorts ∙ sym (more_passes (sorts_fit find) h.sum m);

@@ -1,6 +1,6 @@
 use Rattle.std.proofs.Common.{◌++◌, ◌∷◌, ◌+◌, ◌≡◌, map, drop, ap, sym, ◌∙◌}
 use Rattle.fs_model.proofs.Lists.{map_drop_next}
-use Rattle.nf_trees.proofs.Loops.{one_more}
+use Rattle.nf_trees.proofs.Loops.{append_moves_mapped}
 use Rattle.cert_model.specs.Lawful.{points_differ}
 use Rattle.cert_model.specs.View.{node_of}
 use Rattle.cert_check.proofs.Keyed.{none_before}
@@ -19,6 +19,7 @@ put-requires-clause-absent c =
 pub loop-node-preserved : goal.loop-node-preserved
 loop-node-preserved c = record {
   keyed = c.in_ok-put.ensures.keyed;
-  rest = one_more node_of _ _ c.args.nodes.now c.loop-node.node-index c.node-item.result c.loop-node-test.true c.node-item.is c.in_ok-put.ensures.added
+  rest = append_moves_mapped node_of _ _ c.args.nodes.now c.loop-node.node-index c.node-item.result c.loop-node-test.true c.node-item.is
+      c.in_ok-put.ensures.added
       ∙ c.loop-node.invariant.rest;
 }

@@ -3,7 +3,7 @@ use Rattle.nf_rel.specs.View.{literal_in}
 use Rattle.cert_writer.specs.WrittenCertificates.{literal_bytes}
 use Rattle.cert_writer.specs.View.{names_in}
 use Rattle.cert_writer.proofs.Kept.{next_kept}
-use Rattle.cert_writer.proofs.Values.{one_more, texts_are}
+use Rattle.cert_writer.proofs.Values.{append_value_keeps_whole, texts_are}
 use Rattle.cert_writer.proofs.conditions.conditions_value.Goals as goal
 
 pub value_of-requires : goal.value_of-requires
@@ -16,7 +16,7 @@ loop-literal-preserved c = record {
   kept =
       (next_kept c.args.literals.now c.loop-literal.literal-index c.literal-item.result c.loop-literal-test.true c.literal-item.is
       c.loop-literal.invariant.kept).1;
-  written = one_more (λ m. string (literal_bytes (names_in c.args.names.now) (literal_in m))) c.loop-literal.out.items c.push.new.self.items
+  written = append_value_keeps_whole (λ m. string (literal_bytes (names_in c.args.names.now) (literal_in m))) c.loop-literal.out.items c.push.new.self.items
       c.in_ok-value_of.field-0 c.args.literals.now c.loop-literal.literal-index c.literal-item.result c.loop-literal-test.true c.literal-item.is
       c.in_ok-value_of.ensures c.in_ok-push.ensures.items c.loop-literal.invariant.written;
 }

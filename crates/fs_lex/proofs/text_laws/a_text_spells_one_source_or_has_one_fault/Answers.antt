@@ -1,4 +1,4 @@
-use Rattle.fs_lex.proofs.Texts.{spells_or_stops, one_source, one_fault, not_both}
+use Rattle.fs_lex.proofs.Texts.{spells_or_stops, one_source, one_fault, spelled_text_never_stops}
 use Rattle.fs_lex.proofs.text_laws.a_text_spells_one_source_or_has_one_fault.Goals as goal
 
 pub returns-clause-either : goal.returns-clause-either
@@ -11,4 +11,4 @@ pub returns-clause-faults : goal.returns-clause-faults
 returns-clause-faults c = one_fault
 
 pub returns-clause-apart : goal.returns-clause-apart
-returns-clause-apart c = not_both
+returns-clause-apart c = spelled_text_never_stops

@@ -4,7 +4,7 @@ use Rattle.fs_grammar.specs.Tokens.{line_at}
 use Rattle.fs_grammar.specs.Grammar.{reading, at_declaration, at_reset}
 use Rattle.fs_phrase_text.proofs.PassedOn.{refused}
 use Rattle.fs_phrase_text.proofs.Joined.{joined}
-use Rattle.fs_text_parser.proofs.ReadParts.{not_pushed, if_pushed, one_more}
+use Rattle.fs_text_parser.proofs.ReadParts.{not_pushed, if_pushed, parses_on_with_pushed}
 use Rattle.fs_text_parser.proofs.declarations.declarations.Goals as goal
 
 pub returns-in_err-rest : goal.returns-in_err-rest
@@ -21,7 +21,7 @@ pub each-preserved : goal.each-preserved
 each-preserved c =
     let l = c.each in
     l.invariant
-    ∙ one_more declaration_of (λ ds es. ds ++ es) (λ ds y. reading y.now (at_declaration c.args.format ds)) append_assoc c.declaration.result
+    ∙ parses_on_with_pushed declaration_of (λ ds es. ds ++ es) (λ ds y. reading y.now (at_declaration c.args.format ds)) append_assoc c.declaration.result
     c.in_ok-rest.rest [] _ _ _ c.in_ok-rest.ensures
     (c.declaration.ensures.goes (map declaration_of l.all.items))
 

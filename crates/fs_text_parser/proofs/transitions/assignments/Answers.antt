@@ -4,7 +4,7 @@ use Rattle.fs_grammar.specs.declared.token.Token.{Token}
 use Rattle.fs_grammar.specs.Grammar.{with_assignments}
 use Rattle.fs_phrase_text.proofs.PassedOn.{refused}
 use Rattle.fs_grammar.proofs.Appending.{assignments_twice}
-use Rattle.fs_text_parser.proofs.ReadParts.{not_pushed, if_pushed, after_assignment, one_more}
+use Rattle.fs_text_parser.proofs.ReadParts.{not_pushed, if_pushed, after_assignment, parses_on_with_pushed}
 use Rattle.fs_text_parser.proofs.transitions.assignments.Goals as goal
 
 pub returns-in_err-more-clause-goes : goal.returns-in_err-more-clause-goes
@@ -19,7 +19,7 @@ returns-then-not-more-clause-goes c =
     let l = c.loop-all in
     let next : Bool × Bor (List Token) = (c.in_ok-more.more, c.in_ok-more.after) in
     λ o e. l.invariant.0 o e
-    ∙ one_more named_assignment with_assignments after_assignment assignments_twice c.listed_assignment.result next o _ _ _ c.in_ok-more.ensures
+    ∙ parses_on_with_pushed named_assignment with_assignments after_assignment assignments_twice c.listed_assignment.result next o _ _ _ c.in_ok-more.ensures
     (c.listed_assignment.ensures.goes (with_assignments o (map named_assignment l.all.items)) e)
     ∙ ap (λ more. after_assignment (with_assignments o (map named_assignment c.push_read.new.parts.items)) (more, c.in_ok-more.after)) c.if-not-more.true
 
@@ -43,7 +43,8 @@ loop-all-preserved c =
     c.listed_assignment.ensures.shorter in (
       λ o e.
           l.invariant.0 o e
-          ∙ one_more named_assignment with_assignments after_assignment assignments_twice c.listed_assignment.result next o _ _ _ c.in_ok-more.ensures
+          ∙ parses_on_with_pushed named_assignment with_assignments after_assignment assignments_twice c.listed_assignment.result next o _ _ _
+          c.in_ok-more.ensures
           (c.listed_assignment.ensures.goes (with_assignments o (map named_assignment l.all.items)) e)
           ∙ ap (λ more. after_assignment (with_assignments o (map named_assignment c.push_read.new.parts.items)) (more, c.in_ok-more.after))
           c.if-not-more.false,

@@ -3,7 +3,7 @@ use Rattle.fs_model.specs.View.{source_transition_of}
 use Rattle.fs_grammar.specs.Grammar.{reading, at_transition, with_transitions}
 use Rattle.fs_phrase_text.proofs.PassedOn.{refused}
 use Rattle.fs_grammar.proofs.Appending.{transitions_twice}
-use Rattle.fs_text_parser.proofs.ReadParts.{not_pushed, if_pushed, one_more}
+use Rattle.fs_text_parser.proofs.ReadParts.{not_pushed, if_pushed, parses_on_with_pushed}
 use Rattle.fs_text_parser.proofs.transitions.transitions.Goals as goal
 
 pub returns-in_err-rest-clause-goes : goal.returns-in_err-rest-clause-goes
@@ -24,7 +24,7 @@ each-preserved c =
     c.in_ok-rest.ensures c.transition.ensures.shorter in (
       λ d e.
           l.invariant.0 d e
-          ∙ one_more source_transition_of with_transitions (λ s y. reading y.now (at_transition s)) transitions_twice c.transition.result
+          ∙ parses_on_with_pushed source_transition_of with_transitions (λ s y. reading y.now (at_transition s)) transitions_twice c.transition.result
           c.in_ok-rest.rest d _ _ _ c.in_ok-rest.ensures
           (c.transition.ensures.goes (with_transitions d (map source_transition_of l.all.items)) e),
       omega (arith, less, l.invariant.1),

@@ -4,7 +4,7 @@ use Rattle.fs_stores.specs.InputValues.{inputs_of, signatures_of}
 use Rattle.fs_run_text.proofs.Serving.{serves_both}
 use Rattle.fs_trials.specs.Candidates.{candidate_count, candidate_contents, stated_count}
 use Rattle.fs_trials.specs.Differences.{DiffersAt, AreApart}
-use Rattle.fs_trials.proofs.Apart.{stated_here, at_candidate, shown_at, one_more, all_below}
+use Rattle.fs_trials.proofs.Apart.{stated_here, at_candidate, shown_at, holds_below_next, all_below}
 use Rattle.fs_trials.proofs.differences.first_difference_among.Goals as goal
 
 pub inputs-requires : goal.inputs-requires
@@ -22,7 +22,7 @@ loop-j-preserved c =
     let a = c.args.a.now in
     let b = c.args.b.now in
     let ins = inputs_of c.in_ok-inputs.inputs in
-    one_more (λ i. ¬ DiffersAt a b c.args.steps i) c.loop-j.j c.loop-j.invariant
+    holds_below_next (λ i. ¬ DiffersAt a b c.args.steps i) c.loop-j.j c.loop-j.invariant
     (at_candidate a b c.args.steps c.loop-j.j ins
     (stated_here a b c.loop-j.j c.in_ok-candidates.candidates.pool.items ins c.in_ok-inputs.ensures.inputs c.in_ok-candidates.ensures)
     (c.in_ok-left.ensures.none c.in_default.is))

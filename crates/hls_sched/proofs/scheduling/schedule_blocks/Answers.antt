@@ -6,7 +6,7 @@ use Rattle.fs_model.proofs.Lists.{same_there}
 use Rattle.hls_sched.specs.TracedBlocks.{moves_from}
 use Rattle.hls_sched.specs.Reports.{report_of, report_at}
 use Rattle.fs_model.proofs.Adding.{map_push_made}
-use Rattle.hls_sched.proofs.Copied.{one_more, was_made, flat_more, flat_end}
+use Rattle.hls_sched.proofs.Copied.{map_behind_start_grows, was_made, flat_more, flat_end}
 use Rattle.hls_sched.proofs.Gathered.{reports_end}
 use Rattle.hls_sched.proofs.scheduling.schedule_blocks.Goals as goal
 
@@ -19,7 +19,7 @@ loop-first-preserved c =
     let low = c.loop-first-test.true in
     let old = c.loop-first.invariant in
     record {
-      reports = one_more (λ (q : StateId). report_at units m q.0) [] starts i _ _ _ low (same_there starts i _ _ low)
+      reports = map_behind_start_grows (λ (q : StateId). report_at units m q.0) [] starts i _ _ _ low (same_there starts i _ _ low)
           (map_push_made report_of c.schedule_block.result _ _ _ c.in_ok-push_made.ensures c.schedule_block.ensures.report) old.reports;
       moves = λ p. flat_more (moves_from units p m) (λ (q : StateId). q.0) starts i _ _ _ low (same_there starts i _ _ low)
           (was_made c.schedule_block.result _ _ c.in_ok-push_made.ensures c.schedule_block.ensures.moves p) (old.moves p);

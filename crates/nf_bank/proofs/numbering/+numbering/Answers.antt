@@ -13,7 +13,7 @@ use Rattle.nf_bank.specs.AtomNumbers.{SpellsSum, SpellsArray, SpellsAtom, bound_
 use Rattle.nf_bank.specs.AtomNumbers.{write_over}
 use Rattle.nf_bank.proofs.Fronts.{front_same, front_trans}
 use Rattle.nf_bank.proofs.Growing.{numbers_grow, terms_grow, writes_grow, read_spelled, quotient_spelled, remainder_spelled}
-use Rattle.nf_bank.proofs.Turns.{one_more, monomial_spelled, sum_spelled, array_spelled, number_spells, term_spells, write_spells}
+use Rattle.nf_bank.proofs.Turns.{append_spells_first, monomial_spelled, sum_spelled, array_spelled, number_spells, term_spells, write_spells}
 use Rattle.nf_bank.proofs.numbering.+numbering.Goals as goal
 
 pub put_mono-loop-atom-preserved : goal.put_mono-loop-atom-preserved
@@ -24,7 +24,8 @@ put_mono-loop-atom-preserved t c =
       kept = grind (arith, common_steps);
       whole = c.loop-atom.invariant.whole;
       spelled = rw c.in_ok-push.ensures.items
-          (one_more bound_of_number atom_of_number atom_in numbers_grow c.loop-atom.bank c.put_atom.new.bank c.loop-atom.ids.items c.deref-atom-items.result.now
+          (append_spells_first bound_of_number atom_of_number atom_in numbers_grow c.loop-atom.bank c.put_atom.new.bank c.loop-atom.ids.items
+          c.deref-atom-items.result.now
           c.loop-atom.atom-index c.in_ok-id.id x c.loop-atom.invariant.spelled c.in_ok-id.ensures.front c.loop-atom-test.true c.atom-item.is s);
       front = front_trans _ _ _ c.loop-atom.invariant.front c.in_ok-id.ensures.front;
     }
@@ -56,7 +57,7 @@ put_sum-loop-mono-preserved t c =
       kept = grind (arith, common_steps);
       whole = c.loop-mono.invariant.whole;
       spelled = rw c.in_ok-push.ensures.items
-          (one_more bound_of_term scaled_monomial_over term_in terms_grow c.loop-mono.bank c.put_mono.new.bank c.loop-mono.terms.items
+          (append_spells_first bound_of_term scaled_monomial_over term_in terms_grow c.loop-mono.bank c.put_mono.new.bank c.loop-mono.terms.items
           c.deref-mono-items.result.now c.loop-mono.mono-index c.new.result x c.loop-mono.invariant.spelled c.in_ok-atoms.ensures.front c.loop-mono-test.true
           c.loop-mono-item.is s);
       front = front_trans _ _ _ c.loop-mono.invariant.front c.in_ok-atoms.ensures.front;
@@ -93,7 +94,7 @@ put_array-loop-index-preserved t c =
       kept = grind (arith, common_steps);
       whole = c.loop-index.invariant.whole;
       spelled = rw c.in_ok-push.ensures.items
-          (one_more bound_of_write write_over write_in writes_grow c.loop-index.bank c.put_sum-in-loop-index.new.bank c.loop-index.writes.items
+          (append_spells_first bound_of_write write_over write_in writes_grow c.loop-index.bank c.put_sum-in-loop-index.new.bank c.loop-index.writes.items
           c.deref-index-items.result.now c.loop-index.index-index _ x c.loop-index.invariant.spelled h c.loop-index-test.true c.loop-index-item.is s);
       front = front_trans _ _ _ c.loop-index.invariant.front h;
     }

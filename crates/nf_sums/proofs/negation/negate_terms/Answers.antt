@@ -1,5 +1,5 @@
 use Rattle.std.proofs.Common.{◌∙◌, arith}
-use Rattle.nf_trees.proofs.Loops.{one_more}
+use Rattle.nf_trees.proofs.Loops.{append_moves_mapped}
 use Rattle.nf_sums.proofs.Negations.{opposite, negated_all}
 use Rattle.nf_sums.proofs.Turns.{weight_at}
 use Rattle.nf_sums.proofs.negation.negate_terms.Goals as goal
@@ -10,7 +10,7 @@ push_negated-requires c =
 
 pub loop-mono-preserved : goal.loop-mono-preserved
 loop-mono-preserved c =
-    one_more opposite _ _ c.args.terms.now c.loop-mono.mono-index c.loop-mono-item.result c.loop-mono-test.true c.loop-mono-item.is
+    append_moves_mapped opposite _ _ c.args.terms.now c.loop-mono.mono-index c.loop-mono-item.result c.loop-mono-test.true c.loop-mono-item.is
     c.in_ok-push_negated.ensures
     ∙ c.loop-mono.invariant
 

@@ -5,14 +5,14 @@ use Rattle.nf_trees.specs.declared.tree.ArrTree.{out-ArrTree}
 use Rattle.nf_trees.proofs.TreeParts.{atom_of_read, atom_of_quotient, atom_of_remainder, polynomial_of_terms, array_over_writes}
 use Rattle.nf_trees.proofs.Degrees.{monomial_in-is}
 use Rattle.nf_trees.proofs.Compared.{array_in-is, polynomial_in-is}
-use Rattle.nf_trees.proofs.Loops.{one_more, all_there, copied}
+use Rattle.nf_trees.proofs.Loops.{append_moves_mapped, all_there, copied}
 use Rattle.nf_trees.proofs.tree.+clones.Goals as goal
 
 pub MonoTree::try_clone-loop-atom-preserved : goal.MonoTree::try_clone-loop-atom-preserved
 MonoTree::try_clone-loop-atom-preserved t c =
     let old = map atom_in c.loop-atom.atoms.items in
     ap monomial_of
-    (one_more atom_in old _ c.deref-atom-items.result.now c.loop-atom.atom-index c.atom-item.result c.loop-atom-test.true c.atom-item.is
+    (append_moves_mapped atom_in old _ c.deref-atom-items.result.now c.loop-atom.atom-index c.atom-item.result c.loop-atom-test.true c.atom-item.is
     (c.in_ok-push_atom.ensures ∙ ap (λ a. old ++ a ∷ []) c.in_ok-try_clone.ensures))
     ∙ c.loop-atom.invariant
 
@@ -21,7 +21,7 @@ PolyTree::try_clone-loop-mono-preserved t c =
     let old = map term_in c.loop-mono.monos.items in
     let x = c.loop-mono-item.result in
     ap polynomial_of
-    (one_more term_in old _ c.deref-mono-items.result.now c.loop-mono.mono-index x c.loop-mono-test.true c.loop-mono-item.is
+    (append_moves_mapped term_in old _ c.deref-mono-items.result.now c.loop-mono.mono-index x c.loop-mono-test.true c.loop-mono-item.is
     (c.in_ok-push_term.ensures ∙ ap (λ m. old ++ (m, x.1) ∷ []) c.in_ok-try_clone.ensures))
     ∙ c.loop-mono.invariant
 
@@ -31,7 +31,8 @@ ArrTree::try_clone-loop-index-preserved t c =
     let index = copied polynomial_in c.try_clone.ensures c.in_ok-index.ensures.left in
     let value = copied polynomial_in c.try_clone-in-loop-index.ensures c.in_ok-index.ensures.right in
     ap (λ ws. Over (out-ArrTree c.args.self.now).base (writes_of ws))
-    (one_more write_in old _ c.deref-index-items.result.now c.loop-index.index-index c.loop-index-item.result c.loop-index-test.true c.loop-index-item.is
+    (append_moves_mapped write_in old _ c.deref-index-items.result.now c.loop-index.index-index c.loop-index-item.result c.loop-index-test.true
+    c.loop-index-item.is
     (c.in_ok-push_write.ensures ∙ (λ j. old ++ (index j, value j) ∷ [])))
     ∙ c.loop-index.invariant
 

@@ -3,7 +3,7 @@ use Rattle.nf_rel.specs.NormalLiterals.{is_normal}
 use Rattle.term_text.specs.View.{written_polynomial_in}
 use Rattle.term_values.specs.TermValues.{within_limit, polynomial_value}
 use Rattle.term_values.specs.TermFaults.{are_normal}
-use Rattle.term_values.proofs.Lists.{one_more, whole_list, passes, stops, all_pass}
+use Rattle.term_values.proofs.Lists.{append_moves_twice_mapped, whole_list, passes, stops, all_pass}
 use Rattle.term_values.proofs.Refusals.{judged_too}
 use Rattle.term_values.proofs.reader.normal_items.Goals as goal
 
@@ -19,7 +19,7 @@ loop-item-preserved g c =
     let i = c.loop-item.item-index in
     let x = c.item-item.result in
     let made = c.in_ok-normal_polynomial.ensures in (
-      one_more written_polynomial_in value c.loop-item.items.items _ all i x c.loop-item-test.true c.item-item.is
+      append_moves_twice_mapped written_polynomial_in value c.loop-item.items.items _ all i x c.loop-item-test.true c.item-item.is
           (c.in_ok-push.ensures.items ∙ ap (λ p. c.loop-item.items.items ++ p ∷ []) made.0)
           ∙ c.loop-item.invariant.0,
       passes written_polynomial_in (λ w. is_normal (value w)) (λ ws. are_normal (map value ws)) (λ _ _. refl) all i x c.loop-item-test.true c.item-item.is
