@@ -1,4 +1,5 @@
--- Machines that differ only in the names of their states and in how basic blocks are cut into states.
+-- Machines that differ only in the names of their states and in how basic blocks are cut into states, and of whose reset states
+-- both test or neither does.
 use Rattle.std.specs.Prelude.{◌≡◌, ◌≢◌, ◌⊎◌, ℕ, true, List, Some, slice_get}
 use Rattle.fs_model.specs.SoundMachines.{branch_count}
 use Rattle.fs_model.specs.declared.parts.VarInfo.{VarInfo}

@@ -1,6 +1,6 @@
 //! The method of nodes: a table of nodes, whose facts lead from node to node, shows that two machines
 //! have the same behaviour. What facts are is left open. Alike machines, which differ only in the names of their states and
-//! in how basic blocks are cut into states, have the same behaviour.
+//! in how basic blocks are cut into states, and of whose reset states both test or neither does, have the same behaviour.
 //!
 //! Promises: machines for which a table of nodes leads on have the same behaviour, whatever facts are; so have alike
 //! machines; whether ranks fall along moves.

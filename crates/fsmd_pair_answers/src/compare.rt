@@ -78,8 +78,8 @@ fn go_beyond(
 /// within the steps and within 128 bits, and an output differs: `counterexample`, a line `NAME = VALUE` for each input, and both
 /// sides' outputs. Where no stated candidate shows a difference, `Undecided` names the obstacle of the first search, in one line.
 /// Where a limit stops the first search, there is no second one. Machines that differ only in the names of their states and in
-/// how basic blocks are cut into states are alike: these get `Equivalent` by the first search, or `Undecided` by a limit. The
-/// one refusal is out of memory.
+/// how basic blocks are cut into states, and of whose reset states both test or neither does, are alike: these get `Equivalent`
+/// by the first search, or `Undecided` by a limit. The one refusal is out of memory.
 pub fn compare_machines(
     alloc: Global,
     a: &Machine,

@@ -125,8 +125,9 @@ fn search_by_covers(
 /// `Stuck` comes where both machines are done and a left output differs, and is looked at first; `Spin` where the table is closed
 /// and one machine alone moves in a cycle; `Wide` and `Large` at the first operation that is not narrow, or narrow and not small;
 /// `Exhausted` where a move would make node 4,097 or a table of more than 4,000,000 units. An obstacle comes after at most
-/// 1,314,816 moves. Machines that differ only in the names of their states and in how basic blocks are cut into states are
-/// alike: of these there is no `Stuck` and no `Spin`. The one refusal is out of memory.
+/// 1,314,816 moves. Machines that differ only in the names of their states and in how basic blocks are cut into states, and of
+/// whose reset states both test or neither does, are alike: of these there is no `Stuck` and no `Spin`. The one refusal is out of
+/// memory.
 pub fn search(alloc: Global, a: &Machine, b: &Machine, p: &Pairing) -> Result<Outcome, NoMemory>
     requires paired { p.now ≡ positions a.now b.now }
     requires interface { interface_fault a.now b.now ≡ None }
