@@ -224,11 +224,14 @@ tokens_end ts t i b =
     let c = cut_at ts s.before s.word e.0 s.is in (
       c.part,
       record {
-        before = c.before;
-        token = c.token;
-        is = c.is;
-        begins = ap starts c.same ∙ s.begins;
-        inside = tokens_inside c.part (subst (λ (l : List Word). AllByRecursion StartsNone l) (sym c.words) s.inside);
+        since =
+            record {
+              before = c.before;
+              token = c.token;
+              is = c.is;
+              begins = ap starts c.same ∙ s.begins;
+              inside = tokens_inside c.part (subst (λ (l : List Word). AllByRecursion StartsNone l) (sym c.words) s.inside);
+            };
         expression = subst (λ (l : List Word). IsInExpression (words ts) l) (sym c.words) e.1;
       },
     )

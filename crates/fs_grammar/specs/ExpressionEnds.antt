@@ -33,11 +33,15 @@ pub record IsSince (ws part : List Word) : Type 0 where
   pub begins : starts word ≡ true
   pub inside : AllByRecursion (λ w. starts w ≡ false) part
 
--- The tokens end in a part of one guard or one assignment, which is what stands behind the last of those after which one begins.
-pub record EndInExpression (ts part : List Token) : Type 0 where
+-- The part is what stands behind the last of the tokens after which a guard or an assignment begins.
+pub record AreSince (ts part : List Token) : Type 0 where
   pub before : List Token
   pub token : Token
   pub is : ts ≡ before ++ token ∷ part
   pub begins : starts_expression token.kind ≡ true
   pub inside : AllByRecursion (λ t. starts_expression t.kind ≡ false) part
+
+-- The tokens end in a part of one guard or one assignment, which is what stands behind the last of those after which one begins.
+pub record EndInExpression (ts part : List Token) : Type 0 where
+  pub since : AreSince ts part
   pub expression : IsInExpression (words ts) (words part)

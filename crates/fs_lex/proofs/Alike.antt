@@ -13,7 +13,6 @@ use Rattle.fs_grammar.specs.declared.token.Token.{Token}
 use Rattle.fs_grammar.specs.Operators.{is_operator, starts_expression}
 use Rattle.fs_grammar.specs.Spelling.{Word, at, IsFile}
 use Rattle.fs_grammar.specs.Beginnings.{BeginsFile}
-use Rattle.fs_grammar.specs.ExpressionEnds.{IsInExpression}
 use Rattle.fs_grammar.specs.Faults.{word_of, IsPlain, CanFollow}
 use Rattle.fs_grammar.specs.WordWalks.{words}
 use Rattle.fs_lex.specs.Tokenization.{kind_and_place}
@@ -105,25 +104,20 @@ same_count (t ∷ ts) (u ∷ us) h =
     ∙ ap₂ (λ (k : TokenKind) (n : ℕ). cond (is_operator k) 1 0 + n) h.0.kind (same_count ts us h.1)
     ∙ sym (sum_by-cons (λ (t : Token). cond (is_operator t.kind) 1 0) u us)
 
-expression_alike : (ts us part q : List Token) → AreAlike ts us → AreAlike part q → IsInExpression (words ts) (words part) → IsInExpression (words us) (words q)
-expression_alike ts us part q h j e =
-    subst (λ (l : List Word). IsInExpression l (words q)) (same_words ts us h) (subst (λ (l : List Word). IsInExpression (words ts) l) (same_words part q j) e)
-
 excess_alike : (ts us : List Token) (t u : Token) → AreAlike ts us → IsAlike t u → IsOneTooMany ts t → IsOneTooMany us u
 excess_alike ts us t u h a x =
-    let e = x.expression in
+    let e = x.since in
     let c = cut_as ts e.before e.token x.part us e.is h in
     record {
       operator = ap is_operator (sym a.kind) ∙ x.operator;
       part = c.behind;
-      expression =
+      since =
           record {
             before = c.before;
             token = c.token;
             is = c.is;
             begins = ap starts_expression (sym c.one.kind) ∙ e.begins;
             inside = inside_alike x.part c.behind c.last e.inside;
-            expression = expression_alike ts us x.part c.behind h c.last e.expression;
           };
       full = sym (same_count x.part c.behind c.last) ∙ x.full;
     }

@@ -14,7 +14,7 @@ use Rattle.fs_grammar.specs.Grammar.{ParseState, at_start, reading}
 use Rattle.fs_grammar.specs.Operators.{is_operator, starts_expression}
 use Rattle.fs_grammar.specs.Spelling.{Word, IsFile}
 use Rattle.fs_grammar.specs.Beginnings.{file, BeginsFile}
-use Rattle.fs_grammar.specs.ExpressionEnds.{EndInExpression}
+use Rattle.fs_grammar.specs.ExpressionEnds.{AreSince, EndInExpression}
 use Rattle.fs_grammar.specs.Faults.{word_of, AreClear, CanFollow, Spells, StopsAt, IsWrong}
 use Rattle.fs_grammar.specs.WordWalks.{words, walk, and_then}
 use Rattle.fs_grammar.proofs.Beginning.{leads, walk_append, stuck}
@@ -61,7 +61,7 @@ since_start : (before : List Token) (w : Token) (rest : List Token) (n : ℕ) �
 since_start [] w rest n e c = subst (λ (k : ℕ). AreCounted k rest) (from_start w n e) c.2
 since_start (u ∷ before) w rest n e c = since_start before w rest (operators_up_to_token u.kind n) e c.2
 
-counted_part : (ts : List Token) (part : List Token) (t : Token) (behind : List Token) (n : ℕ) → EndInExpression ts part → AreCounted n (ts ++ t ∷ behind)
+counted_part : (ts : List Token) (part : List Token) (t : Token) (behind : List Token) (n : ℕ) → AreSince ts part → AreCounted n (ts ++ t ∷ behind)
     → AreCounted 0 (part ++ t ∷ behind)
 counted_part ts part t behind n e c =
     let same : ts ++ t ∷ behind ≡ e.before ++ e.token ∷ (part ++ t ∷ behind) = ap (λ (l : List Token). l ++ t ∷ behind) e.is
@@ -69,7 +69,7 @@ counted_part ts part t behind n e c =
     since_start e.before e.token (part ++ t ∷ behind) n e.begins (subst (AreCounted n) same c)
 
 -- a token behind a part is marked exactly where it is an operator and the part has 128 at least
-pub marked : (ts : List Token) (part : List Token) (t : Token) (behind : List Token) (n : ℕ) → EndInExpression ts part → AreCounted n (ts ++ t ∷ behind)
+pub marked : (ts : List Token) (part : List Token) (t : Token) (behind : List Token) (n : ℕ) → AreSince ts part → AreCounted n (ts ++ t ∷ behind)
     → t.past_limit ≡ is_past_limit t.kind (operator_count part)
 marked ts part t behind n e c =
     let zero_more : 0 + operator_count part ≡ operator_count part = omega arith in
@@ -94,7 +94,7 @@ clear_behind : (a b : List Token) → AreClear (a ++ b) → AreClear b
 clear_behind [] b h = h
 clear_behind (t ∷ a) b h = clear_behind a b h.1
 
-at_most : (ts : List Token) (part : List Token) (t : Token) (behind : List Token) (n : ℕ) → EndInExpression ts part → AreClear ts
+at_most : (ts : List Token) (part : List Token) (t : Token) (behind : List Token) (n : ℕ) → AreSince ts part → AreClear ts
     → AreCounted n (ts ++ t ∷ behind) → operator_count part ≤ 128
 at_most ts part t behind n e o c =
     let same : ts ≡ (e.before ++ e.token ∷ []) ++ part = e.is ∙ sym (append_assoc e.before (e.token ∷ []) part) in
@@ -114,16 +114,17 @@ first_marked : (ts : List Token) (t : Token) (behind : List Token) (n : ℕ) →
 first_marked ts t behind n c o f h =
     let i : IsTrue (is_operator t.kind) = marked_counts ts t behind n c h in
     let e : (part : List Token) × EndInExpression ts part = tokens_end ts t i f in
-    let two = and_parts (is_operator t.kind) (nat_le 128 (operator_count e.0)) (sym (marked ts e.0 t behind n e.1 c) ∙ h) in
+    let s : AreSince ts e.0 = e.1.since in
+    let two = and_parts (is_operator t.kind) (nat_le 128 (operator_count e.0)) (sym (marked ts e.0 t behind n s c) ∙ h) in
     let least : 128 ≤ operator_count e.0 = leb-true 128 (operator_count e.0) two.1 in
-    let most : operator_count e.0 ≤ 128 = at_most ts e.0 t behind n e.1 o c in
-    record { operator = i; part = e.0; expression = e.1; full = omega arith }
+    let most : operator_count e.0 ≤ 128 = at_most ts e.0 t behind n s o c in
+    record { operator = i; part = e.0; since = s; full = omega arith }
 
 -- a token that is one too many is marked
 excess_marked : (ts : List Token) (t : Token) (behind : List Token) (n : ℕ) → AreCounted n (ts ++ t ∷ behind) → IsOneTooMany ts t → t.past_limit ≡ true
 excess_marked ts t behind n c x =
     let full : is_past_limit t.kind (operator_count x.part) ≡ is_past_limit t.kind 128 = ap (λ (k : ℕ). is_past_limit t.kind k) x.full in
-    marked ts x.part t behind n x.expression c ∙ full ∙ ap (λ (b : Bool). b && true) x.operator
+    marked ts x.part t behind n x.since c ∙ full ∙ ap (λ (b : Bool). b && true) x.operator
 
 clear_at : (a b : List Token) (t : Token) → AreClear (a ++ t ∷ b) → t.past_limit ≡ false
 clear_at [] b t h = h.0
@@ -155,14 +156,14 @@ record IsFirstMark (ts : List Token) : Type 0 where
   clear : AreClear before
   mark : token.past_limit ≡ true
 
-one_more : (t : Token) (ts : List Token) → t.past_limit ≡ false → AreClear ts ⊎ IsFirstMark ts → AreClear (t ∷ ts) ⊎ IsFirstMark (t ∷ ts)
-one_more t ts e (inl h) = inl (e, h)
-one_more t ts e (inr m) =
+cons_clear_or_marked : (t : Token) (ts : List Token) → t.past_limit ≡ false → AreClear ts ⊎ IsFirstMark ts → AreClear (t ∷ ts) ⊎ IsFirstMark (t ∷ ts)
+cons_clear_or_marked t ts e (inl h) = inl (e, h)
+cons_clear_or_marked t ts e (inr m) =
     inr (record { before = t ∷ m.before; token = m.token; behind = m.behind; is = ap (λ (l : List Token). t ∷ l) m.is; clear = (e, m.clear); mark = m.mark })
 
 marks_or : (b : Bool) (t : Token) (ts : List Token) → t.past_limit ≡ b → AreClear ts ⊎ IsFirstMark ts → AreClear (t ∷ ts) ⊎ IsFirstMark (t ∷ ts)
 marks_or true t ts e h = inr (record { before = []; token = t; behind = ts; is = refl; clear = tt; mark = e })
-marks_or false t ts e h = one_more t ts e h
+marks_or false t ts e h = cons_clear_or_marked t ts e h
 
 clear_or_marked : (ts : List Token) → AreClear ts ⊎ IsFirstMark ts
 clear_or_marked [] = inl tt
@@ -281,7 +282,7 @@ fault_stands bytes f e =
 
 pub mark_counts : (bytes : List ℕ) (before behind part : List Token) (t : Token) → tokens_of bytes ≡ before ++ t ∷ behind → EndInExpression before part
     → t.past_limit ≡ (is_operator t.kind && nat_le 128 (operator_count part))
-mark_counts bytes before behind part t e x = marked before part t behind 0 x (subst (AreCounted 0) e (tokens_counted bytes))
+mark_counts bytes before behind part t e x = marked before part t behind 0 x.since (subst (AreCounted 0) e (tokens_counted bytes))
 
 pub operators_alone : (bytes : List ℕ) (before behind : List Token) (t : Token) → tokens_of bytes ≡ before ++ t ∷ behind → IsTrue t.past_limit
     → IsTrue (is_operator t.kind)

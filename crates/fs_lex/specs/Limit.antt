@@ -12,7 +12,7 @@ use Rattle.fs_grammar.specs.declared.token.Token.{Token}
 use Rattle.fs_grammar.specs.Operators.{is_operator}
 use Rattle.fs_grammar.specs.Spelling.{IsFile}
 use Rattle.fs_grammar.specs.Beginnings.{BeginsFile}
-use Rattle.fs_grammar.specs.ExpressionEnds.{EndInExpression}
+use Rattle.fs_grammar.specs.ExpressionEnds.{AreSince}
 use Rattle.fs_grammar.specs.Faults.{CanFollow, IsWrong}
 use Rattle.fs_grammar.specs.WordWalks.{words}
 
@@ -20,12 +20,12 @@ use Rattle.fs_grammar.specs.WordWalks.{words}
 abbrev pub operator_count : List Token → ℕ
 operator_count ts = count_by (λ t. is_operator t.kind) ts
 
--- An operator or opening bracket behind these tokens, which end in one guard or one assignment with as many of them as it may
--- have.
+-- An operator or opening bracket behind these tokens, of which as many stand behind the last one after which a guard or an
+-- assignment begins as it may have.
 pub record IsOneTooMany (before : List Token) (token : Token) : Type 0 where
   pub operator : IsTrue (is_operator token.kind)
   pub part : List Token
-  pub expression : EndInExpression before part
+  pub since : AreSince before part
   pub full : operator_count part ≡ most_operators
 
 -- none of the tokens is an operator too many
