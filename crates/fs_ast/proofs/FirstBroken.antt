@@ -19,7 +19,7 @@ use Rattle.fs_branches.specs.NumberedParts.{spelled_state_with_line, states_with
 use Rattle.fs_ast.specs.Shapes.{skeleton, forked_faults, endless_faults, IsFirstOfShapes}
 use Rattle.fs_rules.proofs.FirstFaults.{earliest-append}
 use Rattle.fs_rules.proofs.Rounds.{get_back, get_either}
-use Rattle.fs_ast.proofs.Kept.{get_mapped, no_state}
+use Rattle.fs_ast.proofs.Kept.{get_mapped, no_state, forks_at_cutpoint, passes_no_cutpoint}
 use Rattle.fs_ast.proofs.Whole.{placed_states, forked_is, cut_same}
 
 -- ---- the order of broken rules
@@ -143,7 +143,8 @@ endless_alike m n e f q r = record {
   steps = r.steps;
   some = r.some;
   back = sym (steps_alike m n e r.steps q) ∙ r.back;
-  uncut = λ k. ap (is_cutpoint n) (sym (steps_alike m n e k q)) ∙ sym (cut_same m n e f (after_steps m k q)) ∙ r.uncut k;
+  uncut = λ k. forks_at_cutpoint n (after_steps n k q) ∙ ap (is_cutpoint n) (sym (steps_alike m n e k q))
+      ∙ sym (cut_same m n e f (after_steps m k q)) ∙ passes_no_cutpoint m q r k;
 }
 
 -- ---- the answer

@@ -1,7 +1,7 @@
 -- Where no rule is broken, the machine that parts spell is sound.
 use Rattle.std.proofs.Common.{◌≡◌, ℕ, zero, suc, ◌<◌, ◌≤◌, Bool, true, false, cond, List, [], ◌∷◌, ◌++◌, length, refl, sym, ◌∙◌, ap, subst, inl, inr, ⊎_elim}
 use Rattle.std.proofs.Common.{arith}
-use Rattle.std.specs.Prelude.{◌&&◌, ◌||◌, ◌⊎◌, not, nat_lt, Option, Some, None, option_map, is_some, is_none, map, slice_get}
+use Rattle.std.specs.Prelude.{◌==◌, ◌&&◌, ◌||◌, ◌⊎◌, not, nat_lt, Option, Some, None, option_map, is_some, is_none, map, slice_get}
 use Rattle.std.specs.List.{list_all, list_any, flat_map, slice_index_or}
 use Rattle.std.specs.Str.{bytes_eq}
 use Rattle.std.proofs.lemmas.Slice.Eq.{bytes_eq-Decides}
@@ -35,7 +35,7 @@ use Rattle.fs_model.specs.SoundMachines.{is_cutpoint, reaches_cutpoint}
 use Rattle.fs_rules.specs.Rules.{at_lines, broken_where, declared_names, declared_states, repeated_lines, line_past_limit, is_known, uses_unknown}
 use Rattle.fs_rules.specs.Rules.{uses_wrong_sort}
 use Rattle.fs_rules.specs.Rules.{changes_input, transition_faults, transitions_faults, lacks_else, after_else, state_faults, plain_faults, branches_too_often}
-use Rattle.fs_rules.specs.Rules.{branch_faults, after_steps, BreaksNoRule}
+use Rattle.fs_rules.specs.Rules.{branch_faults, after_steps, forks, IsEndless, BreaksNoRule}
 use Rattle.fs_rules.specs.Places.{declared_name_list}
 use Rattle.fs_rules.proofs.Naming.{names_declared, names_of_declared}
 use Rattle.fs_branches.proofs.Leaves.{length_leaves}
@@ -371,6 +371,14 @@ sound p k forked ends right =
       cut = λ q h. ap (λ n. reaches_cutpoint (machine_of p) n q) count ∙ ends q (omega arith);
     }
 
+-- Paths are cut at the cutpoints.
+pub forks_at_cutpoint : (m : Fsmd) (q : ℕ) → forks m q ≡ is_cutpoint m q
+forks_at_cutpoint m q = ap (λ n. q == m.reset || nat_lt 1 n) (sym (length_leaves (tree_of_transitions (transitions_of m q)) []))
+
+-- Where a state is endless, no cutpoint is passed from it.
+pub passes_no_cutpoint : (m : Fsmd) (q : ℕ) → IsEndless m q → (k : ℕ) → is_cutpoint m (after_steps m k q) ≡ false
+passes_no_cutpoint m q e k = sym (forks_at_cutpoint m (after_steps m k q)) ∙ e.uncut k
+
 -- a way on which a cut comes is not endless
 pub not_endless : (m : Fsmd) (n q : ℕ) → reaches_cutpoint m n q ≡ true → ((k : ℕ) → is_cutpoint m (after_steps m k q) ≡ false) → ⊥
 not_endless m zero q e f = let g : is_cutpoint m q ≡ false = f zero in cc
@@ -383,7 +391,8 @@ pub lawful : (p : Source) → plain_faults p ≡ [] → branch_faults p ≡ []
 lawful p plain forked ends = record {
   plain = plain;
   branches = forked;
-  ends = λ n e. not_endless (machine_of p) (length p.states) e.place (ends e.place (slice_get_within p.states e.place e.state e.is_there)) e.endless.uncut;
+  ends = λ n e. not_endless (machine_of p) (length p.states) e.place (ends e.place (slice_get_within p.states e.place e.state e.is_there))
+      (passes_no_cutpoint (machine_of p) e.place e.endless);
 }
 
 -- ---- where first transitions lead

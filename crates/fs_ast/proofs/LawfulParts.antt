@@ -19,7 +19,7 @@ use Rattle.fs_rules.specs.Rules.{state_faults, plain_faults, branches_too_often,
 use Rattle.fs_rules.proofs.Naming.{names_declared, names_of_declared}
 use Rattle.fs_rules.proofs.Unbroken.{none_past}
 use Rattle.fs_branches.proofs.Leaves.{length_leaves}
-use Rattle.fs_ast.proofs.Kept.{lines_some, not_endless}
+use Rattle.fs_ast.proofs.Kept.{lines_some, not_endless, passes_no_cutpoint}
 use Rattle.fs_ast.proofs.Repeats.{never_again}
 use Rattle.fs_ast.proofs.Faultless.{none_broken, nil_both, none_flat, IsFaultless, of_sound, none_at_line, has_else, else_last}
 
@@ -142,4 +142,5 @@ module _ (p : Source) (keeps : KeepsRules (machine_of p)) where
   }
 
 pub lawful_of_sound : (p : Source) → IsSound (machine_of p) → BreaksNoRule p
-lawful_of_sound p s = lawful_where p (keeps_rules (machine_of p) s) (λ q h e. not_endless (machine_of p) (length (machine_of p).states) q (s.cut q h) e.uncut)
+lawful_of_sound p s = lawful_where p (keeps_rules (machine_of p) s) (λ q h e. not_endless (machine_of p) (length (machine_of p).states) q (s.cut q h)
+    (passes_no_cutpoint (machine_of p) q e))

@@ -17,6 +17,7 @@ use Rattle.fs_rules.specs.TargetWalks.{state_after_walk, is_cut, walk_reaches_cu
 use Rattle.fs_ast.specs.Shapes.{skeleton, forked_faults, endless_faults, LeadOn, IsFirstOfShapes}
 use Rattle.fs_rules.specs.FirstFault.{earliest}
 use Rattle.fs_branches.proofs.Leaves.{length_leaves}
+use Rattle.fs_ast.proofs.Kept.{forks_at_cutpoint, passes_no_cutpoint}
 
 -- the line of a state
 pub line_there : (states : List NumberedState) (q : ℕ) (x : NumberedState) → q < length states → x ≡ get_or states q x
@@ -126,7 +127,7 @@ endless_of m next cut count leads cuts within q inside r = record {
   steps = r.steps;
   some = r.some;
   back = steps_same m next leads r.steps q ∙ r.back;
-  uncut = λ k. ap (is_cutpoint m) (steps_same m next leads k q)
+  uncut = λ k. forks_at_cutpoint m (after_steps m k q) ∙ ap (is_cutpoint m) (steps_same m next leads k q)
       ∙ sym (cuts (state_after_walk next k q) (stays next count within k q (ltb-true q count inside))) ∙ r.uncut k;
 }
 
@@ -137,7 +138,8 @@ round_of m next cut count leads cuts within q low r = record {
   steps = r.steps;
   some = r.some;
   back = sym (steps_same m next leads r.steps q) ∙ r.back;
-  uncut = λ k. cuts (state_after_walk next k q) (stays next count within k q low) ∙ sym (ap (is_cutpoint m) (steps_same m next leads k q)) ∙ r.uncut k;
+  uncut = λ k. cuts (state_after_walk next k q) (stays next count within k q low) ∙ sym (ap (is_cutpoint m) (steps_same m next leads k q))
+      ∙ passes_no_cutpoint m q r k;
 }
 
 pub shapes_of : (states : List NumberedState) (reset : ℕ) (next : List ℕ) (cut : List Bool) (endless : List ℕ) (first : Option CheckFault)

@@ -19,7 +19,7 @@ use Rattle.fs_model.specs.Limits.{most_variables, most_states, most_branches, mo
 use Rattle.fs_model.specs.Runs.{is_scalar, is_array, is_port}
 use Rattle.fs_model.specs.SoundMachines.{other_sort_at, input_at, all_differ, assigned_in, changed_by, scalars_in_condition}
 use Rattle.fs_model.specs.SoundMachines.{arrays_in_condition, scalars_in_assignments, arrays_in_assignments, ports_in_assignments}
-use Rattle.fs_model.specs.SoundMachines.{emit_count, is_cutpoint, first_transition_target}
+use Rattle.fs_model.specs.SoundMachines.{emit_count, first_transition_target}
 
 -- a rule at each of these lines
 abbrev pub at_lines : CheckRule → List ℕ → List CheckFault
@@ -107,12 +107,16 @@ abbrev pub after_steps : Fsmd → ℕ → ℕ → ℕ
 after_steps m zero q = q
 after_steps m (suc n) q = after_steps m n (first_transition_target (transitions_of m q))
 
--- going on from a state comes back to it and passes no cutpoint
+-- whether paths are cut at a state: it is the reset state, or its transitions have more than one branch
+abbrev pub forks : Fsmd → ℕ → Bool
+forks m q = (q == m.reset) || nat_lt 1 (count_leaves (tree_of_transitions (transitions_of m q)))
+
+-- going on from a state comes back to it, and paths are cut at no state passed
 pub record IsEndless (m : Fsmd) (q : ℕ) : Type 0 where
   pub steps : ℕ
   pub some : 0 < steps
   pub back : after_steps m steps q ≡ q
-  pub uncut : (k : ℕ) → is_cutpoint m (after_steps m k q) ≡ false
+  pub uncut : (k : ℕ) → forks m (after_steps m k q) ≡ false
 
 -- a state of the text on an endless line, and its line
 pub record EndlessAt (p : Source) (n : ℕ) : Type 0 where

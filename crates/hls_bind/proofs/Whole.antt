@@ -24,7 +24,7 @@ use Rattle.fs_model.specs.SoundMachines.{arrays_in_assignments}
 use Rattle.fs_model.specs.SoundMachines.{ports_in_assignments, branch_count, first_transition_target, is_cutpoint, reaches_cutpoint}
 use Rattle.fs_ast.specs.Rules.{IsEndless, BreaksNoRule}
 use Rattle.fs_ast.proofs.Uses.{emits_over}
-use Rattle.fs_ast.proofs.Kept.{no_state, get_mapped, not_endless}
+use Rattle.fs_ast.proofs.Kept.{no_state, get_mapped, not_endless, passes_no_cutpoint}
 use Rattle.fs_ast.proofs.Faultless.{IsFaultless}
 use Rattle.fs_ast.proofs.LawfulParts.{KeepsRules, lawful_where}
 use Rattle.hls_bind.specs.Bindings.{register, is_bound, is_local, is_scalar_local, bound_parts, IsBindingOf, AreRegisters}
@@ -216,7 +216,8 @@ module _ (b : List (ℕ × List ℕ)) (rs : List (List ℕ)) (p : Source) (sound
 
     never_endless : (q : ℕ) → q < length K.states → IsEndless K q → ⊥
     never_endless q h e = not_endless K (length M.states) q
-        (same_reach F M K refl refl (length M.states) q ∙ sound.cut q (omega (arith, h, state_count))) e.uncut
+        (same_reach F M K refl refl (length M.states) q ∙ sound.cut q (omega (arith, h, state_count)))
+        (passes_no_cutpoint K q e)
 
     pub bound_lawful : BreaksNoRule (bound_parts b rs p)
     bound_lawful =

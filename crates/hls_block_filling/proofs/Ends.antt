@@ -6,6 +6,7 @@ use Rattle.std.specs.List.{slice_index_or}
 use Rattle.std.proofs.lemmas.Bool.Decides.{nat_tests}
 use Rattle.std.proofs.lemmas.Bool.{not-false, not-true}
 use Rattle.fs_ast.proofs.Leaves.{length_leaves}
+use Rattle.fs_ast.proofs.Kept.{passes_no_cutpoint}
 use Rattle.fs_model.proofs.Booleans.{or_other}
 use Rattle.fs_model.specs.Expressions.{Guard, Test, Not, And, Or, Transition}
 use Rattle.fs_model.specs.Machines.{State, Fsmd, transitions_of}
@@ -256,5 +257,5 @@ module _ (m : Fsmd) (sound : IsSound m) (rows : ℕ → List Item) (keeps : Keep
       let yes_cut : is_cutpoint (scheduled_machine m rows) (after_steps (scheduled_machine m rows) (suc c.comes.steps) p) ≡ true =
       subst (λ z. is_cutpoint (scheduled_machine m rows) z ≡ true) (sym there) (cut_kept c.state c.within c.kept c.cut) in
       let no_cut : is_cutpoint (scheduled_machine m rows) (after_steps (scheduled_machine m rows) (suc c.comes.steps) p) ≡ false =
-      e.uncut (suc c.comes.steps) in
+      passes_no_cutpoint (scheduled_machine m rows) p e (suc c.comes.steps) in
       cc (sym no_cut ∙ yes_cut)
