@@ -1,38 +1,29 @@
 -- Over an even vector alike paths have the same conditions, and lead to an even vector.
-use Rattle.std.proofs.Common.{◌≡◌, ℕ, cond, refl, ap, ap₂, sym, subst, ◌∙◌, List, [], ◌∷◌, ◌++◌, Option, Some}
-use Rattle.std.specs.Prelude.{◌&&◌}
+use Rattle.std.proofs.Common.{◌≡◌, ℕ, ap, ap₂, sym, subst, ◌∙◌, List, [], ◌∷◌, ◌++◌, Some}
 use Rattle.fs_model.specs.declared.parts.Sort.TheVariants as sorts
 use Rattle.fs_model.specs.Expressions.{Expression, Literal}
 use Rattle.fs_model.specs.Machines.{Fsmd}
-use Rattle.fs_cut.specs.Paths.{Point, Path, BranchStep, branch_at, steps_in}
-use Rattle.nf_trees.specs.NormalTerms.{Polynomial, polynomial_of_symbol, bare_array}
-use Rattle.nf_terms.specs.Lists.{bare_list}
-use Rattle.nf_terms.specs.Forms.{sort_of_form}
+use Rattle.fs_cut.specs.Paths.{Point, Path, BranchStep, steps_in}
+use Rattle.nf_trees.specs.NormalTerms.{Polynomial}
 use Rattle.nf_terms.specs.Computed.{Computed, Done, after}
-use Rattle.nf_terms.specs.declared.symbols.Sort.{Sort}
-use Rattle.nf_terms.specs.declared.symbols.Sort.TheVariants as sort
 use Rattle.fs_model.specs.declared.sides.Side.{Side}
 use Rattle.fs_model.specs.declared.sides.Side.TheVariants.{Left, Right}
 use Rattle.fs_model.specs.declared.sides.Pos.{Pos}
-use Rattle.nf_trees.specs.declared.tree.Base.TheVariants as base
-use Rattle.nf_terms.specs.declared.tree.SeqBase.TheVariants as list
 use Rattle.nf_terms.specs.declared.form.Nf.{Nf}
-use Rattle.nf_terms.specs.declared.form.Nf.TheVariants.{Num, Arr, Seq}
 use Rattle.nf_terms.proofs.Computed.{same_Done}
-use Rattle.nf_terms.specs.TermSorts.{same_term_sort}
 use Rattle.nf_sums.specs.Operations.{normal_sum, normal_difference, normal_product, normal_negation}
 use Rattle.nf_sums.proofs.Values.{goes_done}
 use Rattle.nf_arrays.specs.NewAtoms.{quotient_of, remainder_of}
 use Rattle.nf_arrays.specs.Writes.{write_array, read_at}
 use Rattle.nf_arrays.specs.Pushes.{list_with_item}
-use Rattle.nf_substitution.specs.Vectors.{form_at, with_form, number_or, array_or, list_or, number_at, array_form, list_at}
-use Rattle.nf_substitution.proofs.Entries.{form_put}
+use Rattle.nf_substitution.specs.Vectors.{number_at, array_form, list_at}
 use Rattle.nf_rel.specs.Literals.{NormalLiteral, literal}
 use Rattle.sym_paths.specs.ValuationStores.{at, other}
 use Rattle.sym_paths.specs.Sequences.{each}
-use Rattle.sym_paths.specs.Evaluation.{evaluate, evaluate_literal, Change, SetTo, PutAt, PushTo, evaluate_assignment, change, change_all, act_over}
+use Rattle.sym_paths.specs.Evaluation.{evaluate, evaluate_literal}
 use Rattle.sym_paths.specs.Execution.{Post, conditions, steps_over, execute, arrive}
-use Rattle.sym_paths.proofs.Changes.{other_at}
+use Rattle.sym_paths.proofs.Changes.{steps_keep}
+use Rattle.sym_paths.proofs.SameForms.{number_same, array_same, list_same}
 use Rattle.cert_bisimulation.specs.PathExpressions.{PathExpression, Constant, Initial, Element, Plus, Minus, Times, Over, Rest, Opposite, ArrayExpression}
 use Rattle.cert_bisimulation.specs.PathExpressions.{InitialArray, Stored, ListExpression, InitialList, Pushed, initial, path_expression}
 use Rattle.cert_bisimulation.specs.ExpressionSameness.{AreTwins, Same, SameArray, SameListExpression, SameLiterals}
@@ -42,51 +33,15 @@ use Rattle.alike_searches.proofs.ExpressionTerms.{Expressions, terms_of, term_of
 
 -- ---- the other side stays
 
-pub record Stays (side : Side) (v u : List (Pos × Nf)) : Type 0 where
-  pub numbers : (x : ℕ) → number_at u (at side x) ≡ number_at v (at side x)
-  pub arrays : (x : ℕ) → array_form u (at side x) ≡ array_form v (at side x)
-  pub lists : (x : ℕ) → list_at u (at side x) ≡ list_at v (at side x)
+record Stays (side : Side) (v u : List (Pos × Nf)) : Type 0 where
+  numbers : (x : ℕ) → number_at u (at side x) ≡ number_at v (at side x)
+  arrays : (x : ℕ) → array_form u (at side x) ≡ array_form v (at side x)
+  lists : (x : ℕ) → list_at u (at side x) ≡ list_at v (at side x)
 
-module _ (side : Side) where
-  put_stays : (v : List (Pos × Nf)) (x : ℕ) (f : Nf) → Stays (other side) v (with_form (at side x) f v)
-  put_stays v x f =
-      record {
-        numbers = λ y. ap (number_or (polynomial_of_symbol (at (other side) y))) (elsewhere y sort.Scalar);
-        arrays = λ y. ap (array_or (bare_array (base.Sym (at (other side) y)))) (elsewhere y sort.Array);
-        lists = λ y. ap (list_or (bare_list (list.Sym (at (other side) y)))) (elsewhere y sort.List);
-      }
-    where
-      elsewhere : (y : ℕ) (s : Sort) → form_at s (at (other side) y) (with_form (at side x) f v) ≡ form_at s (at (other side) y) v
-      elsewhere y s = form_put v (at side x) (at (other side) y) f s
-          ∙ ap (λ t. cond {A = Option Nf} (t && same_term_sort s (sort_of_form f)) (Some f) (form_at s (at (other side) y) v)) (other_at side x y)
-
-  none_stays : (v u : List (Pos × Nf)) → v ≡ u → Stays (other side) v u
-  none_stays v u e = subst (Stays (other side) v) e (record { numbers = λ x. refl; arrays = λ x. refl; lists = λ x. refl })
-
-  stay_on : (v u w : List (Pos × Nf)) → Stays (other side) v u → Stays (other side) u w → Stays (other side) v w
-  stay_on v u w g h = record { numbers = λ x. h.numbers x ∙ g.numbers x; arrays = λ x. h.arrays x ∙ g.arrays x; lists = λ x. h.lists x ∙ g.lists x }
-
-  change_stays : (v u : List (Pos × Nf)) (c : Change) → change side c v ≡ Done u → Stays (other side) v u
-  change_stays v u (SetTo x p) e = subst (Stays (other side) v) (same_Done (with_form (at side x) (Num p) v) u e) (put_stays v x (Num p))
-  change_stays v u (PutAt x j p) e =
-      let s = goes_done (write_array (array_form v (at side x)) j p) (λ a. Done (with_form (at side x) (Arr a) v)) u e in
-      subst (Stays (other side) v) (same_Done (with_form (at side x) (Arr s.middle) v) u s.next) (put_stays v x (Arr s.middle))
-  change_stays v u (PushTo x p) e =
-      let s = goes_done (list_with_item (list_at v (at side x)) p) (λ l. Done (with_form (at side x) (Seq l) v)) u e in
-      subst (Stays (other side) v) (same_Done (with_form (at side x) (Seq s.middle) v) u s.next) (put_stays v x (Seq s.middle))
-
-  changes_stay : (cs : List Change) (v u : List (Pos × Nf)) → change_all side cs v ≡ Done u → Stays (other side) v u
-  changes_stay [] v u e = none_stays v u (same_Done v u e)
-  changes_stay (c ∷ cs) v u e =
-      let s = goes_done (change side c v) (λ z. change_all side cs z) u e in
-      stay_on v s.middle u (change_stays v s.middle c s.first) (changes_stay cs s.middle u s.next)
-
-  pub steps_stay : (m : Fsmd) (xs : List BranchStep) (v u : List (Pos × Nf)) → steps_over m side xs v ≡ Done u → Stays (other side) v u
-  steps_stay m [] v u e = none_stays v u (same_Done v u e)
-  steps_stay m (x ∷ xs) v u e =
-      let s = goes_done (act_over side (branch_at m x.state x.branch).assignments v) (λ z. steps_over m side xs z) u e in
-      let t = goes_done (each (λ y. evaluate_assignment side v y) (branch_at m x.state x.branch).assignments) (λ cs. change_all side cs v) s.middle s.first in
-      stay_on v s.middle u (changes_stay t.middle v s.middle t.next) (steps_stay m xs s.middle u s.next)
+steps_stay : (side : Side) (m : Fsmd) (xs : List BranchStep) (v u : List (Pos × Nf)) → steps_over m side xs v ≡ Done u → Stays (other side) v u
+steps_stay side m xs v u e =
+    let same = steps_keep side m xs v u e in
+    record { numbers = number_same (other side) v u same; arrays = array_same (other side) v u same; lists = list_same (other side) v u same }
 
 -- a path that is executed leaves what its steps leave
 pub steps_of :

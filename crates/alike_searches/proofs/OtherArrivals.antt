@@ -1,10 +1,9 @@
 -- What arrives by paths of other numbers has conditions that clash.
-use Rattle.std.proofs.Common.{◌≡◌, ℕ, zero, suc, ap, sym, ◌∙◌, subst, List, [], ◌∷◌, ◌++◌, Some}
+use Rattle.std.proofs.Common.{◌≡◌, ℕ, zero, suc, sym, ◌∙◌, subst, List, [], ◌∷◌, ◌++◌, Some}
 use Rattle.std.specs.Prelude.{◌≢◌, slice_get}
 use Rattle.fs_model.specs.SoundMachines.{IsSound}
-use Rattle.fs_model.specs.Expressions.{Expression, Literal}
 use Rattle.fs_model.specs.Machines.{Fsmd}
-use Rattle.fs_cut.specs.Paths.{Point, Path, IsPath, state_of, branch_at, steps_in}
+use Rattle.fs_cut.specs.Paths.{Point, Path, IsPath, steps_in}
 use Rattle.nf_terms.specs.Computed.{Done, after}
 use Rattle.fs_model.specs.declared.sides.Side.{Side}
 use Rattle.fs_model.specs.declared.sides.Side.TheVariants.{Left, Right}
@@ -13,31 +12,14 @@ use Rattle.nf_terms.specs.declared.form.Nf.{Nf}
 use Rattle.nf_terms.proofs.Computed.{same_Done}
 use Rattle.nf_sums.proofs.Values.{goes_done}
 use Rattle.nf_rel.specs.Literals.{NormalLiteral, literal}
-use Rattle.sym_paths.specs.Sequences.{each}
-use Rattle.sym_paths.specs.Evaluation.{evaluate, evaluate_literal}
+use Rattle.sym_paths.proofs.Changes.{steps_keep}
+use Rattle.sym_paths.proofs.SameForms.{conditions_same}
 use Rattle.sym_paths.specs.Execution.{Post, conditions, steps_over, execute, arrive}
-use Rattle.cert_bisimulation.specs.PathExpressions.{initial, path_expression}
 use Rattle.cert_bisimulation.specs.Alike.{AlikePoints}
 use Rattle.alike_searches.specs.Evenness.{IsEven}
 use Rattle.alike_searches.specs.Clashes.{SomeClash}
-use Rattle.alike_searches.proofs.ExpressionTerms.{terms_of, term_of, initial_term}
-use Rattle.alike_searches.proofs.EvenPaths.{Stays, steps_stay, steps_of}
+use Rattle.alike_searches.proofs.EvenPaths.{steps_of}
 use Rattle.alike_searches.proofs.OtherPaths.{others_clash}
-
--- ---- conditions over a vector that stays on a side
-
-module _ (side : Side) (v u : List (Pos × Nf)) (h : Stays side v u) where
-  same_terms : terms_of side u ≡ terms_of side v
-  same_terms = λ k. record { number = λ x. h.numbers x k; array = λ x. h.arrays x k; list = λ x. h.lists x k }
-
-  value_stays : (e : Expression ℕ) → evaluate side u e ≡ evaluate side v e
-  value_stays e = initial_term side u e ∙ ap (λ t. term_of t (path_expression initial e)) same_terms ∙ sym (initial_term side v e)
-
-  literal_stays : (l : Literal ℕ) → evaluate_literal side u l ≡ evaluate_literal side v l
-  literal_stays l = λ k. after (value_stays l.left k) (λ p. after (value_stays l.right k) (λ q. literal l.relation p q))
-
-  conditions_stay : (m : Fsmd) (p : Path) → conditions m p side u ≡ conditions m p side v
-  conditions_stay m p = λ k. each (λ l. literal_stays l k) (branch_at m (state_of m p.from) p.branch).literals
 
 -- ---- places in joined lists
 
@@ -85,8 +67,8 @@ module _ (a b : Fsmd) (sound : IsSound a) (K : List (Point × Point)) where
       let s = goes_done (execute b q Right r.middle.vector)
       (λ z. Done (record { conditions = ls ++ (r.middle.conditions ++ z.conditions); vector = z.vector })) post r.next in
       let left : conditions a p Left v ≡ Done r.middle.conditions = conditions_of a p Left v r.middle r.first in
-      let kept = steps_stay Left a (steps_in p) v r.middle.vector (steps_of a p Left v r.middle r.first) in
-      let right : conditions b q Right v ≡ Done s.middle.conditions = sym (conditions_stay Right v r.middle.vector kept b q)
+      let kept = steps_keep Left a (steps_in p) v r.middle.vector (steps_of a p Left v r.middle r.first) in
+      let right : conditions b q Right v ≡ Done s.middle.conditions = sym (conditions_same Right v r.middle.vector kept b q)
       ∙ conditions_of b q Right r.middle.vector s.middle s.first in
       let c = others_clash a b sound K P Q p q v r.middle.conditions s.middle.conditions w even is js e f n left right in
       subst (λ (z : Post). SomeClash z.conditions z.conditions)

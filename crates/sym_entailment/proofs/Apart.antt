@@ -1,99 +1,52 @@
 -- A path reads the forms of its own side alone.
-use Rattle.std.proofs.Common.{◌≡◌, ℕ, cond, refl, ap, ap₂, sym, subst, ◌∙◌, List, [], ◌∷◌, ◌++◌, Option, Some}
+use Rattle.std.proofs.Common.{◌≡◌, ℕ, cond, refl, ap, sym, subst, ◌∙◌, List, [], ◌∷◌, ◌++◌, Option, Some}
 use Rattle.std.specs.Prelude.{◌&&◌}
-use Rattle.fs_model.specs.Expressions.{Expression, Number, Variable, Read, Sum, Difference, Product, Quotient, Remainder, Negative, Literal}
-use Rattle.fs_model.specs.Expressions.{Assignment, Assign, ArrayWrite, Emit}
+use Rattle.fs_model.specs.Expressions.{Assignment}
 use Rattle.fs_model.specs.Machines.{Fsmd}
 use Rattle.fs_model.specs.declared.sides.Side.{Side}
 use Rattle.fs_model.specs.declared.sides.Side.TheVariants.{Left, Right}
 use Rattle.fs_model.specs.declared.sides.Pos.{Pos}
-use Rattle.fs_cut.specs.Paths.{Path, BranchStep, state_of, branch_at, steps_in}
-use Rattle.nf_trees.specs.NormalTerms.{Polynomial, ArrayTerm, polynomial_of_symbol, bare_array}
-use Rattle.nf_terms.specs.Lists.{bare_list}
+use Rattle.fs_cut.specs.Paths.{Path, BranchStep, branch_at, steps_in}
 use Rattle.nf_terms.specs.Forms.{sort_of_form}
-use Rattle.nf_trees.specs.Mentions.{same_pos}
+use Rattle.nf_terms.specs.Mentions.{same_pos}
 use Rattle.nf_terms.specs.TermSorts.{same_term_sort}
 use Rattle.nf_terms.specs.Computed.{Computed, Done, Wide, Large, after}
-use Rattle.nf_terms.specs.declared.symbols.Sort.{Sort}
-use Rattle.nf_terms.specs.declared.symbols.Sort.TheVariants as sort
-use Rattle.nf_trees.specs.declared.tree.Base.TheVariants as base
-use Rattle.nf_terms.specs.declared.tree.SeqBase.TheVariants as list
 use Rattle.nf_terms.specs.declared.form.Nf.{Nf}
 use Rattle.nf_terms.specs.declared.form.Nf.TheVariants.{Num, Arr, Seq}
-use Rattle.nf_sums.specs.Operations.{normal_sum, normal_difference, normal_product, normal_negation}
-use Rattle.nf_arrays.specs.NewAtoms.{quotient_of, remainder_of}
-use Rattle.nf_arrays.specs.Writes.{write_array, read_at}
+use Rattle.nf_arrays.specs.Writes.{write_array}
 use Rattle.nf_arrays.specs.Pushes.{list_with_item}
-use Rattle.nf_vectors.specs.Vectors.{form_at, with_form, number_or, array_or, list_or, array_form, list_at}
+use Rattle.nf_vectors.specs.Vectors.{with_form, array_form, list_at}
 use Rattle.nf_vectors.proofs.Entries.{form_put}
-use Rattle.nf_rel.specs.Literals.{NormalLiteral, literal, is_refuted}
+use Rattle.nf_rel.specs.Literals.{NormalLiteral, is_refuted}
 use Rattle.sym_paths.specs.ValuationStores.{at}
 use Rattle.sym_paths.specs.Sequences.{each}
-use Rattle.sym_paths.specs.Evaluation.{evaluate, evaluate_literal, Change, SetTo, PutAt, PushTo, evaluate_assignment}
+use Rattle.sym_paths.specs.Evaluation.{Change, SetTo, PutAt, PushTo, evaluate_assignment}
 use Rattle.sym_paths.specs.Evaluation.{change, change_all, act_over}
 use Rattle.sym_paths.specs.Execution.{Post, conditions, steps_over, execute, arrive}
 use Rattle.sym_paths.proofs.Changes.{executed_keeps}
+use Rattle.sym_paths.proofs.SameForms.{HaveSameForms, array_same, list_same, assignment_same, conditions_same}
 use Rattle.sym_entailment.specs.Outcomes.{refuted_together}
 
 abbrev Forms : Type 0
 Forms = List (Pos × Nf)
 
 module _ (side : Side) where
-  -- the forms of a side are the same in two vectors
-  abbrev Agree : (v u : Forms) → Type 0
-  Agree v u = (y : ℕ) (s : Sort) → form_at s (at side y) u ≡ form_at s (at side y) v
-
-  put_agrees : (v u : Forms) (x : ℕ) (f : Nf) → Agree v u → Agree (with_form (at side x) f v) (with_form (at side x) f u)
+  put_agrees : (v u : Forms) (x : ℕ) (f : Nf) → HaveSameForms side v u → HaveSameForms side (with_form (at side x) f v) (with_form (at side x) f u)
   put_agrees v u x f h y s =
       form_put u (at side x) (at side y) f s
       ∙ ap (λ o. cond {A = Option Nf} (same_pos (at side y) (at side x) && same_term_sort s (sort_of_form f)) (Some f) o) (h y s)
       ∙ sym (form_put v (at side x) (at side y) f s)
 
-  module _ (v u : Forms) (h : Agree v u) where
-    array_same : (x : ℕ) → array_form u (at side x) ≡ array_form v (at side x)
-    array_same x = ap (array_or (bare_array (base.Sym (at side x)))) (h x sort.Array)
-
-    list_same : (x : ℕ) → list_at u (at side x) ≡ list_at v (at side x)
-    list_same x = ap (list_or (bare_list (list.Sym (at side x)))) (h x sort.List)
-
-    evaluated : (e : Expression ℕ) → evaluate side u e ≡ evaluate side v e
-    evaluated (Number n) = refl
-    evaluated (Variable x) = ap (λ o. Done (number_or (polynomial_of_symbol (at side x)) o)) (h x sort.Scalar)
-    evaluated (Read x i) = ap₂ (λ (c : Computed Polynomial) (a : ArrayTerm). after c (λ j. read_at a j)) (evaluated i) (array_same x)
-    evaluated (Sum a b) =
-        ap₂ (λ (c d : Computed Polynomial). after c (λ p. after d (λ q. normal_sum p q))) (evaluated a) (evaluated b)
-    evaluated (Difference a b) =
-        ap₂ (λ (c d : Computed Polynomial). after c (λ p. after d (λ q. normal_difference p q))) (evaluated a) (evaluated b)
-    evaluated (Product a b) =
-        ap₂ (λ (c d : Computed Polynomial). after c (λ p. after d (λ q. normal_product p q))) (evaluated a) (evaluated b)
-    evaluated (Quotient a b) =
-        ap₂ (λ (c d : Computed Polynomial). after c (λ p. after d (λ q. quotient_of p q))) (evaluated a) (evaluated b)
-    evaluated (Remainder a b) =
-        ap₂ (λ (c d : Computed Polynomial). after c (λ p. after d (λ q. remainder_of p q))) (evaluated a) (evaluated b)
-    evaluated (Negative a) = ap (λ (c : Computed Polynomial). after c (λ p. Done (normal_negation p))) (evaluated a)
-
-    literal_evaluated : (l : Literal ℕ) → evaluate_literal side u l ≡ evaluate_literal side v l
-    literal_evaluated l =
-        ap₂ (λ (c d : Computed Polynomial). after c (λ p. after d (λ q. literal l.relation p q))) (evaluated l.left) (evaluated l.right)
-
-    assignment_evaluated : (x : Assignment ℕ) → evaluate_assignment side u x ≡ evaluate_assignment side v x
-    assignment_evaluated (Assign x e) = ap (λ (c : Computed Polynomial). after c (λ p. Done (SetTo x p))) (evaluated e)
-    assignment_evaluated (ArrayWrite x i e) =
-        ap₂ (λ (c d : Computed Polynomial). after c (λ j. after d (λ p. Done (PutAt x j p)))) (evaluated i) (evaluated e)
-    assignment_evaluated (Emit x e) = ap (λ (c : Computed Polynomial). after c (λ p. Done (PushTo x p))) (evaluated e)
-
-    conditions_same : (m : Fsmd) (p : Path) → conditions m p side u ≡ conditions m p side v
-    conditions_same m p = λ k. each (λ l. literal_evaluated l k) (branch_at m (state_of m p.from) p.branch).literals
-
   -- two executions end alike: by the same event, or in vectors that agree
   abbrev Ends : (c d : Computed Forms) → Type 0
-  Ends (Done x) (Done y) = Agree x y
+  Ends (Done x) (Done y) = HaveSameForms side x y
   Ends (Done x) (Wide l r) = ⊥
   Ends (Done x) (Large u d) = ⊥
   Ends (Wide l r) d = d ≡ Wide l r
   Ends (Large u n) d = d ≡ Large u n
 
-  go_on : (c d : Computed Forms) (f g : Forms → Computed Forms) → Ends c d → ((x y : Forms) → Agree x y → Ends (f x) (g y)) → Ends (after c f) (after d g)
+  go_on : (c d : Computed Forms) (f g : Forms → Computed Forms) → Ends c d → ((x y : Forms) → HaveSameForms side x y → Ends (f x) (g y))
+      → Ends (after c f) (after d g)
   go_on (Done x) (Done y) f g h next = next x y h
   go_on (Done x) (Wide l r) f g h next = absurd h
   go_on (Done x) (Large u d) f g h next = absurd h
@@ -109,26 +62,26 @@ module _ (side : Side) where
       here (Wide l r) = refl
       here (Large u n) = refl
 
-  change_ends : (c : Change) (v u : Forms) → Agree v u → Ends (change side c v) (change side c u)
+  change_ends : (c : Change) (v u : Forms) → HaveSameForms side v u → Ends (change side c v) (change side c u)
   change_ends (SetTo x p) v u h = put_agrees v u x (Num p) h
   change_ends (PutAt x j p) v u h =
       alike (write_array (array_form v (at side x)) j p) (write_array (array_form u (at side x)) j p) (λ a. Done (with_form (at side x) (Arr a) v))
-      (λ a. Done (with_form (at side x) (Arr a) u)) (ap (λ a. write_array a j p) (array_same v u h x)) (λ a. put_agrees v u x (Arr a) h)
+      (λ a. Done (with_form (at side x) (Arr a) u)) (ap (λ a. write_array a j p) (array_same side v u h x)) (λ a. put_agrees v u x (Arr a) h)
   change_ends (PushTo x p) v u h =
       alike (list_with_item (list_at v (at side x)) p) (list_with_item (list_at u (at side x)) p) (λ l. Done (with_form (at side x) (Seq l) v))
-      (λ l. Done (with_form (at side x) (Seq l) u)) (ap (λ l. list_with_item l p) (list_same v u h x)) (λ l. put_agrees v u x (Seq l) h)
+      (λ l. Done (with_form (at side x) (Seq l) u)) (ap (λ l. list_with_item l p) (list_same side v u h x)) (λ l. put_agrees v u x (Seq l) h)
 
-  changes_end : (cs : List Change) (v u : Forms) → Agree v u → Ends (change_all side cs v) (change_all side cs u)
+  changes_end : (cs : List Change) (v u : Forms) → HaveSameForms side v u → Ends (change_all side cs v) (change_all side cs u)
   changes_end [] v u h = h
   changes_end (c ∷ cs) v u h =
       go_on (change side c v) (change side c u) (λ z. change_all side cs z) (λ z. change_all side cs z) (change_ends c v u h) (λ x y. changes_end cs x y)
 
-  act_ends : (xs : List (Assignment ℕ)) (v u : Forms) → Agree v u → Ends (act_over side xs v) (act_over side xs u)
+  act_ends : (xs : List (Assignment ℕ)) (v u : Forms) → HaveSameForms side v u → Ends (act_over side xs v) (act_over side xs u)
   act_ends xs v u h =
       alike (each (λ a. evaluate_assignment side v a) xs) (each (λ a. evaluate_assignment side u a) xs) (λ cs. change_all side cs v)
-      (λ cs. change_all side cs u) (λ k. each (λ a. assignment_evaluated v u h a k) xs) (λ cs. changes_end cs v u h)
+      (λ cs. change_all side cs u) (λ k. each (λ a. assignment_same side v u h a k) xs) (λ cs. changes_end cs v u h)
 
-  steps_end : (m : Fsmd) (xs : List BranchStep) (v u : Forms) → Agree v u → Ends (steps_over m side xs v) (steps_over m side xs u)
+  steps_end : (m : Fsmd) (xs : List BranchStep) (v u : Forms) → HaveSameForms side v u → Ends (steps_over m side xs v) (steps_over m side xs u)
   steps_end m [] v u h = h
   steps_end m (x ∷ xs) v u h =
       go_on (act_over side (branch_at m x.state x.branch).assignments v) (act_over side (branch_at m x.state x.branch).assignments u)
@@ -136,12 +89,12 @@ module _ (side : Side) where
       (λ y z. steps_end m xs y z)
 
   -- what is asked of the conditions alone is the same over vectors that agree
-  executed_alike : {T : Type 0} (m : Fsmd) (p : Path) (v u : Forms) (f : List NormalLiteral → T) → Agree v u
+  executed_alike : {T : Type 0} (m : Fsmd) (p : Path) (v u : Forms) (f : List NormalLiteral → T) → HaveSameForms side v u
       → after (execute m p side u) (λ r. Done (f r.conditions)) ≡ after (execute m p side v) (λ r. Done (f r.conditions))
   executed_alike {T} m p v u f h =
       ap (λ c. after (after c (λ ls. after (steps_over m side (steps_in p) u) (λ w. Done (record { conditions = ls; vector = w }))))
       (λ (r : Post). Done (f r.conditions)))
-      (conditions_same v u h m p) ∙ by_conditions (conditions m p side v) (steps_over m side (steps_in p) v) (steps_over m side (steps_in p) u)
+      (conditions_same side v u h m p) ∙ by_conditions (conditions m p side v) (steps_over m side (steps_in p) v) (steps_over m side (steps_in p) u)
       (steps_end m (steps_in p) v u h)
     where
       by_steps : (ls : List NormalLiteral) (c d : Computed Forms) → Ends c d
