@@ -19,7 +19,7 @@ use Rattle.sym_facts.specs.Facts.{FactPosition, Fact, own_symbol, form_or_symbol
 use Rattle.sym_facts.specs.Entailment.{form_substituted}
 use Rattle.search_tables.specs.Rebases.{value_at, number_held, form_held, first_pass, second_pass, number_tied_to, number_tied, form_tied, rebase_tied_equation}
 use Rattle.search_tables.specs.Rebases.{equation_found}
-use Rattle.search_tables.specs.Rebases.{freed_with, with_equation, third_by, third_pass, with_needed, conditions_over, rebase}
+use Rattle.search_tables.specs.Rebases.{freed_in_pass, position_with_equation, third_by, third_pass, with_needed, conditions_over, rebase}
 use Rattle.alike_searches.proofs.RisenSubstitutions.{self_difference}
 use Rattle.alike_searches.specs.EvenFacts.{AreEvenValues, AreEvenPositions, IsEvenFact}
 use Rattle.alike_searches.proofs.Extending.{extends_self}
@@ -145,7 +145,7 @@ module _ (v ms : List (Pos × Nf)) where
       by_test false i j = tied_to_freed p p.sort refl qs r i j
 
   second_form : (p q : Position) (qs : List Position) (o r : Option Nf) → value_at v p.sort p.pos ≡ value_at v q.sort q.pos
-      → equation_found v ms (value_at v p.sort p.pos) qs ≡ Done o → equation_found v ms (value_at v q.sort q.pos) (freed_with p o qs) ≡ Done r
+      → equation_found v ms (value_at v p.sort p.pos) qs ≡ Done o → equation_found v ms (value_at v q.sort q.pos) (freed_in_pass p o qs) ≡ Done r
       → r ≡ Some (form_or_symbol p.sort p.pos o)
   second_form p q qs None r e g h = after_freed p qs r g (ap (λ t. equation_found v ms t (qs ++ p ∷ [])) e ∙ h)
   second_form p q qs (Some y) r e g h = same_Done r (Some y) (sym h ∙ ap (λ t. equation_found v ms t qs) (sym e) ∙ g)
@@ -160,29 +160,29 @@ module _ (v ms : List (Pos × Nf)) where
   third_even (p ∷ q ∷ ps) e (b ∷ []) m qs rs g = absurd m
   third_even (p ∷ q ∷ ps) e (b ∷ true ∷ bs) (d, f, m) qs rs g = absurd (cc d)
   third_even (p ∷ q ∷ ps) (c, e, es) (true ∷ false ∷ bs) (d, f, m) qs rs g =
-      let s = goes_done (third_by false v ms q qs (λ gs. third_pass v ms ps bs gs)) (λ rest. Done (with_equation p None ∷ rest)) rs g in
+      let s = goes_done (third_by false v ms q qs (λ gs. third_pass v ms ps bs gs)) (λ rest. Done (position_with_equation p None ∷ rest)) rs g in
       let t = goes_done (equation_found v ms (value_at v q.sort q.pos) qs)
-      (λ o. after (third_pass v ms ps bs (freed_with q o qs)) (λ rest. Done (with_equation q o ∷ rest))) s.middle s.first in
-      let u = goes_done (third_pass v ms ps bs (freed_with q t.middle qs)) (λ rest. Done (with_equation q t.middle ∷ rest)) s.middle t.next in
-      let k : with_equation p None ∷ with_equation q t.middle ∷ u.middle ≡ rs =
-      ap (λ z. with_equation p None ∷ z) (same_Done (with_equation q t.middle ∷ u.middle) s.middle u.next)
-      ∙ same_Done (with_equation p None ∷ s.middle) rs s.next in
+      (λ o. after (third_pass v ms ps bs (freed_in_pass q o qs)) (λ rest. Done (position_with_equation q o ∷ rest))) s.middle s.first in
+      let u = goes_done (third_pass v ms ps bs (freed_in_pass q t.middle qs)) (λ rest. Done (position_with_equation q t.middle ∷ rest)) s.middle t.next in
+      let k : position_with_equation p None ∷ position_with_equation q t.middle ∷ u.middle ≡ rs =
+      ap (λ z. position_with_equation p None ∷ z) (same_Done (position_with_equation q t.middle ∷ u.middle) s.middle u.next)
+      ∙ same_Done (position_with_equation p None ∷ s.middle) rs s.next in
       subst AreEvenPositions k (
         after_free p.sort p.pos qs t.middle (f refl) (ap (λ z. equation_found v ms z qs) e ∙ t.first),
-        third_even ps es bs m (freed_with q t.middle qs) u.middle u.first,
+        third_even ps es bs m (freed_in_pass q t.middle qs) u.middle u.first,
       )
   third_even (p ∷ q ∷ ps) (c, e, es) (false ∷ false ∷ bs) (d, f, m) qs rs g =
       let a = goes_done (equation_found v ms (value_at v p.sort p.pos) qs)
-      (λ o. after (third_by false v ms q (freed_with p o qs) (λ gs. third_pass v ms ps bs gs)) (λ rest. Done (with_equation p o ∷ rest))) rs g in
-      let gs = freed_with p a.middle qs in
-      let s = goes_done (third_by false v ms q gs (λ gs. third_pass v ms ps bs gs)) (λ rest. Done (with_equation p a.middle ∷ rest)) rs a.next in
+      (λ o. after (third_by false v ms q (freed_in_pass p o qs) (λ gs. third_pass v ms ps bs gs)) (λ rest. Done (position_with_equation p o ∷ rest))) rs g in
+      let gs = freed_in_pass p a.middle qs in
+      let s = goes_done (third_by false v ms q gs (λ gs. third_pass v ms ps bs gs)) (λ rest. Done (position_with_equation p a.middle ∷ rest)) rs a.next in
       let t = goes_done (equation_found v ms (value_at v q.sort q.pos) gs)
-      (λ o. after (third_pass v ms ps bs (freed_with q o gs)) (λ rest. Done (with_equation q o ∷ rest))) s.middle s.first in
-      let u = goes_done (third_pass v ms ps bs (freed_with q t.middle gs)) (λ rest. Done (with_equation q t.middle ∷ rest)) s.middle t.next in
-      let k : with_equation p a.middle ∷ with_equation q t.middle ∷ u.middle ≡ rs =
-      ap (λ z. with_equation p a.middle ∷ z) (same_Done (with_equation q t.middle ∷ u.middle) s.middle u.next)
-      ∙ same_Done (with_equation p a.middle ∷ s.middle) rs s.next in
-      subst AreEvenPositions k (second_form p q qs a.middle t.middle e a.first t.first, third_even ps es bs m (freed_with q t.middle gs) u.middle u.first)
+      (λ o. after (third_pass v ms ps bs (freed_in_pass q o gs)) (λ rest. Done (position_with_equation q o ∷ rest))) s.middle s.first in
+      let u = goes_done (third_pass v ms ps bs (freed_in_pass q t.middle gs)) (λ rest. Done (position_with_equation q t.middle ∷ rest)) s.middle t.next in
+      let k : position_with_equation p a.middle ∷ position_with_equation q t.middle ∷ u.middle ≡ rs =
+      ap (λ z. position_with_equation p a.middle ∷ z) (same_Done (position_with_equation q t.middle ∷ u.middle) s.middle u.next)
+      ∙ same_Done (position_with_equation p a.middle ∷ s.middle) rs s.next in
+      subst AreEvenPositions k (second_form p q qs a.middle t.middle e a.first t.first, third_even ps es bs m (freed_in_pass q t.middle gs) u.middle u.first)
 
 pub rebase_even : (post : Post) (ps : List Position) (f : Fact) → AreEvenValues post.vector (map place ps) → rebase post ps ≡ Done f → IsEvenFact f
 rebase_even post ps f e g =

@@ -34,7 +34,7 @@ use Rattle.search_tables.specs.Rebases.{value_at, number_held, form_held, Rebase
 use Rattle.search_tables.specs.Rebases.{less_rest}
 use Rattle.search_tables.specs.Rebases.{Solution, solution, second_pass_solution, second_by, second_pass, number_tied_to, number_tied, form_tied}
 use Rattle.search_tables.specs.Rebases.{rebase_tied_equation, equation_found}
-use Rattle.search_tables.specs.Rebases.{freed_with, with_equation, third_pass, with_needed, conditions_over, rebase}
+use Rattle.search_tables.specs.Rebases.{freed_in_pass, position_with_equation, third_pass, with_needed, conditions_over, rebase}
 use Rattle.search_tables.specs.Joins as joins
 use Rattle.search_tables.specs.Joins.{Freed, symbol_like, is_alike, position_joined, is_among, positions_joined, literals_kept, join}
 use Rattle.alike_searches.specs.Risen.{is_risen, is_risen_array, IsRisenVector}
@@ -242,14 +242,14 @@ module _ (v : List (Pos × Nf)) where
     third_rises [] bs qs rs e = subst AreRisenPositions (same_Done [] rs e) tt
     third_rises (p ∷ ps) [] qs rs e = subst AreRisenPositions (same_Done [] rs e) tt
     third_rises (p ∷ ps) (true ∷ bs) qs rs e =
-        let s = goes_done (third_pass v ms ps bs qs) (λ rest. Done (with_equation p None ∷ rest)) rs e in
-        subst AreRisenPositions (same_Done (with_equation p None ∷ s.middle) rs s.next) (tt, third_rises ps bs qs s.middle s.first)
+        let s = goes_done (third_pass v ms ps bs qs) (λ rest. Done (position_with_equation p None ∷ rest)) rs e in
+        subst AreRisenPositions (same_Done (position_with_equation p None ∷ s.middle) rs s.next) (tt, third_rises ps bs qs s.middle s.first)
     third_rises (p ∷ ps) (false ∷ bs) qs rs e =
         let s = goes_done (equation_found v ms (value_at v p.sort p.pos) qs)
-        (λ o. after (third_pass v ms ps bs (freed_with p o qs)) (λ rest. Done (with_equation p o ∷ rest))) rs e in
-        let t = goes_done (third_pass v ms ps bs (freed_with p s.middle qs)) (λ rest. Done (with_equation p s.middle ∷ rest)) rs s.next in
-        subst AreRisenPositions (same_Done (with_equation p s.middle ∷ t.middle) rs t.next)
-        (found_rises (value_at v p.sort p.pos) qs s.middle s.first, third_rises ps bs (freed_with p s.middle qs) t.middle t.first)
+        (λ o. after (third_pass v ms ps bs (freed_in_pass p o qs)) (λ rest. Done (position_with_equation p o ∷ rest))) rs e in
+        let t = goes_done (third_pass v ms ps bs (freed_in_pass p s.middle qs)) (λ rest. Done (position_with_equation p s.middle ∷ rest)) rs s.next in
+        subst AreRisenPositions (same_Done (position_with_equation p s.middle ∷ t.middle) rs t.next)
+        (found_rises (value_at v p.sort p.pos) qs s.middle s.first, third_rises ps bs (freed_in_pass p s.middle qs) t.middle t.first)
 
 pub rebase_rises : (post : Post) (ps : List Position) (f : Fact) → rebase post ps ≡ Done f → IsRisenFact f
 rebase_rises post ps f g =

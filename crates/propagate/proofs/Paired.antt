@@ -28,7 +28,8 @@ use Rattle.sym_facts.specs.Pairings.{is_position, form_within, IsFactOf}
 use Rattle.sym_facts.proofs.StartSolved.{own_sort_of}
 use Rattle.propagate.specs.Rebases.{value_at, number_held, form_held, symbol_found, first_by, first_pass, RebaseState, with_mark, Solution}
 use Rattle.propagate.specs.Rebases.{second_pass_solution, second_by}
-use Rattle.propagate.specs.Rebases.{second_pass, number_tied_to, number_tied, form_tied, rebase_tied_equation, equation_found, freed_with, with_equation}
+use Rattle.propagate.specs.Rebases.{second_pass, number_tied_to, number_tied, form_tied, rebase_tied_equation, equation_found, freed_in_pass}
+use Rattle.propagate.specs.Rebases.{position_with_equation}
 use Rattle.propagate.specs.Rebases.{third_pass, rebase}
 use Rattle.propagate.proofs.Arriving.{forms_equal}
 use Rattle.propagate.proofs.Passes.{AllPass, FreePass, AllEquations}
@@ -173,15 +174,15 @@ module _ (v ms : List (Pos × Nf)) where
   third_rows [] (b ∷ bs) qs rs m e = absurd m
   third_rows (p ∷ ps) [] qs rs m e = absurd m
   third_rows (p ∷ ps) (true ∷ bs) qs rs m e =
-      let s = goes_done (third_pass v ms ps bs qs) (λ rest. Done (with_equation p None ∷ rest)) rs e in
-      let k : with_equation p None ∷ s.middle ≡ rs = cc s.next in
+      let s = goes_done (third_pass v ms ps bs qs) (λ rest. Done (position_with_equation p None ∷ rest)) rs e in
+      let k : position_with_equation p None ∷ s.middle ≡ rs = cc s.next in
       subst (Rows (p ∷ ps)) k ((refl, refl, own_sort_of p.sort p.pos), third_rows ps bs qs s.middle m s.first)
   third_rows (p ∷ ps) (false ∷ bs) qs rs m e =
       let s = goes_done (equation_found v ms (value_at v p.sort p.pos) qs)
-      (λ o. after (third_pass v ms ps bs (freed_with p o qs)) (λ rest. Done (with_equation p o ∷ rest))) rs e in
-      let t = goes_done (third_pass v ms ps bs (freed_with p s.middle qs)) (λ rest. Done (with_equation p s.middle ∷ rest)) rs s.next in
-      let k : with_equation p s.middle ∷ t.middle ≡ rs = cc t.next in
-      subst (Rows (p ∷ ps)) k ((refl, refl, found_sort p.sort p.pos qs s.middle s.first), third_rows ps bs (freed_with p s.middle qs) t.middle m t.first)
+      (λ o. after (third_pass v ms ps bs (freed_in_pass p o qs)) (λ rest. Done (position_with_equation p o ∷ rest))) rs e in
+      let t = goes_done (third_pass v ms ps bs (freed_in_pass p s.middle qs)) (λ rest. Done (position_with_equation p s.middle ∷ rest)) rs s.next in
+      let k : position_with_equation p s.middle ∷ t.middle ≡ rs = cc t.next in
+      subst (Rows (p ∷ ps)) k ((refl, refl, found_sort p.sort p.pos qs s.middle s.first), third_rows ps bs (freed_in_pass p s.middle qs) t.middle m t.first)
 
   rows_sorts : (ps : List Position) (rs : List FactPosition) → Rows ps rs → map (λ q. q.sort) rs ≡ map (λ p. p.sort) ps
   rows_sorts [] [] h = refl

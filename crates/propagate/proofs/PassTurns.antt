@@ -15,7 +15,7 @@ use Rattle.sym_paths.proofs.Loops.{followed, more_done}
 use Rattle.sym_facts.specs.Facts.{FactPosition}
 use Rattle.propagate.specs.Joins.{Freed, with_equation as with_joined}
 use Rattle.propagate.specs.JoinSteps.{equation_joined, freed_by_join, is_first_place, left_behind, joined_from}
-use Rattle.propagate.specs.Rebases.{RebaseState, symbol_found, with_equation, with_mark}
+use Rattle.propagate.specs.Rebases.{RebaseState, symbol_found, position_with_equation, with_mark}
 use Rattle.propagate.specs.RebaseSteps.{with_found, first_pass_from, RebaseTurn, second_turn, second_from, before_others}
 use Rattle.propagate.specs.RebaseSteps.{equation_given, freed_by_rebase, third_from}
 use Rattle.propagate.specs.declared.rebases.Marked.{Marked}
@@ -99,11 +99,11 @@ module _ (v : List (Pos × Nf)) (xs : List Marked) (i : ℕ) (x : Marked) (insid
 
     pub third_goes : (done : List FactPosition) (o : Option Nf) (qs new : List Position)
         → equation_given x.is_free v ms x.position qs ≡ Done o → new ≡ freed_by_rebase x.is_free x.position o qs
-        → followed (done ++ with_equation x.position o ∷ []) (third_over (drop (i + 1) xs) new) ≡ followed done (third_over (drop i xs) qs)
+        → followed (done ++ position_with_equation x.position o ∷ []) (third_over (drop (i + 1) xs) new) ≡ followed done (third_over (drop i xs) qs)
     third_goes done o qs new a f =
         let behind : Option Nf → List Position → Computed (List FactPosition) =
-        λ p gs. after (third_over (drop (i + 1) xs) gs) (λ ys. Done (with_equation x.position p ∷ ys)) in
-        more_done done (with_equation x.position o) (third_over (drop (i + 1) xs) new)
+        λ p gs. after (third_over (drop (i + 1) xs) gs) (λ ys. Done (position_with_equation x.position p ∷ ys)) in
+        more_done done (position_with_equation x.position o) (third_over (drop (i + 1) xs) new)
         ∙ ap (λ gs. followed done (behind o gs)) f
         ∙ sym (ap (λ ys. followed done (third_over ys qs)) (drop_next xs i x inside is)
         ∙ ap (λ c. followed done (after c (λ p. behind p (freed_by_rebase x.is_free x.position p qs)))) a)
@@ -114,7 +114,7 @@ module _ (v : List (Pos × Nf)) (xs : List Marked) (i : ℕ) (x : Marked) (insid
     third_stops done qs event a =
         let given = equation_given x.is_free v ms x.position qs in
         let next : Option Nf → Computed (List FactPosition) =
-        λ p. after (third_over (drop (i + 1) xs) (freed_by_rebase x.is_free x.position p qs)) (λ ys. Done (with_equation x.position p ∷ ys)) in
+        λ p. after (third_over (drop (i + 1) xs) (freed_by_rebase x.is_free x.position p qs)) (λ ys. Done (position_with_equation x.position p ∷ ys)) in
         subst (λ ys. Answers {T = List FactPosition} (Err event) (followed done (third_over ys qs))) (sym (drop_next xs i x inside is))
         (stops event (after given next) (λ ys. Done (done ++ ys)) (stops event given next a))
 

@@ -21,7 +21,7 @@ use Rattle.nf_terms.specs.TermSorts.{same_term_sort}
 use Rattle.sym_facts.specs.Facts.{FactPosition, EquationHolds, EquationsHold, sort_of_terms, own_symbol}
 use Rattle.propagate.specs.Rebases.{value_at, is_held, bare_symbol, RebaseState, with_mark, unheld_symbol, symbol_found, first_by, first_pass, Solution}
 use Rattle.propagate.specs.Rebases.{second_pass_solution}
-use Rattle.propagate.specs.Rebases.{second_by, second_pass, equation_found, freed_with, with_equation, third_pass}
+use Rattle.propagate.specs.Rebases.{second_by, second_pass, equation_found, freed_in_pass, position_with_equation, third_pass}
 
 -- each form of a vector passes, with the position at which it stands
 pub record AllForms (P : Pos → Nf → Type 0) (ms : List (Pos × Nf)) : Type 0 where
@@ -150,7 +150,7 @@ module _ (v ms : List (Pos × Nf)) (Q : Sort → Pos → Type 0) (E : Pos → Op
   by_finding s p qs None h e = free p
   by_finding s p qs (Some f) h e = found s p qs f h e
 
-  still_pass : (p : Position) (o : Option Nf) (qs : List Position) → AllPass Q qs → (o ≡ None → Q p.sort p.pos) → AllPass Q (freed_with p o qs)
+  still_pass : (p : Position) (o : Option Nf) (qs : List Position) → AllPass Q qs → (o ≡ None → Q p.sort p.pos) → AllPass Q (freed_in_pass p o qs)
   still_pass p None qs h g = all_pass_with_last Q qs p h (g refl)
   still_pass p (Some f) qs h g = h
 
@@ -162,18 +162,18 @@ module _ (v ms : List (Pos × Nf)) (Q : Sort → Pos → Type 0) (E : Pos → Op
   third_all [] bs qs rs h e m = let k : [] ≡ rs = cc e in (subst (AllEquations E) k tt, tt)
   third_all (p ∷ ps) [] qs rs h e m = let k : [] ≡ rs = cc e in (subst (AllEquations E) k tt, tt)
   third_all (p ∷ ps) (true ∷ bs) qs rs h e m =
-      let s = goes_done (third_pass v ms ps bs qs) (λ rest. Done (with_equation p None ∷ rest)) rs e in
-      let k : with_equation p None ∷ s.middle ≡ rs = cc s.next in
-      let n : FreePass Q (with_equation p None ∷ s.middle) = subst (FreePass Q) (sym k) m in
+      let s = goes_done (third_pass v ms ps bs qs) (λ rest. Done (position_with_equation p None ∷ rest)) rs e in
+      let k : position_with_equation p None ∷ s.middle ≡ rs = cc s.next in
+      let n : FreePass Q (position_with_equation p None ∷ s.middle) = subst (FreePass Q) (sym k) m in
       let a = third_all ps bs qs s.middle h s.first n.1 in
       (subst (AllEquations E) k (free p.pos, a.0), ((λ c. n.0 refl), a.1))
   third_all (p ∷ ps) (false ∷ bs) qs rs h e m =
       let s = goes_done (equation_found v ms (value_at v p.sort p.pos) qs)
-      (λ o. after (third_pass v ms ps bs (freed_with p o qs)) (λ rest. Done (with_equation p o ∷ rest))) rs e in
-      let t = goes_done (third_pass v ms ps bs (freed_with p s.middle qs)) (λ rest. Done (with_equation p s.middle ∷ rest)) rs s.next in
-      let k : with_equation p s.middle ∷ t.middle ≡ rs = cc t.next in
-      let n : FreePass Q (with_equation p s.middle ∷ t.middle) = subst (FreePass Q) (sym k) m in
-      let a = third_all ps bs (freed_with p s.middle qs) t.middle (still_pass p s.middle qs h n.0) t.first n.1 in
+      (λ o. after (third_pass v ms ps bs (freed_in_pass p o qs)) (λ rest. Done (position_with_equation p o ∷ rest))) rs e in
+      let t = goes_done (third_pass v ms ps bs (freed_in_pass p s.middle qs)) (λ rest. Done (position_with_equation p s.middle ∷ rest)) rs s.next in
+      let k : position_with_equation p s.middle ∷ t.middle ≡ rs = cc t.next in
+      let n : FreePass Q (position_with_equation p s.middle ∷ t.middle) = subst (FreePass Q) (sym k) m in
+      let a = third_all ps bs (freed_in_pass p s.middle qs) t.middle (still_pass p s.middle qs h n.0) t.first n.1 in
       (subst (AllEquations E) k (by_finding p.sort p.pos qs s.middle h s.first, a.0), ((λ c. absurd (let d : false ≡ true = c in cc d)), a.1))
 
 -- ---- tests that ask nothing

@@ -9,7 +9,7 @@ use Rattle.nf_rel.specs.Literals.{NormalLiteral}
 use Rattle.sym_paths.specs.Execution.{Post}
 use Rattle.sym_facts.specs.Facts.{FactPosition, Fact, most_literals}
 use Rattle.propagate.specs.Rebases.{with_mark, symbol_found, first_by, first_pass, Solution, second_pass_solution, second_by}
-use Rattle.propagate.specs.Rebases.{second_pass, third_pass, with_equation, freed_with, equation_found, value_at, with_needed}
+use Rattle.propagate.specs.Rebases.{second_pass, third_pass, position_with_equation, freed_in_pass, equation_found, value_at, with_needed}
 use Rattle.propagate.specs.Rebases.{conditions_over, rebase}
 use Rattle.propagate.specs.RebaseSteps.{with_found, first_pass_from, turn_of, second_from, third_from, conditions_kept}
 use Rattle.propagate.specs.RebaseSteps.{rebased_by}
@@ -41,9 +41,9 @@ module _ (v ms : List (Pos × Nf)) where
   third_is : (ps : List Position) (bs : List Bool) (qs : List Position) → third_from v ms ps bs qs ≡ third_pass v ms ps bs qs
   third_is [] bs qs = refl
   third_is (p ∷ ps) [] qs = refl
-  third_is (p ∷ ps) (true ∷ bs) qs = ap (λ c. after c (λ rest. Done (with_equation p None ∷ rest))) (third_is ps bs qs)
+  third_is (p ∷ ps) (true ∷ bs) qs = ap (λ c. after c (λ rest. Done (position_with_equation p None ∷ rest))) (third_is ps bs qs)
   third_is (p ∷ ps) (false ∷ bs) qs = λ j. after (equation_found v ms (value_at v p.sort p.pos) qs)
-      (λ o. after (third_is ps bs (freed_with p o qs) j) (λ rest. Done (with_equation p o ∷ rest)))
+      (λ o. after (third_is ps bs (freed_in_pass p o qs) j) (λ rest. Done (position_with_equation p o ∷ rest)))
 
 abbrev made : List FactPosition → List NormalLiteral → Computed Fact
 made qs ls = Done (record { positions = qs; literals = ls })

@@ -12,7 +12,7 @@ use Rattle.sym_facts.specs.Facts.{FactPosition, Fact, own_symbol}
 use Rattle.propagate.specs.Rebases.{value_at, RebaseState, with_mark, symbol_found, Solution}
 use Rattle.propagate.specs.declared.rebases.Marked.{Marked}
 use Rattle.propagate.specs.Rebases.{second_pass_solution, rebase}
-use Rattle.propagate.specs.Rebases.{equation_found, freed_with, with_equation}
+use Rattle.propagate.specs.Rebases.{equation_found, freed_in_pass, position_with_equation}
 pub use Rattle.propagate_equations.specs.EquationSteps.{conditions_kept}
 
 -- ---- the first pass
@@ -54,14 +54,14 @@ equation_given false v ms p qs = equation_found v ms (value_at v p.sort p.pos) q
 
 abbrev pub freed_by_rebase : (free : Bool) → Position → Option Nf → List Position → List Position
 freed_by_rebase true p o qs = qs
-freed_by_rebase false p o qs = freed_with p o qs
+freed_by_rebase false p o qs = freed_in_pass p o qs
 
 abbrev pub third_from : (v ms : List (Pos × Nf)) → List Position → List Bool → (freed : List Position)
     → Computed (List FactPosition)
 third_from v ms [] bs qs = Done []
 third_from v ms (p ∷ ps) [] qs = Done []
 third_from v ms (p ∷ ps) (b ∷ bs) qs = after (equation_given b v ms p qs)
-    (λ o. after (third_from v ms ps bs (freed_by_rebase b p o qs)) (λ rest. Done (with_equation p o ∷ rest)))
+    (λ o. after (third_from v ms ps bs (freed_by_rebase b p o qs)) (λ rest. Done (position_with_equation p o ∷ rest)))
 
 -- ---- all of it
 abbrev pub rebased_by : Post → List Position → RebaseState → Computed Fact

@@ -56,19 +56,19 @@ second_pass v (p ∷ ps) (b ∷ bs) ms = after (second_pass_solution b v ms p.so
     (λ o. second_by b o ms (λ ns. second_pass v ps bs ns))
 
 -- the positions that are freed in this pass, with one more where it gets no equation
-abbrev pub freed_with : Position → (equation : Option Nf) → List Position → List Position
-freed_with p None qs = qs ++ p ∷ []
-freed_with p (Some r) qs = qs
+abbrev pub freed_in_pass : Position → (equation : Option Nf) → List Position → List Position
+freed_in_pass p None qs = qs ++ p ∷ []
+freed_in_pass p (Some r) qs = qs
 
-abbrev pub with_equation : Position → Option Nf → FactPosition
-with_equation p o = record { pos = p.pos; sort = p.sort; equation = o }
+abbrev pub position_with_equation : Position → Option Nf → FactPosition
+position_with_equation p o = record { pos = p.pos; sort = p.sort; equation = o }
 
 abbrev pub third_by : (free : Bool) → (v ms : List (Pos × Nf)) → Position → List Position
     → (later : List Position → Computed (List FactPosition)) → Computed (List FactPosition)
-third_by true v ms p qs later = after (later qs) (λ rest. Done (with_equation p None ∷ rest))
+third_by true v ms p qs later = after (later qs) (λ rest. Done (position_with_equation p None ∷ rest))
 third_by false v ms p qs later =
     after (equation_found v ms (value_at v p.sort p.pos) qs)
-    (λ o. after (later (freed_with p o qs)) (λ rest. Done (with_equation p o ∷ rest)))
+    (λ o. after (later (freed_in_pass p o qs)) (λ rest. Done (position_with_equation p o ∷ rest)))
 
 abbrev pub third_pass : (v ms : List (Pos × Nf)) → List Position → List Bool → (freed : List Position)
     → Computed (List FactPosition)

@@ -120,11 +120,11 @@ pub record PathPair : Type 0 where
   pub left : Option Path
   pub right : Option Path
 
--- what moving from a node by these paths does to a table
-abbrev pub effect : MachinePair → Table → SearchNode → PathPair → MoveEffect
-effect m T n x = effect_of_arrival (positions_of m) T (end_of n.left x.left) (end_of n.right x.right)
-    (arrive m.left m.right n.fact.literals (vector_of n.fact.positions) x.left x.right)
-
 -- what arrives by paths from a node
 abbrev pub arrival : MachinePair → SearchNode → PathPair → Computed Post
 arrival m n x = arrive m.left m.right n.fact.literals (vector_of n.fact.positions) x.left x.right
+
+-- what moving from a node by these paths does to a table
+abbrev pub effect : MachinePair → Table → SearchNode → PathPair → MoveEffect
+effect m T n x = effect_of_arrival (positions_of m) T (end_of n.left x.left) (end_of n.right x.right) (arrival m n x)
+
