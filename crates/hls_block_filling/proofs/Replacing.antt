@@ -78,7 +78,7 @@ abbrev pub Does : Fsmd → Move → Type 0
 Does M x = (transitions_of M x.state ≡ move_transition x ∷ []) × (x.state ≢ M.reset)
 
 does_move : (M : Fsmd) (x : Move) (s : Store) → Does M x → Step M x.state s x.target (act_all x.assignments s s)
-does_move M x s d = record { block = move_transition x; taken = ap (λ ls. transition_taken ls s) d.0; target = refl; store = refl }
+does_move M x s d = record { transition = move_transition x; taken = ap (λ ls. transition_taken ls s) d.0; target = refl; store = refl }
 
 goes_through : (M : Fsmd) (exit q : ℕ) (qs : List ℕ) (a : Item) (rows : List Item) (s : Store) → length (a ∷ rows) ≤ length (q ∷ qs)
     → ((x : Move) → Among x (moves exit (q ∷ qs) (a ∷ rows)) → Does M x) → Passes M (suc (count rows)) q s exit (store_after_items (a ∷ rows) s)
@@ -251,7 +251,7 @@ module _ (m : Fsmd) (sound : IsSound m) (rows : ℕ → List Item) (keeps : Keep
         leads_right = record {
           state = r;
           store = t;
-          step = record { block = w.block; taken = ap (λ ls. transition_taken ls s) same ∙ w.taken; target = w.target; store = w.store };
+          step = record { transition = w.transition; taken = ap (λ ls. transition_taken ls s) same ∙ w.taken; target = w.target; store = w.store };
           after = (refl, refl);
         };
         related = (

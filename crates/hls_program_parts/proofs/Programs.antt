@@ -79,7 +79,7 @@ module _ (p : Program) (few : count p.body < most_states) where
             state = at (first (numbered_body p) 1 0);
             store = s;
             step = record {
-              line = always (at (first (numbered_body p) 1 0)) [];
+              transition = always (at (first (numbered_body p) 1 0)) [];
               taken = ap (λ (k : List (Transition ℕ ℕ)). transition_taken k s) first_lines;
               target = refl;
               store = refl;
