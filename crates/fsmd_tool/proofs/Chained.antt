@@ -1,5 +1,5 @@
 -- What the status of a call of `chain` tells.
-use Rattle.std.proofs.Common.{◌≡◌, true, ℕ, zero, suc, ◌+◌, List, ◌++◌, Option, Some, None, refl, ap, subst, codes, decimal, arith}
+use Rattle.std.proofs.Common.{◌≡◌, true, ℕ, zero, suc, ◌+◌, ◌-◌, ◌*◌, List, ◌++◌, Option, Some, None, refl, ap, subst, codes, decimal, arith}
 use Rattle.std.specs.Prelude.{IsTrue}
 use Rattle.std.proofs.lemmas.Bool.{false≢true}
 use Rattle.fsmd_words.specs.AskedWords.{Asked, Chain}
@@ -24,6 +24,7 @@ use Rattle.fsmd_tool.specs.Calls.{Call, known_at_start, MayHold, MayRead, IsCorr
 use Rattle.fsmd_tool.specs.SinkReplies.{Put}
 use Rattle.fsmd_tool.specs.Correct.{Answered}
 use Rattle.fsmd_tool.specs.HoldingLinks.{LinksHold}
+use Rattle.fsmd_tool.specs.Equivalent.{AreChained}
 use Rattle.fsmd_tool.specs.Clauses.{IsChained}
 use Rattle.fsmd_tool.proofs.Statuses.{HasStatus, is_refusal, not_refused, machine_refuses, pair_refuses, certificate_refuses, link_refuses, link_status}
 use Rattle.fsmd_tool.proofs.Statuses.{judged_yes}
@@ -127,3 +128,38 @@ is_chained g p a e t =
       same = l.told.same;
       put = put_lines g p x (codes "yes: " ++ (decimal (links_of f.words + 1) ++ codes " machines\n")) w.got (ap (λ y. lines_of y g.asked) l.told.is);
     }
+
+-- ---- the last machine
+
+-- where links hold, the machine of the last one is spelled by its file
+last_spelled : (g : Call) (links file : ℕ) (last end : Fsmd) → LinksHold g file (suc links) last end
+    → MayHold (known_at_start g (operand (file + 2 * links))) (SpellsMachine end)
+last_spelled g zero file last end h =
+    let here : file ≡ file + 2 * 0 = omega arith in
+    subst (λ n. MayHold (known_at_start g (operand n)) (SpellsMachine end)) here
+    (subst (λ m. MayHold (known_at_start g (operand file)) (SpellsMachine m)) h.rest h.machine)
+last_spelled g (suc links) file last end h =
+    let here : file + 2 + 2 * links ≡ file + 2 * suc links = omega arith in
+    subst (λ n. MayHold (known_at_start g (operand n)) (SpellsMachine end)) here (last_spelled g links (file + 2) h.next end h.rest)
+
+end_spelled : (g : Call) (links : ℕ) (first end : Fsmd) → LinksHold g 1 links first end → MayHold (known_at_start g (operand 0)) (SpellsMachine first)
+    → MayHold (known_at_start g (operand (2 * links - 1))) (SpellsMachine end)
+end_spelled g zero first end h b =
+    let here : 0 ≡ 2 * 0 - 1 = omega arith in
+    subst (λ n. MayHold (known_at_start g (operand n)) (SpellsMachine end)) here
+    (subst (λ m. MayHold (known_at_start g (operand 0)) (SpellsMachine m)) h b)
+end_spelled g (suc links) first end h b =
+    let here : 1 + 2 * links ≡ 2 * suc links - 1 = omega arith in
+    subst (λ n. MayHold (known_at_start g (operand n)) (SpellsMachine end)) here (last_spelled g links 1 first end h)
+
+pub are_chained : (g : Call) (p : Put) → Answered g p → p.status ≡ statuses.Fine → IsTrue (is_chain g.asked) → AreChained g p
+are_chained g p a e t = let c = is_chained g p a e t in record {
+  words = c.words;
+  asked = c.asked;
+  first = c.first;
+  last = c.last;
+  begins = c.begins;
+  ends = end_spelled g (links_of c.words) c.first c.last c.hold c.begins;
+  same = c.same;
+  put = c.put;
+}

@@ -25,10 +25,10 @@ use Rattle.fsmd_tool.proofs.Loads.{at_most_none, at_most_until}
 use Rattle.fsmd_tool.proofs.InOrder.{in_answer}
 use Rattle.fsmd_tool.proofs.Putting.{answers_usage, answered, keeps, unwritten}
 use Rattle.fsmd_tool.proofs.AlikeMachines.{tells_of_alike, no_memory_of_pair}
-use Rattle.fsmd_tool.proofs.Says.{are_equivalent, says_same, says_differ, says_undecided, is_checked}
+use Rattle.fsmd_tool.proofs.Says.{are_equivalent, are_generated_equivalent, are_verified, says_same, says_differ, says_undecided, is_checked}
 use Rattle.fsmd_tool.proofs.Synthesized.{is_compiled, is_in_rows, is_in_registers}
 use Rattle.fsmd_tool.proofs.Shrunk.{is_shrunk}
-use Rattle.fsmd_tool.proofs.Chained.{is_chained}
+use Rattle.fsmd_tool.proofs.Chained.{are_chained, is_chained}
 use Rattle.fsmd_tool.proofs.Causes.{has_cause}
 
 -- what holds however a call ends
@@ -44,6 +44,9 @@ well_driven : (g : Call) (p : Put) → Answered g p → Stays g p → IsDriven g
 well_driven g p a s = record {
   outcome = Answers a;
   same_behaviour = are_equivalent g p a;
+  generated_same = are_generated_equivalent g p a;
+  verified_same = are_verified g p a;
+  chained_same = are_chained g p a;
   equivalent = says_same g p a;
   differ = says_differ g p a;
   undecided = says_undecided g p a;
@@ -80,6 +83,9 @@ starved : (g : Call) (p : Put) → p.status ≡ NoMemory → p.got_now ≡ p.got
 starved g p m got files s = record {
   outcome = Starves (record { status = m; got = got; files = files });
   same_behaviour = λ e t. absurd (other_than_fine p.status m e);
+  generated_same = λ e t. absurd (other_than_fine p.status m e);
+  verified_same = λ e t. absurd (other_than_fine p.status m e);
+  chained_same = λ e t. absurd (other_than_fine p.status m e);
   equivalent = λ e t. absurd (other_than_fine p.status m e);
   differ = λ e t. absurd (other_than_differ p.status m e);
   undecided = λ e t. absurd (other_than_undecided p.status m e);

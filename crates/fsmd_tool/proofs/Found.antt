@@ -11,7 +11,7 @@ use Rattle.sym_facts.specs.Facts.{Fact}
 use Rattle.fsmd_replies.specs.declared.answer.Operand.{Operand}
 use Rattle.fsmd_replies.specs.declared.answer.Status.{Status}
 use Rattle.fsmd_replies.specs.declared.answer.Answer.{Answer}
-use Rattle.fsmd_replies.specs.AskedFiles.{operand, compares, is_check, is_verify, cert_of, step_limit}
+use Rattle.fsmd_replies.specs.AskedFiles.{operand, file_word_of, compares, is_verify, cert_of, step_limit}
 use Rattle.fsmd_answers.specs.MachineFiles.{SpellsMachine}
 use Rattle.fsmd_answers.specs.Readings.{FileContent, Readable, Unreadable, OfBytes, Reading}
 use Rattle.fsmd_answers.specs.Refusals.{RefusesMachine, RefusesPair, RefusesCertificate, SpellsCertificate}
@@ -22,7 +22,7 @@ use Rattle.fsmd_answers.specs.Follows.{FollowsFrom}
 use Rattle.fsmd_answers.proofs.Loops.{loops_alike}
 use Rattle.fsmd_tool.specs.Calls.{Call, known_at_start, FailedToRead, MayBeRead, MayHold, MayRead, IsCorrectFrom}
 use Rattle.fsmd_tool.specs.Correct.{IsCorrectAnswer}
-use Rattle.fsmd_tool.specs.Equivalent.{ArePairedMachines, OfFiles, OfLoops}
+use Rattle.fsmd_tool.specs.Equivalent.{AreOfFiles, ArePairedMachines, OfFiles, OfLoops}
 use Rattle.fsmd_tool.proofs.Statuses.{HasStatus, is_refusal, not_refused, machine_refuses, pair_refuses, certificate_refuses}
 
 -- ---- files one after another
@@ -107,15 +107,30 @@ pub record Compared (g : Call) (x : Answer) : Type 0 where
   pub answer : IsOfPair (step_limit g.asked) (is_some (cert_of g.asked)) left right x
 
 module _ (g : Call) (s : Status) (x : Answer) (away : is_refusal s ≡ false) (e : HasStatus s x) where
-  of_files : (o : Option Asked) → g.asked ≡ o → IsTrue (is_check o)
-      → IsCorrectFrom (OpensPair (λ a b. Ends (IsOfPair (step_limit o) (is_some (cert_of o)) a b))) 0 g x → Compared g x
-  of_files o is check c =
-      let b = of_pair (λ a b. Ends (IsOfPair (step_limit o) (is_some (cert_of o)) a b)) g s x away e c in
-      let p = end_of (IsOfPair (step_limit o) (is_some (cert_of o)) b.left b.right) 2 g x b.rest in
+  -- what a file may hold, by the words that are asked
+  held : (o : Option Asked) → g.asked ≡ o → (n : ℕ) (m : Fsmd) → MayHold (known_at_start g (operand n)) (SpellsMachine m)
+      → MayHold (g.before.holds (file_word_of o (operand n))) (SpellsMachine m)
+  held o is n m h = subst (λ k. MayHold (g.before.holds (file_word_of k (operand n))) (SpellsMachine m)) is h
+
+  of_files : (left right : List ℕ) (cert : Option (List ℕ)) (steps : ℕ) → g.asked ≡ Some (Check left right cert steps)
+      → IsCorrectFrom (OpensPair (λ a b. Ends (IsOfPair steps (is_some cert) a b))) 0 g x → Compared g x
+  of_files left right cert steps is c =
+      let b = of_pair (λ a b. Ends (IsOfPair steps (is_some cert) a b)) g s x away e c in
+      let p = end_of (IsOfPair steps (is_some cert) b.left b.right) 2 g x b.rest in
+      let files : AreOfFiles g b.left b.right =
+      record {
+        left_file = left;
+        right_file = right;
+        cert = cert;
+        steps = steps;
+        asked = is;
+        first = held (Some (Check left right cert steps)) is 0 b.left b.first;
+        second = held (Some (Check left right cert steps)) is 1 b.right b.second;
+      } in
       record {
         left = b.left;
         right = b.right;
-        paired = record { compared = OfFiles (subst (λ k. IsTrue (is_check k)) (sym is) check) b.first b.second; alike = b.alike };
+        paired = record { compared = OfFiles files; alike = b.alike };
         answer = subst (λ k. IsOfPair (step_limit k) (is_some (cert_of k)) b.left b.right x) (sym is) p;
       }
 
@@ -123,12 +138,12 @@ module _ (g : Call) (s : Status) (x : Answer) (away : is_refusal s ≡ false) (e
   of_loops n is p = record {
     left = left_of n;
     right = right_of n;
-    paired = record { compared = OfLoops n is refl refl; alike = loops_alike n };
+    paired = record { compared = OfLoops (record { loops = n; asked = is; first = refl; second = refl }); alike = loops_alike n };
     answer = subst (λ k. IsOfPair (step_limit k) (is_some (cert_of k)) (left_of n) (right_of n) x) (sym is) p;
   }
 
   compared_by : (o : Option Asked) → g.asked ≡ o → IsTrue (compares o) → IsCorrectFrom (FollowsFrom o) 0 g x → Compared g x
-  compared_by (Some (Check left right cert steps)) is t c = of_files (Some (Check left right cert steps)) is refl c
+  compared_by (Some (Check left right cert steps)) is t c = of_files left right cert steps is c
   compared_by (Some (Generate n)) is t c = of_loops n is (end_of (IsOfPair (step_limit (Some (Generate n))) false (left_of n) (right_of n)) 0 g x c)
   compared_by _ is t c = absurd (false≢true t)
 

@@ -3,7 +3,7 @@ use Rattle.std.proofs.Common.{◌≡◌, ◌∙◌, ℕ, Bool, true, false, List
 use Rattle.std.specs.Prelude.{IsTrue, is_some}
 use Rattle.std.proofs.lemmas.Bool.{false≢true}
 use Rattle.cert_model.specs.Obligations.{verdict_on}
-use Rattle.fsmd_words.specs.AskedWords.{Asked, Check, Verify}
+use Rattle.fsmd_words.specs.AskedWords.{Asked, Check, Verify, Generate}
 use Rattle.fs_base.specs.Outside.{got_after}
 use Rattle.fs_model.specs.Machines.{Fsmd}
 use Rattle.cert_bisimulation.specs.Tables.{Node}
@@ -15,17 +15,20 @@ use Rattle.fsmd_replies.specs.declared.answer.Status.TheVariants as statuses
 use Rattle.fsmd_replies.specs.declared.answer.Answer.{Answer}
 use Rattle.fsmd_replies.specs.declared.answer.Answer.TheVariants.{Equivalent, Text, Differs, Undecided}
 use Rattle.fsmd_replies.specs.Statuses.{status_of, certificate_in}
-use Rattle.fsmd_replies.specs.AskedFiles.{compares, is_verify, cert_of, step_limit}
+use Rattle.fsmd_replies.specs.AskedFiles.{operand, file_word_of, compares, is_check, is_verify, cert_of, step_limit}
+use Rattle.fsmd_answers.specs.MachineFiles.{SpellsMachine}
 use Rattle.fsmd_answers.specs.LineAnswers.{HasLines}
 use Rattle.fsmd_answers.specs.ComparisonAnswers.{AreSame, IsOfPair, Same, Apart, Open, text_to_store}
 use Rattle.fsmd_answers.specs.Verdicts.{answer_to}
 use Rattle.fsmd_replies.specs.Replies.{opening_line, lines_of, reply, equivalent_text, unstored_reply}
-use Rattle.fsmd_tool.specs.Calls.{Call}
+use Rattle.fsmd_tool.specs.Asking.{is_generate}
+use Rattle.fsmd_tool.specs.Calls.{Call, MayHold}
 use Rattle.fsmd_tool.specs.SinkReplies.{Put, IsPut, Whole, Cut}
 use Rattle.fsmd_tool.specs.CertificateStores.{FileChange, file_change, IsStoredUnder, FileToStore, file_to_store, file_to_store_of, to_store, Leaves, LeftAlone}
 use Rattle.fsmd_tool.specs.CertificateStores.{LeftStored, LeftUnstored}
 use Rattle.fsmd_tool.specs.Correct.{IsCorrectAnswer, IsDone, Kept, Stored, Unstored, Answered}
-use Rattle.fsmd_tool.specs.Equivalent.{HasPut, ArePairedMachines, AreEquivalent}
+use Rattle.fsmd_tool.specs.Equivalent.{AreOfFiles, AreOfLoops, AreCompared, OfFiles, OfLoops, HasPut, ArePairedMachines}
+use Rattle.fsmd_tool.specs.Equivalent.{AreEquivalent, AreGeneratedEquivalent, AreVerified}
 use Rattle.fsmd_tool.specs.Clauses.{SaysSame, SaysDiffer, SaysUndecided, IsChecked, KeepsFiles, AllKept, CertificateStored, CertificateFailed}
 use Rattle.fsmd_tool.proofs.Statuses.{HasStatus, moved, is_refusal, judged_yes}
 use Rattle.fsmd_tool.proofs.Found.{compared, checked}
@@ -118,11 +121,41 @@ says_same g p a e t =
           (stores_text g.asked a.answer (length k.nodes) (certificate_text c.left c.right k.nodes) name k.is named);
     }
 
-pub are_equivalent : (g : Call) (p : Put) → Answered g p → p.status ≡ statuses.Fine → IsTrue (compares g.asked) → AreEquivalent g p
-are_equivalent g p a e t = let s = says_same g p a e t in record {
+check_compares : (o : Option Asked) → IsTrue (is_check o) → IsTrue (compares o)
+check_compares (Some (Check left right cert steps)) t = refl
+check_compares _ t = absurd (false≢true t)
+
+generate_compares : (o : Option Asked) → IsTrue (is_generate o) → IsTrue (compares o)
+generate_compares (Some (Generate loops)) t = refl
+generate_compares _ t = absurd (false≢true t)
+
+-- what a check compares stands in files
+of_files_alone : (g : Call) (a b : Fsmd) → IsTrue (is_check g.asked) → AreCompared g a b → AreOfFiles g a b
+of_files_alone g a b t (OfFiles f) = f
+of_files_alone g a b t (OfLoops l) = absurd (false≢true (subst (λ o. IsTrue (is_check o)) l.asked t))
+
+of_loops_alone : (g : Call) (a b : Fsmd) → IsTrue (is_generate g.asked) → AreCompared g a b → AreOfLoops g a b
+of_loops_alone g a b t (OfFiles f) = absurd (false≢true (subst (λ o. IsTrue (is_generate o)) f.asked t))
+of_loops_alone g a b t (OfLoops l) = l
+
+pub are_equivalent : (g : Call) (p : Put) → Answered g p → p.status ≡ statuses.Fine → IsTrue (is_check g.asked) → AreEquivalent g p
+are_equivalent g p a e t = let s = says_same g p a e (check_compares g.asked t) in record {
   left = s.left;
   right = s.right;
-  paired = s.paired;
+  compared = of_files_alone g s.left s.right t s.paired.compared;
+  alike = s.paired.alike;
+  same = s.same;
+  nodes = length s.nodes;
+  put = s.put;
+}
+
+pub are_generated_equivalent : (g : Call) (p : Put) → Answered g p → p.status ≡ statuses.Fine → IsTrue (is_generate g.asked)
+    → AreGeneratedEquivalent g p
+are_generated_equivalent g p a e t = let s = says_same g p a e (generate_compares g.asked t) in record {
+  left = s.left;
+  right = s.right;
+  compared = of_loops_alone g s.left s.right t s.paired.compared;
+  alike = s.paired.alike;
   same = s.same;
   nodes = length s.nodes;
   put = s.put;
@@ -180,6 +213,35 @@ is_checked g p a e t =
       hold = yes;
       same = c.judged.same yes;
       put = w.got ∙ ap (got_after p.got_before) (no_opening g.asked t a.answer ∙ ap (λ x. lines_of x g.asked) is);
+    }
+
+-- the words that ask to check a certificate
+record AskVerify (o : Option Asked) : Type 0 where
+  left : List ℕ
+  right : List ℕ
+  cert : List ℕ
+  is : o ≡ Some (Verify left right cert)
+
+ask_verify : (o : Option Asked) → IsTrue (is_verify o) → AskVerify o
+ask_verify (Some (Verify left right cert)) t = record { left = left; right = right; cert = cert; is = refl }
+ask_verify _ t = absurd (false≢true t)
+
+pub are_verified : (g : Call) (p : Put) → Answered g p → p.status ≡ statuses.Fine → IsTrue (is_verify g.asked) → AreVerified g p
+are_verified g p a e t =
+    let c = is_checked g p a e t in
+    let w = ask_verify g.asked t in
+    record {
+      left_file = w.left;
+      right_file = w.right;
+      cert_file = w.cert;
+      asked = w.is;
+      left = c.left;
+      right = c.right;
+      first = subst (λ o. MayHold (g.before.holds (file_word_of o (operand 0))) (SpellsMachine c.left)) w.is c.first;
+      second = subst (λ o. MayHold (g.before.holds (file_word_of o (operand 1))) (SpellsMachine c.right)) w.is c.second;
+      alike = c.alike;
+      same = c.same;
+      put = c.put;
     }
 
 -- ---- files that are changed

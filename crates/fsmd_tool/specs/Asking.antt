@@ -1,11 +1,16 @@
 -- What the words of a call ask.
 use Rattle.std.specs.Prelude.{Bool, true, false, List, Option, Some, String, string_bytes, map, IsTrue}
-use Rattle.fsmd_words.specs.AskedWords.{Asked, asked_of, Compile, Schedule, Bind, Shrink, Chain}
-use Rattle.fsmd_replies.specs.AskedFiles.{compares, is_verify}
+use Rattle.fsmd_words.specs.AskedWords.{Asked, asked_of, Generate, Compile, Schedule, Bind, Shrink, Chain}
+use Rattle.fsmd_replies.specs.AskedFiles.{is_check, compares, is_verify}
 
 -- what these words ask
 abbrev pub asked_by_words : {A : Type 0} → List (String A) → Option Asked
 asked_by_words words = asked_of (map string_bytes words)
+
+-- two machines are to be generated and compared
+abbrev pub is_generate : Option Asked → Bool
+is_generate (Some (Generate loops)) = true
+is_generate _ = false
 
 -- a program is to be compiled
 abbrev pub is_compile : Option Asked → Bool
@@ -35,6 +40,14 @@ is_chain _ = false
 -- it is asked to compare two machines, of files or generated
 abbrev pub AskToCompare : Option Asked → Type 0
 AskToCompare o = IsTrue (compares o)
+
+-- it is asked to compare two machines of files
+abbrev pub AskToCheck : Option Asked → Type 0
+AskToCheck o = IsTrue (is_check o)
+
+-- it is asked to generate two machines and to compare them
+abbrev pub AskToGenerate : Option Asked → Type 0
+AskToGenerate o = IsTrue (is_generate o)
 
 -- it is asked to check a certificate
 abbrev pub AskToVerify : Option Asked → Type 0

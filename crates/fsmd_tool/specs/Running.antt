@@ -4,11 +4,12 @@ use Rattle.fsmd_words.specs.AskedWords.{asked_of}
 use Rattle.fs_base.specs.Outside.{FilesTold, SinkTold, Unknown, NoneFell}
 use Rattle.fsmd_replies.specs.declared.answer.Status.{Status}
 use Rattle.fsmd_replies.specs.declared.answer.Status.TheVariants.{Fine, Differ, Undecided, NoMemory, Fault}
-use Rattle.fsmd_tool.specs.Asking.{AskToCompare, AskToVerify, AskToCompile, AskToSchedule, AskToBind, AskToShrink, AskToChain}
+use Rattle.fsmd_tool.specs.Asking.{AskToCheck, AskToGenerate, AskToCompare, AskToVerify, AskToCompile, AskToSchedule, AskToBind}
+use Rattle.fsmd_tool.specs.Asking.{AskToShrink, AskToChain}
 use Rattle.fsmd_tool.specs.Calls.{Call, LoadsNamed}
 use Rattle.fsmd_tool.specs.SinkReplies.{Put, put_between}
 use Rattle.fsmd_tool.specs.Correct.{Outcome}
-use Rattle.fsmd_tool.specs.Equivalent.{AreEquivalent}
+use Rattle.fsmd_tool.specs.Equivalent.{AreEquivalent, AreGeneratedEquivalent, AreVerified, AreChained}
 use Rattle.fsmd_tool.specs.AlikeCalls.{AnswersPair, TellsOfAlike}
 use Rattle.fsmd_tool.specs.Clauses.{SaysSame, SaysDiffer, SaysUndecided, IsChecked, IsCompiled, IsInRows, IsInRegisters}
 use Rattle.fsmd_tool.specs.Clauses.{KeepsFiles, HasCause, IsShrunk, IsChained}
@@ -16,7 +17,10 @@ use Rattle.fsmd_tool.specs.Clauses.{KeepsFiles, HasCause, IsShrunk, IsChained}
 -- all that `drive` promises of a call
 pub record IsDriven (g : Call) (p : Put) : Type 0 where
   pub outcome : Outcome g p
-  pub same_behaviour : p.status ≡ Fine → AskToCompare g.asked → AreEquivalent g p
+  pub same_behaviour : p.status ≡ Fine → AskToCheck g.asked → AreEquivalent g p
+  pub generated_same : p.status ≡ Fine → AskToGenerate g.asked → AreGeneratedEquivalent g p
+  pub verified_same : p.status ≡ Fine → AskToVerify g.asked → AreVerified g p
+  pub chained_same : p.status ≡ Fine → AskToChain g.asked → AreChained g p
   pub equivalent : p.status ≡ Fine → AskToCompare g.asked → SaysSame g p
   pub differ : p.status ≡ Differ → AskToCompare g.asked → SaysDiffer g p
   pub undecided : p.status ≡ Undecided → AskToCompare g.asked → SaysUndecided g p
