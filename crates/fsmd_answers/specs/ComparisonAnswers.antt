@@ -7,7 +7,7 @@ use Rattle.fs_generated.specs.Generated.{left_source, right_source}
 use Rattle.cert_bisimulation.specs.Tables.{Node}
 use Rattle.sym_facts.specs.Facts.{Fact}
 use Rattle.cert_writer.specs.WrittenCertificates.{certificate_text}
-use Rattle.fsmd_replies.specs.SearchTables.{machines}
+use Rattle.search_tables.specs.SearchTables.{machines}
 use Rattle.fsmd_pair_answers.specs.PairAnswers.{ShowsSame, IsCounterexample, IsUndecided}
 use Rattle.fsmd_replies.specs.declared.answer.Answer.{Answer}
 use Rattle.fsmd_replies.specs.declared.answer.Answer.TheVariants.{Equivalent, Differs, Undecided}

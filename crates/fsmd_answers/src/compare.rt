@@ -6,6 +6,9 @@ ghost use Rattle.fs_pair.specs.Positions.{positions};
 ghost use Rattle.cert_model.specs.Lawful.{IsLawful};
 ghost use Rattle.cert_model.specs.View.{node_of};
 ghost use Rattle.cert_writer.specs.WrittenCertificates.{certificate_text};
+ghost use Rattle.fsmd_replies.specs.ObstacleTexts.{outcome_text};
+ghost use Rattle.search_tables.specs.SearchTables.{machines};
+ghost use Rattle.fsmd_replies.specs.declared.answer.Answer.TheVariants.{Undecided};
 ghost use Rattle.fsmd_answers.specs.ComparisonAnswers.{AreSame, IsOfPair, text_to_store};
 
 use crate::pair::Pair;
@@ -14,6 +17,8 @@ use cert_writer::writer::write_cert;
 use fsmd_pair_answers::answer::PairAnswer;
 use fsmd_pair_answers::compare::compare_machines;
 use fsmd_replies::answer::{Answer, Lines};
+use fsmd_replies::obstacles::obstacle_line;
+use search_tables::outcome::Outcome;
 use std::alloc::{AllocError, Global};
 
 // The text of a certificate, where it is to be stored.
@@ -53,6 +58,19 @@ fn equivalent_answer(
     Ok(Answer::Equivalent { nodes, cert })
 }
 
+// The answer to two machines that are left undecided: the line of the obstacle of their search.
+fn undecided_answer(alloc: Global, pair: &Pair, outcome: &Outcome) -> Result<Answer, AllocError>
+    ensures { IfOk result
+        (λ answer. answer ≡ Undecided (outcome_text (machines pair.now.left pair.now.right) outcome.now)) }
+{
+    match obstacle_line(alloc, &pair.left, &pair.right, outcome) {
+        Ok(line) => Ok(Answer::Undecided {
+            lines: Lines::of(line),
+        }),
+        Err(_) => Err(AllocError),
+    }
+}
+
 /// What is answered of two machines with the same inputs and outputs: by a certificate that holds, and where none is found, by
 /// runs of at most so many steps from candidate inputs. The text of the certificate comes with the answer where `keeps` says so.
 /// The one refusal is out of memory.
@@ -67,9 +85,7 @@ pub fn compare(alloc: Global, pair: &Pair, steps: u64, keeps: bool) -> Result<An
         Ok(PairAnswer::Counterexample { lines }) => Ok(Answer::Differs {
             lines: Lines::of(lines),
         }),
-        Ok(PairAnswer::Undecided { lines }) => Ok(Answer::Undecided {
-            lines: Lines::of(lines),
-        }),
+        Ok(PairAnswer::Undecided { outcome }) => undecided_answer(alloc, pair, &outcome),
         Err(_) => Err(AllocError),
     }
 }

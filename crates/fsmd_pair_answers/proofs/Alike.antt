@@ -11,14 +11,17 @@ use Rattle.cert_bisimulation.proofs.Twins.{alike_behave_alike}
 use Rattle.sym_facts.specs.Facts.{Fact}
 use Rattle.cert_model.specs.View.{node_of}
 use Rattle.search_tables.specs.declared.moves.Move.{Move}
+use Rattle.search_tables.specs.declared.outcome.Outcome.{Outcome}
+use Rattle.search_tables.specs.declared.outcome.Outcome.TheVariants as outcomes
 use Rattle.search_tables.specs.Obstacles.{Obstacle, Stuck, Spin, Wide, Large, Exhausted}
-use Rattle.search_tables.specs.View.{Points}
+use Rattle.search_tables.specs.View.{Points, points_in}
 use Rattle.search_tables.specs.SearchTables.{machines}
-use Rattle.search_laws.specs.SearchOutcomes.{IsClosedWith, StopsAtObstacle}
+use Rattle.search_laws.specs.SearchOutcomes.{IsClosedWith, StopsAtObstacle, ClosesOrMeetsLimit}
 use Rattle.search_laws.proofs.Alike.{not_stuck, not_spinning}
 use Rattle.fsmd_pair_answers.specs.declared.answer.PairAnswer.{PairAnswer}
 use Rattle.fsmd_pair_answers.specs.declared.answer.PairAnswer.TheVariants.{Equivalent, Counterexample, Undecided}
-use Rattle.fsmd_pair_answers.specs.PairAnswers.{IsCounterexample, HasObstacle, is_open_obstacle, IsLeftOpen, HasLimit, ShowsSame, IsPairAnswer, IsClosedOrLimit}
+use Rattle.fsmd_pair_answers.specs.PairAnswers.{IsCounterexample, HasObstacle, is_open_obstacle, IsLeftOpen, HasLimit, ShowsSame}
+use Rattle.fsmd_pair_answers.specs.PairAnswers.{StopsWith, IsPairAnswer, IsClosedOrLimit}
 use Rattle.fsmd_pair_answers.specs.PairAnswerLaws.{AlikeAreAnswered}
 use Rattle.fsmd_pair_answers.proofs.Behaviour.{same_show_nothing}
 
@@ -43,13 +46,23 @@ module _ (a b : Fsmd) (K : List (Point × Point)) (alike : Alike a b K) where
   pub has_limit : (lines : List ℕ) → HasObstacle (machines a b) lines → HasLimit (machines a b) lines
   has_limit lines h = record { obstacle = h; is_limit = limit_is h.moves h.points h.obstacle h.stops }
 
+  meets_limit : (o : Outcome) → StopsWith (machines a b) o → ClosesOrMeetsLimit o
+  meets_limit (outcomes.Closed cert) h = tt
+  meets_limit (outcomes.Stuck moves points node output) h =
+      not_stuck (machines a b) K alike moves.items (map points_in points.items) node output h
+  meets_limit (outcomes.Spin moves points d cycle) h =
+      not_spinning (machines a b) K alike moves.items (map points_in points.items) d cycle.items h
+  meets_limit (outcomes.Wide moves points at) h = tt
+  meets_limit (outcomes.Large moves points at) h = tt
+  meets_limit (outcomes.Exhausted moves points at what) h = tt
+
   pub no_counterexample : (limit : ℕ) (lines : List ℕ) → IsCounterexample limit a b lines → ⊥
   no_counterexample limit lines h = same_show_nothing limit a b h.number (alike_behave_alike a b h.left_sound h.right_sound K alike) h.shows
 
 pub alike_are_answered : AlikeAreAnswered
 alike_are_answered limit a b (Equivalent cert) h K alike = closes_where_same a b K alike (map node_of cert.nodes.items) h
 alike_are_answered limit a b (Counterexample lines) h K alike = no_counterexample a b K alike limit lines.items h
-alike_are_answered limit a b (Undecided lines) h K alike = has_limit a b K alike lines.items h.obstacle
+alike_are_answered limit a b (Undecided outcome) h K alike = (h.stops, meets_limit a b K alike outcome h.stops)
 
 pub answered_where_alike : {E : Type 0} (limit : ℕ) (a b : Fsmd) (r : Result PairAnswer E) → IfOk r (IsPairAnswer limit a b)
     → IfOk r (λ x. WhereAlike a b (IsClosedOrLimit (machines a b) x))

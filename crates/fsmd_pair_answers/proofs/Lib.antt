@@ -5,3 +5,4 @@ pub mod Named
 pub mod Once
 pub mod Ranks
 mod Shown
+pub mod Stopped

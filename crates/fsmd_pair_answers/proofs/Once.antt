@@ -10,6 +10,7 @@ use Rattle.sym_facts.specs.Facts.{Fact}
 use Rattle.cert_model.specs.View.{node_of}
 use Rattle.cert_model.proofs.AllHold.{same_where_yes}
 use Rattle.search_tables.specs.declared.moves.Move.{Move}
+use Rattle.search_tables.specs.declared.outcome.Outcome.{Outcome}
 use Rattle.search_tables.specs.SearchTables.{MachinePair, Table, first_table, WideEvent, LargeEvent, machines}
 use Rattle.search_tables.specs.Next.{Next, Nothing, Change, Stop, Excess, next_move, IsClosed}
 use Rattle.search_tables.specs.Legal.{Difference, difference_in}
@@ -22,10 +23,12 @@ use Rattle.search_tables.proofs.Ending.{Ends, stands_ends, same_moves, no_certif
 use Rattle.search_tables.proofs.OneSpin.{one_spin}
 use Rattle.search_laws.specs.SearchOutcomes.{IsClosedWith, StopsAtObstacle}
 use Rattle.fsmd_pair_answers.specs.declared.answer.PairAnswer.TheVariants.{Equivalent, Counterexample, Undecided}
-use Rattle.fsmd_replies.specs.ObstacleTexts.{obstacle_text, undecided_at, cycle_text, node_points_text, text_of_lookup}
-use Rattle.fsmd_pair_answers.specs.PairAnswers.{IsCounterexample, HasObstacle, is_open_obstacle, IsLeftOpen, IsFoundBeyond, ShowsSame, IsUndecided}
+use Rattle.fsmd_replies.specs.ObstacleTexts.{obstacle_text, outcome_text, undecided_at, cycle_text, node_points_text, text_of_lookup}
+use Rattle.fsmd_pair_answers.specs.PairAnswers.{IsCounterexample, NoneDiffers, HasObstacle, is_open_obstacle, IsLeftOpen, IsFoundBeyond}
+use Rattle.fsmd_pair_answers.specs.PairAnswers.{ShowsSame, StopsWith, IsUndecided}
 use Rattle.fsmd_pair_answers.specs.PairAnswerLaws.{OnePairAnswer, ClosedIsNotOpen, LimitIsNotOpen}
 use Rattle.fsmd_pair_answers.proofs.Ranks.{one_certificate}
+use Rattle.fsmd_pair_answers.proofs.Stopped.{has_obstacle}
 use Rattle.fsmd_pair_answers.proofs.Behaviour.{same_show_nothing, one_counterexample}
 
 -- ---- tables in which a search ends
@@ -159,16 +162,25 @@ not_apart : (limit : ℕ) (a b : Fsmd) → IsSound a → IsSound b → interface
     → IsCounterexample limit a b l → ⊥
 not_apart limit a b s t none cs l x y = same_show_nothing limit a b y.number (same_where_yes a b s t none cs x.certificate.lawful x.certificate.hold) y.shows
 
+some_differs : (limit : ℕ) (a b : Fsmd) (l : List ℕ) → IsCounterexample limit a b l → NoneDiffers limit a b → ⊥
+some_differs limit a b l x y = y.none x.number x.among x.shows
+
 pub not_open : (limit : ℕ) (a b : Fsmd) (l k : List ℕ) → IsCounterexample limit a b l → IsUndecided limit a b k → ⊥
-not_open limit a b l k x y = y.none_differ.none x.number x.among x.shows
+not_open limit a b l k x y = some_differs limit a b l x y.none_differ
+
+line_of : (m : MachinePair) (o : Outcome) → StopsWith m o → HasObstacle m (outcome_text m o)
+line_of m o h = has_obstacle m o (outcome_text m o) h refl
 
 pub one_answer : OnePairAnswer
 one_answer limit a b s t none (Equivalent c) (Equivalent d) p q = one_or_beyond (machines a b) (map node_of c.nodes.items) (map node_of d.nodes.items) p q
 one_answer limit a b s t none (Equivalent c) (Counterexample k) p q = not_apart limit a b s t none (map node_of c.nodes.items) k.items p q
-one_answer limit a b s t none (Equivalent c) (Undecided k) p q = only_beyond (machines a b) (map node_of c.nodes.items) k.items p q.obstacle
+one_answer limit a b s t none (Equivalent c) (Undecided o) p q =
+    only_beyond (machines a b) (map node_of c.nodes.items) (outcome_text (machines a b) o) p (line_of (machines a b) o q.stops)
 one_answer limit a b s t none (Counterexample l) (Equivalent d) p q = not_apart limit a b s t none (map node_of d.nodes.items) l.items q p
 one_answer limit a b s t none (Counterexample l) (Counterexample k) p q = one_counterexample limit a b l.items k.items p q
-one_answer limit a b s t none (Counterexample l) (Undecided k) p q = not_open limit a b l.items k.items p q
-one_answer limit a b s t none (Undecided l) (Equivalent d) p q = only_beyond (machines a b) (map node_of d.nodes.items) l.items q p.obstacle
-one_answer limit a b s t none (Undecided l) (Counterexample k) p q = not_open limit a b k.items l.items q p
-one_answer limit a b s t none (Undecided l) (Undecided k) p q = one_line (machines a b) l.items k.items p.obstacle q.obstacle
+one_answer limit a b s t none (Counterexample l) (Undecided o) p q = some_differs limit a b l.items p q.none_differ
+one_answer limit a b s t none (Undecided o) (Equivalent d) p q =
+    only_beyond (machines a b) (map node_of d.nodes.items) (outcome_text (machines a b) o) q (line_of (machines a b) o p.stops)
+one_answer limit a b s t none (Undecided o) (Counterexample k) p q = some_differs limit a b k.items q p.none_differ
+one_answer limit a b s t none (Undecided o) (Undecided v) p q = one_line (machines a b) (outcome_text (machines a b) o) (outcome_text (machines a b) v)
+    (line_of (machines a b) o p.stops) (line_of (machines a b) v q.stops)

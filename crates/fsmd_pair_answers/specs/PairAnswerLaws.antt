@@ -17,6 +17,7 @@ use Rattle.search_tables.specs.Obstacles.{Obstacle, Stuck, Spin, Wide, Large, Ex
 use Rattle.search_tables.specs.View.{Points}
 use Rattle.cert_bisimulation.specs.Alike.{WhereAlike}
 use Rattle.search_laws.specs.SearchOutcomes.{IsClosedWith, StopsAtObstacle}
+use Rattle.fsmd_replies.specs.ObstacleTexts.{outcome_text}
 use Rattle.fsmd_pair_answers.specs.declared.answer.PairAnswer.{PairAnswer}
 use Rattle.fsmd_pair_answers.specs.declared.answer.PairAnswer.TheVariants.{Equivalent, Counterexample, Undecided}
 use Rattle.fsmd_pair_answers.specs.PairAnswers.{is_open_obstacle, IsLeftOpen, IsFoundBeyond, IsPairAnswer, IsClosedOrLimit}
@@ -27,13 +28,13 @@ abbrev pub SayPairSame : MachinePair → PairAnswer → PairAnswer → Type 0
 SayPairSame m (Equivalent c) (Equivalent d) = (map node_of c.nodes.items ≡ map node_of d.nodes.items)
     ⊎ (IsFoundBeyond m (map node_of c.nodes.items) × IsFoundBeyond m (map node_of d.nodes.items))
 SayPairSame m (Equivalent c) (Counterexample k) = ⊥
-SayPairSame m (Equivalent c) (Undecided k) = IsFoundBeyond m (map node_of c.nodes.items)
+SayPairSame m (Equivalent c) (Undecided p) = IsFoundBeyond m (map node_of c.nodes.items)
 SayPairSame m (Counterexample l) (Equivalent d) = ⊥
 SayPairSame m (Counterexample l) (Counterexample k) = l.items ≡ k.items
-SayPairSame m (Counterexample l) (Undecided k) = ⊥
-SayPairSame m (Undecided l) (Equivalent d) = IsFoundBeyond m (map node_of d.nodes.items)
-SayPairSame m (Undecided l) (Counterexample k) = ⊥
-SayPairSame m (Undecided l) (Undecided k) = l.items ≡ k.items
+SayPairSame m (Counterexample l) (Undecided p) = ⊥
+SayPairSame m (Undecided o) (Equivalent d) = IsFoundBeyond m (map node_of d.nodes.items)
+SayPairSame m (Undecided o) (Counterexample k) = ⊥
+SayPairSame m (Undecided o) (Undecided p) = outcome_text m o ≡ outcome_text m p
 
 abbrev pub OnePairAnswer : Type 0
 OnePairAnswer = (limit : ℕ) (a b : Fsmd) → IsSound a → IsSound b → interface_fault a b ≡ None → (x y : PairAnswer)

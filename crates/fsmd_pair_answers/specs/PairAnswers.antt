@@ -11,14 +11,14 @@ use Rattle.cert_bisimulation.specs.Tables.{Node}
 use Rattle.sym_facts.specs.Facts.{Fact}
 use Rattle.cert_model.specs.View.{node_of}
 use Rattle.search_tables.specs.declared.moves.Move.{Move}
+use Rattle.search_tables.specs.declared.outcome.Outcome.{Outcome}
+use Rattle.search_tables.specs.declared.outcome.Outcome.TheVariants as outcomes
 use Rattle.search_tables.specs.SearchTables.{MachinePair, machines}
 use Rattle.search_tables.specs.Obstacles.{Obstacle, Stuck, Spin, Wide, Large, Exhausted}
-use Rattle.search_tables.specs.View.{Points}
-use Rattle.search_laws.specs.SearchOutcomes.{IsClosedWith, StopsAtObstacle}
+use Rattle.search_tables.specs.View.{Points, points_in}
+use Rattle.search_laws.specs.SearchOutcomes.{IsClosedWith, StopsAtObstacle, ClosesOrMeetsLimit}
 use Rattle.search_laws.specs.Certificates.{IsCertificate}
 use Rattle.fsmd_replies.specs.ObstacleTexts.{obstacle_text}
-use Rattle.fsmd_pair_answers.specs.declared.obstacles.Found.{Found}
-use Rattle.fsmd_pair_answers.specs.declared.obstacles.Found.TheVariants.{Certificate, Open, Limit}
 use Rattle.fsmd_pair_answers.specs.declared.answer.PairAnswer.{PairAnswer}
 use Rattle.fsmd_pair_answers.specs.declared.answer.PairAnswer.TheVariants.{Equivalent, Counterexample, Undecided}
 
@@ -79,31 +79,42 @@ pub record ShowsSame (m : MachinePair) (nodes : List (Node Fact)) : Type 0 where
   pub certificate : IsCertificate m nodes
   pub found : IsClosedWith m nodes ⊎ IsLeftOpen m
 
--- what the search finds
-abbrev pub IsFound : MachinePair → Found → Type 0
-IsFound m (Certificate cert) = IsClosedWith m (map node_of cert.nodes.items)
-IsFound m (Open line) = IsLeftOpen m × HasObstacle m line.items
-IsFound m (Limit line) = HasObstacle m line.items
+-- the search of two machines stops with this outcome, at an obstacle
+abbrev pub StopsWith : MachinePair → Outcome → Type 0
+StopsWith m (outcomes.Closed cert) = ⊥
+StopsWith m (outcomes.Stuck moves points node output) =
+    StopsAtObstacle m moves.items (map points_in points.items) (Stuck node output)
+StopsWith m (outcomes.Spin moves points side cycle) =
+    StopsAtObstacle m moves.items (map points_in points.items) (Spin side cycle.items)
+StopsWith m (outcomes.Wide moves points at) = StopsAtObstacle m moves.items (map points_in points.items) (Wide at)
+StopsWith m (outcomes.Large moves points at) = StopsAtObstacle m moves.items (map points_in points.items) (Large at)
+StopsWith m (outcomes.Exhausted moves points at what) =
+    StopsAtObstacle m moves.items (map points_in points.items) (Exhausted at what)
 
 -- no stated candidate shows a difference, and the lines name what keeps the machines from being shown the same
 pub record IsUndecided (limit : ℕ) (a b : Fsmd) (lines : List ℕ) : Type 0 where
   pub none_differ : NoneDiffers limit a b
   pub obstacle : HasObstacle (machines a b) lines
 
+-- no stated candidate shows a difference, and the search of the machines stops with this outcome
+pub record IsUndecidedWith (limit : ℕ) (a b : Fsmd) (outcome : Outcome) : Type 0 where
+  pub none_differ : NoneDiffers limit a b
+  pub stops : StopsWith (machines a b) outcome
+
 -- the answer to two machines with the same inputs and outputs, of runs of at most so many steps
 abbrev pub IsPairAnswer : (limit : ℕ) → Fsmd → Fsmd → PairAnswer → Type 0
 IsPairAnswer limit a b (Equivalent cert) = ShowsSame (machines a b) (map node_of cert.nodes.items)
 IsPairAnswer limit a b (Counterexample lines) = IsCounterexample limit a b lines.items
-IsPairAnswer limit a b (Undecided lines) = IsUndecided limit a b lines.items
+IsPairAnswer limit a b (Undecided outcome) = IsUndecidedWith limit a b outcome
 
 -- P holds where the answer is a certificate
 abbrev pub IfEquivalent : Type 0 → PairAnswer → Type 0
 IfEquivalent P (Equivalent cert) = P
 IfEquivalent P (Counterexample lines) = Unit {0}
-IfEquivalent P (Undecided lines) = Unit {0}
+IfEquivalent P (Undecided outcome) = Unit {0}
 
--- the answer is that of a search that closes, or that a limit stops: the certificate, or the line of the limit
+-- the answer is that of a search that closes, or that a limit stops: the certificate, or the outcome
 abbrev pub IsClosedOrLimit : MachinePair → PairAnswer → Type 0
 IsClosedOrLimit m (Equivalent cert) = IsClosedWith m (map node_of cert.nodes.items)
 IsClosedOrLimit m (Counterexample lines) = ⊥
-IsClosedOrLimit m (Undecided lines) = HasLimit m lines.items
+IsClosedOrLimit m (Undecided outcome) = StopsWith m outcome × ClosesOrMeetsLimit outcome

@@ -1,6 +1,7 @@
 //! What two machines get.
 
 use cert_model::cert::Cert;
+use search_tables::outcome::Outcome;
 
 /// What two machines with the same inputs and outputs get.
 #[derive(Drop)]
@@ -9,6 +10,6 @@ pub enum PairAnswer {
     Equivalent { cert: Cert },
     /// Lines of inputs from which two runs ended with other outputs.
     Counterexample { lines: Vec<u8> },
-    /// The line of an obstacle.
-    Undecided { lines: Vec<u8> },
+    /// Neither is found: how their search stopped.
+    Undecided { outcome: Outcome },
 }

@@ -60,7 +60,7 @@ const FIRST_CANDIDATES: u64 = 256;
 
 const FIRST_STEPS: u64 = 1_000;
 
-/// Whether one of the first 32 stated candidates shows a difference within 1,000 steps, and within so many. The one refusal is
+/// Whether one of the first 256 stated candidates shows a difference within 1,000 steps, and within so many. The one refusal is
 /// out of memory.
 pub fn differ_soon(
     alloc: Global,

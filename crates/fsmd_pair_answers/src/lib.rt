@@ -18,6 +18,5 @@ mod candidates;
 pub mod compare;
 pub mod judge;
 pub mod laws;
-mod obstacles;
 
 pub use search_laws::{run, searching};

@@ -1,5 +1,5 @@
 -- The lines that name obstacles.
-use Rattle.std.specs.Prelude.{ℕ, ◌-◌, List, [], ◌++◌, length, Option, Some, None, option_map, unwrap_or, slice_get, codes}
+use Rattle.std.specs.Prelude.{ℕ, ◌-◌, List, [], ◌++◌, length, map, Option, Some, None, option_map, unwrap_or, slice_get, codes}
 use Rattle.fs_model.specs.Machines.{Fsmd}
 use Rattle.fs_cut.specs.Paths.{Point}
 use Rattle.fs_cut.specs.Covers.{paths_from, cover_of}
@@ -9,8 +9,10 @@ use Rattle.fs_cut.specs.PathTexts.{point_text, named_path}
 use Rattle.search_tables.specs.declared.moves.Move.{Move}
 use Rattle.search_tables.specs.declared.outcome.Budget.{Budget}
 use Rattle.search_tables.specs.declared.outcome.Budget.TheVariants as budget
+use Rattle.search_tables.specs.declared.outcome.Outcome.{Outcome}
+use Rattle.search_tables.specs.declared.outcome.Outcome.TheVariants as outcomes
 use Rattle.search_tables.specs.SearchTables.{MachinePair}
-use Rattle.search_tables.specs.View.{Points}
+use Rattle.search_tables.specs.View.{Points, points_in}
 use Rattle.search_tables.specs.Obstacles.{Obstacle, Stuck, Spin, Wide, Large, Exhausted}
 
 -- the text of what is looked up; nothing where it is not there
@@ -72,3 +74,15 @@ obstacle_text m moves points (Spin d cycle) = undecided_at (cycle_text d) (first
 obstacle_text m moves points (Wide at) = undecided_at (codes "coefficient past 128 bits") (move_text m points at)
 obstacle_text m moves points (Large at) = undecided_at (codes "term too large") (move_text m points at)
 obstacle_text m moves points (Exhausted at what) = undecided_over what
+
+-- the line of the obstacle at which a search stops; a search that closes has none
+abbrev pub outcome_text : MachinePair → Outcome → List ℕ
+outcome_text m (outcomes.Closed cert) = []
+outcome_text m (outcomes.Stuck moves points node output) =
+    obstacle_text m moves.items (map points_in points.items) (Stuck node output)
+outcome_text m (outcomes.Spin moves points side cycle) =
+    obstacle_text m moves.items (map points_in points.items) (Spin side cycle.items)
+outcome_text m (outcomes.Wide moves points at) = obstacle_text m moves.items (map points_in points.items) (Wide at)
+outcome_text m (outcomes.Large moves points at) = obstacle_text m moves.items (map points_in points.items) (Large at)
+outcome_text m (outcomes.Exhausted moves points at what) =
+    obstacle_text m moves.items (map points_in points.items) (Exhausted at what)

@@ -1,17 +1,17 @@
 //! The lines of obstacles.
 
-ghost use Rattle.std.specs.Prelude.{◌≡◌, map, IfOk, codes};
+ghost use Rattle.std.specs.Prelude.{◌≡◌, map, IfOk};
 ghost use Rattle.search_tables.specs.View.{points_in};
 ghost use Rattle.search_tables.specs.SearchTables.{machines};
 ghost use Rattle.fsmd_replies.specs.ObstacleTexts.{undecided_at, undecided_over, cycle_text, output_text, last_move_text};
-ghost use Rattle.fsmd_replies.specs.ObstacleTexts.{first_node_text, move_text};
+ghost use Rattle.fsmd_replies.specs.ObstacleTexts.{first_node_text, move_text, outcome_text};
 
 use crate::texts::{first_node_text, last_move_text, move_text, output_text};
 use fs_ast::machine::Machine;
 use nf_terms::stop::NoMemory;
 use nf_terms::tree::Side;
 use search_tables::moves::Move;
-use search_tables::outcome::Budget;
+use search_tables::outcome::{Budget, Outcome};
 use search_tables::pairs::PointPair;
 use std::alloc::Global;
 
@@ -36,8 +36,8 @@ fn cycle_text(side: Side) -> &'static [u8]
     }
 }
 
-/// The line of a budget that is used up. The one refusal is out of memory.
-pub fn line_over(alloc: Global, budget: Budget) -> Result<Vec<u8>, NoMemory>
+// The line of a budget that is used up.
+fn line_over(alloc: Global, budget: Budget) -> Result<Vec<u8>, NoMemory>
     ensures { IfOk result (λ line. line.items ≡ undecided_over budget) }
 {
     let line = match budget {
@@ -47,8 +47,8 @@ pub fn line_over(alloc: Global, budget: Budget) -> Result<Vec<u8>, NoMemory>
     Ok(line.to_vec(alloc)?)
 }
 
-/// The line of outputs that differ, after the moves that made the table. The one refusal is out of memory.
-pub fn stuck_line(
+// The line of outputs that differ, after the moves that made the table.
+fn stuck_line(
     alloc: Global,
     a: &Machine,
     b: &Machine,
@@ -65,8 +65,8 @@ pub fn stuck_line(
     line_at(alloc, what.as_slice(), place.as_slice())
 }
 
-/// The line of a cycle in which one machine moves alone. The one refusal is out of memory.
-pub fn spin_line(
+// The line of a cycle in which one machine moves alone.
+fn spin_line(
     alloc: Global,
     a: &Machine,
     b: &Machine,
@@ -98,32 +98,43 @@ fn operation_line(
     line_at(alloc, what, place.as_slice())
 }
 
-/// The line of a move of which an operation is not narrow. The one refusal is out of memory.
-pub fn wide_line(
+/// The line of the obstacle at which a search of two machines stops, and nothing of one that closes. The one refusal is out of
+/// memory.
+pub fn obstacle_line(
     alloc: Global,
     a: &Machine,
     b: &Machine,
-    points: &[PointPair],
-    at: Move,
+    outcome: &Outcome,
 ) -> Result<Vec<u8>, NoMemory>
-    ensures { IfOk result
-        (λ line. line.items ≡ undecided_at (codes "coefficient past 128 bits")
-        (move_text (machines a.now b.now) (map points_in points.now) at)) }
+    ensures { IfOk result (λ line. line.items ≡ outcome_text (machines a.now b.now) outcome.now) }
 {
-    operation_line(alloc, a, b, b"coefficient past 128 bits", points, at)
-}
-
-/// The line of a move of which an operation is narrow and not small. The one refusal is out of memory.
-pub fn large_line(
-    alloc: Global,
-    a: &Machine,
-    b: &Machine,
-    points: &[PointPair],
-    at: Move,
-) -> Result<Vec<u8>, NoMemory>
-    ensures { IfOk result
-        (λ line. line.items ≡ undecided_at (codes "term too large")
-        (move_text (machines a.now b.now) (map points_in points.now) at)) }
-{
-    operation_line(alloc, a, b, b"term too large", points, at)
+    match outcome {
+        Outcome::Closed(_) => Ok(Vec::new(alloc)),
+        Outcome::Stuck {
+            moves,
+            points,
+            var,
+            ..
+        } => stuck_line(alloc, a, b, moves.as_slice(), points.as_slice(), *var),
+        Outcome::Spin {
+            points,
+            side,
+            cycle,
+            ..
+        } => spin_line(alloc, a, b, points.as_slice(), *side, cycle.as_slice()),
+        Outcome::Wide { points, at, .. } => {
+            operation_line(
+                alloc,
+                a,
+                b,
+                b"coefficient past 128 bits",
+                points.as_slice(),
+                *at,
+            )
+        }
+        Outcome::Large { points, at, .. } => {
+            operation_line(alloc, a, b, b"term too large", points.as_slice(), *at)
+        }
+        Outcome::Exhausted { what, .. } => line_over(alloc, *what),
+    }
 }

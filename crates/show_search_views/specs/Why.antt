@@ -12,6 +12,7 @@ use Rattle.fsmd_pair_answers.specs.declared.answer.PairAnswer.TheVariants.{Equiv
 use Rattle.fsmd_pair_answers.specs.PairAnswers.{IsPairAnswer}
 use Rattle.fsmd_replies.specs.declared.answer.Answer.{Answer}
 use Rattle.fsmd_replies.specs.declared.answer.Answer.TheVariants as answers
+use Rattle.fsmd_replies.specs.ObstacleTexts.{outcome_text}
 use Rattle.fsmd_replies.specs.Replies.{equivalent_text}
 use Rattle.show_move_lines.specs.MoveLines.{history_text}
 use Rattle.show_certificate_lines.specs.CertificateLines.{certificate_lines}
@@ -40,7 +41,7 @@ heading_of false = codes "the search finds a certificate:\n"
 abbrev pub found_lines : (found_beyond : Bool) → MachinePair → PairAnswer → List ℕ
 found_lines beyond m (Equivalent cert) = certificate_lines (heading_of beyond) m (map node_of cert.nodes.items)
 found_lines beyond m (Counterexample lines) = []
-found_lines beyond m (Undecided lines) = []
+found_lines beyond m (Undecided outcome) = []
 
 -- what leads to an answer, by the outcome of the search: its history, and the certificate
 abbrev pub why_lines : MachinePair → Outcome → PairAnswer → List ℕ
@@ -55,7 +56,7 @@ pub record IsExplanation (limit : ℕ) (a b : Fsmd) (e : Explanation) : Type 0 w
   pub told : e.lines.items ≡ why_lines (machines a b) outcome e.answer
 
 -- the answer of two machines behind the lines of what led to it
-abbrev pub answer_behind : (lines : List ℕ) → PairAnswer → Answer
-answer_behind lines (Equivalent cert) = answers.Text (lines ++ equivalent_text (length cert.nodes.items))
-answer_behind lines (Counterexample more) = answers.Differs (lines ++ more.items)
-answer_behind lines (Undecided more) = answers.Undecided (lines ++ more.items)
+abbrev pub answer_behind : MachinePair → (lines : List ℕ) → PairAnswer → Answer
+answer_behind m lines (Equivalent cert) = answers.Text (lines ++ equivalent_text (length cert.nodes.items))
+answer_behind m lines (Counterexample more) = answers.Differs (lines ++ more.items)
+answer_behind m lines (Undecided outcome) = answers.Undecided (lines ++ outcome_text m outcome)

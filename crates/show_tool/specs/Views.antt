@@ -3,7 +3,7 @@ use Rattle.std.specs.Prelude.{◌≡◌, ℕ, false, List, ◌++◌}
 use Rattle.fs_model.specs.Machines.{Fsmd}
 use Rattle.cert_bisimulation.specs.Tables.{Node}
 use Rattle.sym_facts.specs.Facts.{Fact}
-use Rattle.fsmd_replies.specs.SearchTables.{machines}
+use Rattle.search_tables.specs.SearchTables.{machines}
 use Rattle.show_machine_pictures.specs.Pictures.{picture_of}
 use Rattle.show_search_views.specs.declared.why.Explanation.{Explanation}
 use Rattle.show_search_views.specs.Why.{IsExplanation, answer_behind}
@@ -30,7 +30,7 @@ IsOfPicture a b answer = HasLines (IsPicture (machines a b)) Text answer
 pub record IsOfWhy (limit : ℕ) (a b : Fsmd) (answer : Answer) : Type 0 where
   pub why : Explanation
   pub is : IsExplanation limit a b why
-  pub told : answer ≡ answer_behind why.lines.items why.answer
+  pub told : answer ≡ answer_behind (machines a b) why.lines.items why.answer
 
 -- a file of inputs that show a difference, with the status of `check`; or what `check` answers
 pub data IsOfInputs (limit : ℕ) (a b : Fsmd) (answer : Answer) : Type 0 where

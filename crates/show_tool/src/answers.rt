@@ -6,7 +6,9 @@ ghost use Rattle.fs_pair.specs.Positions.{positions};
 ghost use Rattle.cert_model.specs.Lawful.{IsLawful};
 ghost use Rattle.cert_model.specs.View.{node_of};
 ghost use Rattle.fsmd_answers.specs.ComparisonAnswers.{IsOfPair};
-ghost use Rattle.fsmd_replies.specs.declared.answer.Answer.TheVariants.{Differs};
+ghost use Rattle.search_tables.specs.SearchTables.{machines};
+ghost use Rattle.fsmd_replies.specs.ObstacleTexts.{outcome_text};
+ghost use Rattle.fsmd_replies.specs.declared.answer.Answer.TheVariants.{Differs, Undecided};
 ghost use Rattle.show_search_views.specs.Why.{answer_behind};
 ghost use Rattle.show_tool.specs.Views.{verdict_behind, IsOfPicture, IsOfWhy, IsOfInputs, IsOfCertificate};
 
@@ -17,7 +19,9 @@ use fsmd_answers::compare::compare;
 use fsmd_answers::judge::judge;
 use fsmd_answers::pair::Pair;
 use fsmd_replies::answer::{Answer, Lines};
+use fsmd_replies::obstacles::obstacle_line;
 use fsmd_replies::reply::equivalent_text;
+use search_tables::outcome::Outcome;
 use show_inputs_text::differing::differing_inputs;
 use show_search_views::obligations::obligation_lines;
 use show_search_views::pictures::search_picture;
@@ -35,9 +39,33 @@ fn join_lines(mut lines: Vec<u8>, more: &[u8]) -> Result<Lines, AllocError>
     Ok(Lines::of(lines))
 }
 
+// The answer to two machines that are left undecided, behind the lines of what led to it.
+fn undecided_behind(
+    alloc: Global,
+    pair: &Pair,
+    lines: Vec<u8>,
+    outcome: &Outcome,
+) -> Result<Answer, AllocError>
+    ensures { IfOk result
+        (λ told. told ≡ Undecided (lines.items ++ outcome_text (machines pair.now.left pair.now.right) outcome.now)) }
+{
+    match obstacle_line(alloc, &pair.left, &pair.right, outcome) {
+        Ok(line) => Ok(Answer::Undecided {
+            lines: join_lines(lines, line.as_slice())?,
+        }),
+        Err(_) => Err(AllocError),
+    }
+}
+
 // The answer of two machines behind the lines of what led to it.
-fn why_answer(alloc: Global, lines: Vec<u8>, answer: &PairAnswer) -> Result<Answer, AllocError>
-    ensures { IfOk result (λ told. told ≡ answer_behind lines.items answer.now) }
+fn why_answer(
+    alloc: Global,
+    pair: &Pair,
+    lines: Vec<u8>,
+    answer: &PairAnswer,
+) -> Result<Answer, AllocError>
+    ensures { IfOk result
+        (λ told. told ≡ answer_behind (machines pair.now.left pair.now.right) lines.items answer.now) }
 {
     match answer {
         PairAnswer::Equivalent { cert } => {
@@ -49,9 +77,7 @@ fn why_answer(alloc: Global, lines: Vec<u8>, answer: &PairAnswer) -> Result<Answ
         PairAnswer::Counterexample { lines: more } => Ok(Answer::Differs {
             lines: join_lines(lines, more.as_slice())?,
         }),
-        PairAnswer::Undecided { lines: more } => Ok(Answer::Undecided {
-            lines: join_lines(lines, more.as_slice())?,
-        }),
+        PairAnswer::Undecided { outcome } => undecided_behind(alloc, pair, lines, outcome),
     }
 }
 
@@ -62,7 +88,7 @@ pub fn why_machines(alloc: Global, pair: &Pair) -> Result<Answer, AllocError>
     ensures { IfOk result (IsOfWhy 10000 pair.now.left pair.now.right) }
 {
     match explain(alloc, &pair.left, &pair.right, &pair.pairing, STEPS) {
-        Ok(why) => why_answer(alloc, why.lines, &why.answer),
+        Ok(why) => why_answer(alloc, pair, why.lines, &why.answer),
         Err(_) => Err(AllocError),
     }
 }
