@@ -24,7 +24,7 @@ fn state_name(alloc: Global, tokens: &[Token]) -> Result<(Name, &[Token]), ReadE
     ensures goes { (f : formats.Format) (s : Source) (n : ℕ)
         → ParsesOn result (reading tokens.now (at_state_name f s n))
         (λ x. reading x.1.now
-        (at_transition (record { format = f; source = s; state = record { line = n; name = x.0; lines = [] } }))) }
+        (at_transition (record { format = f; source = s; state = record { line = n; name = x.0; transitions = [] } }))) }
     ensures shorter { IfOk result (λ x. length x.1.now < length tokens.now) }
 {
     let (name, rest) = name(alloc, tokens)?;

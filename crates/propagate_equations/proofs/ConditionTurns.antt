@@ -18,17 +18,17 @@ use Rattle.propagate_equations.specs.Equations.{literal_held, is_needless, with_
 use Rattle.propagate_equations.specs.EquationSteps.{with_condition, conditions_from, conditions_kept}
 
 module _ (ms : List (Pos × Nf)) where
-  abbrev with_needed : List NormalLiteral → NormalLiteral → List NormalLiteral
-  with_needed before m = cond (is_needless before m) before (before ++ m ∷ [])
+  abbrev with_one_needed : List NormalLiteral → NormalLiteral → List NormalLiteral
+  with_one_needed before m = cond (is_needless before m) before (before ++ m ∷ [])
 
   abbrev over_all : List NormalLiteral → Computed (List NormalLiteral)
   over_all ls = each (literal_substituted ms) ls
 
   needed_behind : (before ls rest : List NormalLiteral)
       → ((ks : List NormalLiteral) → conditions_from ms ks ls ≡ after (over_all rest) (λ ys. Done (with_needed ks ys))) → (c : Computed NormalLiteral)
-      → after (after c (λ m. Done (with_needed before m))) (λ ks. conditions_from ms ks ls)
+      → after (after c (λ m. Done (with_one_needed before m))) (λ ks. conditions_from ms ks ls)
       ≡ after (after c (λ m. after (over_all rest) (λ ys. Done (m ∷ ys)))) (λ ys. Done (with_needed before ys))
-  needed_behind before ls rest h (Done m) = h (with_needed before m)
+  needed_behind before ls rest h (Done m) = h (with_one_needed before m)
       ∙ sym (after_after (over_all rest) (λ ys. Done (m ∷ ys)) (λ ys. Done (with_needed before ys)))
   needed_behind before ls rest h (Wide l r) = refl
   needed_behind before ls rest h (Large u d) = refl
@@ -41,7 +41,7 @@ module _ (ms : List (Pos × Nf)) where
       held = filter (literal_held ms) ls
 
       by_test : (b : Bool) → ((ks : List NormalLiteral) → conditions_from ms ks ls ≡ after (over_all held) (λ ys. Done (with_needed ks ys)))
-          → after (cond b (after (literal_substituted ms l) (λ m. Done (with_needed before m))) (Done before)) (λ ks. conditions_from ms ks ls)
+          → after (cond b (after (literal_substituted ms l) (λ m. Done (with_one_needed before m))) (Done before)) (λ ks. conditions_from ms ks ls)
           ≡ after (over_all (cond b (l ∷ held) held)) (λ ys. Done (with_needed before ys))
       by_test true h = needed_behind before ls held h (literal_substituted ms l)
       by_test false h = h before
@@ -79,17 +79,17 @@ module _ (ms : List (Pos × Nf)) where
 
   -- ---- one condition
   pub condition_not_held : (l : NormalLiteral) (before : List NormalLiteral) → literal_held ms l ≡ false → with_condition ms l before ≡ Done before
-  condition_not_held l before h = ap (λ b. cond b (after (literal_substituted ms l) (λ m. Done (with_needed before m))) (Done before)) h
+  condition_not_held l before h = ap (λ b. cond b (after (literal_substituted ms l) (λ m. Done (with_one_needed before m))) (Done before)) h
 
   module _ (v : List (Pos × Nf)) (l : NormalLiteral) (before : List NormalLiteral) (same : v ≡ ms) (held : literal_held ms l ≡ true) where
-    over_this : with_condition ms l before ≡ after (literal_substituted ms l) (λ m. Done (with_needed before m))
-    over_this = ap (λ b. cond b (after (literal_substituted ms l) (λ m. Done (with_needed before m))) (Done before)) held
+    over_this : with_condition ms l before ≡ after (literal_substituted ms l) (λ m. Done (with_one_needed before m))
+    over_this = ap (λ b. cond b (after (literal_substituted ms l) (λ m. Done (with_one_needed before m))) (Done before)) held
 
     pub condition_over : (m : NormalLiteral) (needless : Bool) → literal_substituted v l ≡ Done m → needless ≡ is_needless before m
         → with_condition ms l before ≡ Done (cond needless before (before ++ m ∷ []))
     condition_over m needless e n = over_this
-        ∙ ap (λ w. after (literal_substituted w l) (λ k. Done (with_needed before k))) (sym same)
-        ∙ ap (λ c. after c (λ k. Done (with_needed before k))) e
+        ∙ ap (λ w. after (literal_substituted w l) (λ k. Done (with_one_needed before k))) (sym same)
+        ∙ ap (λ c. after c (λ k. Done (with_one_needed before k))) e
         ∙ ap (λ b. Done (cond b before (before ++ m ∷ []))) (sym n)
 
     pub condition_stops : {S : Type 0} (f : S → List NormalLiteral) (r : Result S NfStop) (event : NfStop) → IsErrAnd r (λ d. d ≡ event)
@@ -97,5 +97,5 @@ module _ (ms : List (Pos × Nf)) where
     condition_stops f (Ok s) event is a = absurd is
     condition_stops f (Err d) event is a = subst (λ (e : NfStop). Answers {T = List NormalLiteral} (Err e) (with_condition ms l before)) (sym is)
         (subst (Answers {T = List NormalLiteral} (Err event)) (sym over_this)
-        (stops event (literal_substituted ms l) (λ m. Done (with_needed before m))
+        (stops event (literal_substituted ms l) (λ m. Done (with_one_needed before m))
         (subst (λ w. Answers {T = NormalLiteral} (Err event) (literal_substituted w l)) same a)))
