@@ -1,5 +1,5 @@
 -- Searches that stop at an obstacle.
-use Rattle.std.proofs.Common.{◌≡◌, ℕ, List, map, refl, ◌∙◌}
+use Rattle.std.proofs.Common.{◌≡◌, ℕ, List, map}
 use Rattle.fs_model.specs.Machines.{Fsmd}
 use Rattle.search_tables.specs.declared.outcome.Outcome.{Outcome}
 use Rattle.search_tables.specs.declared.outcome.Outcome.TheVariants.{Closed, Stuck, Spin, Wide, Large, Exhausted}
