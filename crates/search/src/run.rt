@@ -16,7 +16,8 @@ use fs_cut::cover::Cover;
 use fs_pair::positions::Pairing;
 use nf_terms::stop::NoMemory;
 use search_tables::moves::Move;
-use search_worklist::ends::{End, Ended};
+use search_tables::outcome::Obstacle;
+use search_worklist::ends::Ended;
 use search_worklist::nodes::table;
 use search_worklist::outputs::output_at;
 use search_worklist::sides::Sides;
@@ -25,23 +26,28 @@ use search_worklist::turns::{Step, next};
 use std::alloc::Global;
 
 // Ends a search: the nodes alone, with the moves that made them and how these end. The one refusal is out of memory.
-fn end_search(alloc: Global, state: State, moves: Vec<Move>, end: End) -> Result<Ended, NoMemory>
-    ensures { IfOk result (IsEndedWith (table_now state) moves end) }
+fn end_search(
+    alloc: Global,
+    state: State,
+    moves: Vec<Move>,
+    obstacle: Option<Obstacle>,
+) -> Result<Ended, NoMemory>
+    ensures { IfOk result (IsEndedWith (table_now state) moves obstacle) }
 {
     Ok(Ended {
         nodes: table(alloc, state.entries)?,
         moves,
-        end,
+        obstacle,
     })
 }
 
-// Makes moves from the start node, each the one that is next, until one ends the search.
+// Makes moves from the start node, each the one that is next, up to the first obstacle, if there is one.
 fn make_moves(
     alloc: Global,
     m: &Sides<'_>,
     state: &mut State,
     moves: &mut Vec<Move>,
-) -> Result<End, NoMemory>
+) -> Result<Option<Obstacle>, NoMemory>
     requires ready { IsReady (machines_in m.now) state.old }
     requires start { table_now state.old ≡ first_table (machines_in m.now) }
     requires none { moves.old.items ≡ [] }
@@ -55,10 +61,11 @@ fn make_moves(
         match output_at(alloc, m, &state.entries, changed)? {
             Some(var) => {
                 let node = changed as u32;
-                return Ok(End::Stuck { node, var });
+                return Ok(Some(Obstacle::Stuck { node, var }));
             }
             None => match next(alloc, m, state)? {
-                Step::Ends(end) => return Ok(end),
+                Step::Stops(obstacle) => return Ok(Some(obstacle)),
+                Step::Closed => return Ok(None),
                 Step::Changes { at, change } => {
                     changed = make(alloc, state, change)?;
                     moves.push(at)?;
@@ -91,8 +98,8 @@ fn run_sides<'a>(
     };
     let mut state = begin(alloc, &sides)?;
     let mut moves = Vec::new(alloc);
-    let end = make_moves(alloc, &sides, &mut state, &mut moves)?;
-    end_search(alloc, state, moves, end)
+    let obstacle = make_moves(alloc, &sides, &mut state, &mut moves)?;
+    end_search(alloc, state, moves, obstacle)
 }
 
 /// Makes a table from the start node by the moves that are next, up to the first obstacle or until nothing is next. The one

@@ -8,10 +8,10 @@ ghost use Rattle.fs_pair.specs.Positions.{positions};
 ghost use Rattle.sym_facts.specs.Pairings.{IsFactOf};
 ghost use Rattle.search_tables.specs.Next.{IsClosed};
 ghost use Rattle.search_tables.specs.Legal.{Makes, difference_in};
-ghost use Rattle.search_tables.specs.View.{table_in, points_in, points_at};
+ghost use Rattle.search_tables.specs.View.{table_in, points_in, points_at, obstacle_in};
 ghost use Rattle.cert_bisimulation.specs.Alike.{WhereAlike};
-ghost use Rattle.search_tables.specs.SearchTables.{machines};
-ghost use Rattle.search.specs.SearchOutcomes.{IsSearchOutcome, ClosesOrMeetsLimit};
+ghost use Rattle.search_tables.specs.SearchTables.{MachinePair, machines};
+ghost use Rattle.search.specs.SearchOutcomes.{StopsAtObstacle, IsSearchOutcome, ClosesOrMeetsLimit};
 
 use crate::run::run;
 use cert_model::covers::cover_of;
@@ -23,9 +23,9 @@ use nf_terms::stop::NoMemory;
 use search_closing::closing::{Closing, close};
 use search_tables::moves::Move;
 use search_tables::nodes::SearchNode;
-use search_tables::outcome::Outcome;
+use search_tables::outcome::{Obstacle, Outcome};
 use search_tables::pairs::PointPair;
-use search_worklist::ends::{End, Ended};
+use search_worklist::ends::Ended;
 use std::alloc::Global;
 
 // The points of nodes, in order. The one refusal is out of memory.
@@ -40,6 +40,35 @@ fn points_of(alloc: Global, nodes: &[SearchNode]) -> Result<Vec<PointPair>, NoMe
         })?;
     }
     Ok(out)
+}
+
+// How a search ends that moves lead to an obstacle, over a table of these points.
+fn outcome_at(moves: Vec<Move>, points: Vec<PointPair>, obstacle: Obstacle) -> Outcome
+    ensures { (m : MachinePair) → StopsAtObstacle m moves.items (map points_in points.items) (obstacle_in obstacle)
+        → IsSearchOutcome m result }
+{
+    match obstacle {
+        Obstacle::Stuck { node, var } => Outcome::Stuck {
+            moves,
+            points,
+            node,
+            var,
+        },
+        Obstacle::Spin { side, cycle } => Outcome::Spin {
+            moves,
+            points,
+            side,
+            cycle,
+        },
+        Obstacle::Wide { at } => Outcome::Wide { moves, points, at },
+        Obstacle::Large { at } => Outcome::Large { moves, points, at },
+        Obstacle::Exhausted { at, what } => Outcome::Exhausted {
+            moves,
+            points,
+            at,
+            what,
+        },
+    }
 }
 
 // What a closed table in which no outputs differ gives, by the moves that made it. The one refusal is out of memory.
@@ -70,12 +99,9 @@ fn close_table(
             certificates_are_normal(&cert);
             Ok(Outcome::Closed(cert))
         }
-        Closing::Spins { side, cycle } => Ok(Outcome::Spin {
-            moves,
-            points,
-            side,
-            cycle,
-        }),
+        Closing::Spins { side, cycle } => {
+            Ok(outcome_at(moves, points, Obstacle::Spin { side, cycle }))
+        }
     }
 }
 
@@ -97,24 +123,15 @@ fn search_by_covers(
     let _left = a.vars(); // These two calls tell the proof that both machines are sound.
     let _right = b.vars();
     let ended = run(alloc, a, b, p, ca, cb)?;
-    let Ended { nodes, moves, end } = ended;
+    let Ended {
+        nodes,
+        moves,
+        obstacle,
+    } = ended;
     let points = points_of(alloc, nodes.as_slice())?;
-    match end {
-        End::Closed => close_table(alloc, a, b, ca, cb, nodes, moves, points),
-        End::Stuck { node, var } => Ok(Outcome::Stuck {
-            moves,
-            points,
-            node,
-            var,
-        }),
-        End::Wide { at } => Ok(Outcome::Wide { moves, points, at }),
-        End::Large { at } => Ok(Outcome::Large { moves, points, at }),
-        End::Exhausted { at, what } => Ok(Outcome::Exhausted {
-            moves,
-            points,
-            at,
-            what,
-        }),
+    match obstacle {
+        None => close_table(alloc, a, b, ca, cb, nodes, moves, points),
+        Some(obstacle) => Ok(outcome_at(moves, points, obstacle)),
     }
 }
 

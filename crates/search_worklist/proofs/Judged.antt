@@ -22,6 +22,8 @@ use Rattle.propagate.specs.Modes.{WideAt, LargeAt}
 use Rattle.propagate.specs.View.{IsStopAt}
 use Rattle.cert_model.specs.Lawful.{most_nodes}
 use Rattle.search_tables.specs.declared.moves.Move.{Move}
+use Rattle.search_tables.specs.declared.outcome.Obstacle.{Obstacle}
+use Rattle.search_tables.specs.declared.outcome.Obstacle.TheVariants as obstacle
 use Rattle.search_tables.specs.declared.outcome.Budget.{Budget}
 use Rattle.search_tables.specs.declared.outcome.Budget.TheVariants.{Nodes, Units}
 use Rattle.search_tables.specs.SearchTables.{MachinePair, positions_of, SearchNode, Table, units, most_units, Unknown, Known, node_target, with_fact, WideEvent}
@@ -34,8 +36,6 @@ use Rattle.search_tables.proofs.Forming.{known_in}
 use Rattle.search_waiting.specs.declared.item.Item.{Item}
 use Rattle.search_places.specs.NodeRecords.{NodeRecord, node_with_fact, table_of}
 use Rattle.search_waiting.specs.ItemOrder.{IsLeastWaiting}
-use Rattle.search_worklist.specs.declared.ends.End.{End}
-use Rattle.search_worklist.specs.declared.ends.End.TheVariants as end
 use Rattle.search_worklist.specs.declared.trial.TableChange.{TableChange}
 use Rattle.search_worklist.specs.declared.trial.Trial.{Trial}
 use Rattle.search_worklist.specs.declared.trial.Trial.TheVariants as tried
@@ -44,7 +44,7 @@ use Rattle.search_worklist.specs.SearchEnds.{EndsSo}
 use Rattle.search_places.specs.Moves.{path_in, paths_at}
 use Rattle.search_worklist.specs.NodeUpdates.{put_by, put_fact, change_table}
 use Rattle.search_worklist.specs.Trials.{GivesChange, GivesTrial, IsMet, TellsChange, TellsTrial, Tries, TriesAt}
-use Rattle.search_worklist.specs.Turns.{IsNext, IsEndAt, IsMoveAt}
+use Rattle.search_worklist.specs.Turns.{IsNext, IsObstacleAt, IsMoveAt}
 use Rattle.search_worklist.specs.Waiting.{IsWaiting}
 use Rattle.search_places.proofs.Moved.{again}
 use Rattle.search_worklist.proofs.Least.{Comes, mode_next, move_next}
@@ -232,10 +232,10 @@ module _ (m : MachinePair) (T : Table) (at : Move) (e : MoveEffect) (c : Comes m
   comes_so : (d : MoveEffect) → e ≡ d → next_move m T ≡ or_next (next_by at d c.rest) c.after
   comes_so d h = c.is ∙ ap (λ z. or_next (next_by at z c.rest) c.after) h
 
-  pub end_next : difference_in m T ≡ None → (s : NfStop) (x : End) → IsEndAt at s x → IsMet s e → IsNext m T (step.Ends x)
-  end_next f (stop.Wide l r) x i h = subst (EndsSo m T) (sym i) (f, l, r, comes_so (Meets (WideEvent l r)) h)
-  end_next f (stop.Large u d) x i h = subst (EndsSo m T) (sym i) (f, u, d, comes_so (Meets (LargeEvent u d)) h)
-  end_next f stop.NoMemory x i h = absurd i
+  pub obstacle_next : difference_in m T ≡ None → (s : NfStop) (x : Obstacle) → IsObstacleAt at s x → IsMet s e → IsNext m T (step.Stops x)
+  obstacle_next f (stop.Wide l r) x i h = subst (λ o. EndsSo m T (Some o)) (sym i) (f, l, r, comes_so (Meets (WideEvent l r)) h)
+  obstacle_next f (stop.Large u d) x i h = subst (λ o. EndsSo m T (Some o)) (sym i) (f, u, d, comes_so (Meets (LargeEvent u d)) h)
+  obstacle_next f stop.NoMemory x i h = absurd i
 
 pub change_next : (m : MachinePair) (ls : List NodeRecord) (at : Move) (c : TableChange) → IsFirst m ls at (Ok (tried.Changes c))
     → IsNext m (table_of ls) (step.Changes at c)
@@ -246,23 +246,24 @@ change_next m ls at c f = (
 
 pub excess_next : (m : MachinePair) (ls : List NodeRecord) (at : Move) (b : Budget) → difference_in m (table_of ls) ≡ None
     → IsFirst m ls at (Ok (tried.Exceeds b))
-    → IsNext m (table_of ls) (step.Ends (end.Exhausted at b))
+    → IsNext m (table_of ls) (step.Stops (obstacle.Exhausted at b))
 excess_next m ls at b s f = (s, comes_so m (table_of ls) at (effect m (table_of ls) f.node f.paths) f.comes (Exceeds b) f.tries.2)
 
-pub stop_next : (m : MachinePair) (ls : List NodeRecord) (at : Move) (s : NfStop) (x : End) → difference_in m (table_of ls) ≡ None → IsFirst m ls at (Err s)
-    → IsEndAt at s x
-    → IsNext m (table_of ls) (step.Ends x)
-stop_next m ls at s x h f i = end_next m (table_of ls) at (effect m (table_of ls) f.node f.paths) f.comes h s x i f.tries
+pub stop_next : (m : MachinePair) (ls : List NodeRecord) (at : Move) (s : NfStop) (x : Obstacle) → difference_in m (table_of ls) ≡ None
+    → IsFirst m ls at (Err s)
+    → IsObstacleAt at s x
+    → IsNext m (table_of ls) (step.Stops x)
+stop_next m ls at s x h f i = obstacle_next m (table_of ls) at (effect m (table_of ls) f.node f.paths) f.comes h s x i f.tries
 
 -- the event of a mode is next
-pub mode_stops : (m : MachinePair) (ls : List NodeRecord) (waits : Item → Bool) (i : ℕ) (l : NodeRecord) (s : NfStop) (d : Side) (k : ℕ) (x : End)
+pub mode_stops : (m : MachinePair) (ls : List NodeRecord) (waits : Item → Bool) (i : ℕ) (l : NodeRecord) (s : NfStop) (d : Side) (k : ℕ) (x : Obstacle)
     → IsWaiting m ls waits
     → IsLeastWaiting waits i 0 → slice_get ls i ≡ Some l → difference_in m (table_of ls) ≡ None
-    → IsStopAt s d k (mode_at m l.node) → IsEndAt (path_at i d k) s x → IsNext m (table_of ls) (step.Ends x)
+    → IsStopAt s d k (mode_at m l.node) → IsObstacleAt (path_at i d k) s x → IsNext m (table_of ls) (step.Stops x)
 mode_stops m ls waits i l (stop.Wide a b) d k x w least g f h e =
     let c = mode_next m ls waits w i l (WideAt d k a b) least g h in
-    subst (EndsSo m (table_of ls)) (sym e) (f, a, b, c.is)
+    subst (λ o. EndsSo m (table_of ls) (Some o)) (sym e) (f, a, b, c.is)
 mode_stops m ls waits i l (stop.Large a b) d k x w least g f h e =
     let c = mode_next m ls waits w i l (LargeAt d k a b) least g h in
-    subst (EndsSo m (table_of ls)) (sym e) (f, a, b, c.is)
+    subst (λ o. EndsSo m (table_of ls) (Some o)) (sym e) (f, a, b, c.is)
 mode_stops m ls waits i l stop.NoMemory d k x w least g f h e = absurd e

@@ -3,7 +3,7 @@ use Rattle.std.proofs.Common.{◌≡◌, ℕ, zero, suc, ◌+◌, ◌-◌, ◌*�
 use Rattle.std.proofs.Common.{Ok, Err, Vec, Global}
 use Rattle.std.proofs.lemmas.List.{length-append, length-map}
 use Rattle.std.proofs.lemmas.Option.{slice_get_within}
-use Rattle.std.specs.Prelude.{◌&&◌, slice_get, Result, IfOk}
+use Rattle.std.specs.Prelude.{◌&&◌, slice_get, Option, Result, IfOk}
 use Rattle.std.specs.List.{list_all}
 use Rattle.fs_model.proofs.Booleans.{and_first, and_second}
 use Rattle.fs_model.proofs.Quantifiers.{each_at}
@@ -23,7 +23,7 @@ use Rattle.search_tables.specs.View.{table_in}
 use Rattle.search_tables.specs.declared.pairs.PointPair.{PointPair}
 use Rattle.search_places.specs.declared.node_state.NodeState.{NodeState}
 use Rattle.search_places.specs.NodeRecords.{NodeRecord, record_of_node, node_records, table_of}
-use Rattle.search_worklist.specs.declared.ends.End.{End}
+use Rattle.search_tables.specs.declared.outcome.Obstacle.{Obstacle}
 use Rattle.search_worklist.specs.declared.ends.Ended.{Ended}
 use Rattle.search_worklist.specs.SearchEnds.{EndsSo, IsEnded}
 use Rattle.search_worklist.specs.Endings.{IsEndedWith}
@@ -88,7 +88,7 @@ number_in es k n g = omega (
   length-map es record_of_node,
 )
 
-pub ends_with : (m : MachinePair) (T : Table) (xs : Vec Move Global) (x : End) (e : Ended) → Makes m xs.items T → EndsSo m T x
+pub ends_with : (m : MachinePair) (T : Table) (xs : Vec Move Global) (x : Option Obstacle) (e : Ended) → Makes m xs.items T → EndsSo m T x
     → IsEndedWith T xs x e → IsEnded m e
 ends_with m T xs x e h s w =
     let items = ap (λ (v : Vec Move Global). v.items) w.moves in

@@ -5,12 +5,12 @@ use Rattle.nf_terms.specs.declared.stop.NfStop.{NfStop}
 use Rattle.nf_terms.specs.declared.stop.NfStop.TheVariants as stop
 use Rattle.propagate.specs.Modes.{Found}
 use Rattle.search_tables.specs.declared.moves.Move.{Move}
+use Rattle.search_tables.specs.declared.outcome.Obstacle.{Obstacle}
+use Rattle.search_tables.specs.declared.outcome.Obstacle.TheVariants as obstacle
 use Rattle.search_tables.specs.SearchTables.{MachinePair, Table, units}
 use Rattle.search_tables.specs.Next.{mode_at, Change, next_move}
 use Rattle.search_waiting.specs.declared.item.Item.{Item}
 use Rattle.search_places.specs.NodeRecords.{NodeRecord}
-use Rattle.search_worklist.specs.declared.ends.End.{End}
-use Rattle.search_worklist.specs.declared.ends.End.TheVariants as end
 use Rattle.search_worklist.specs.declared.state.State.{State}
 use Rattle.search_worklist.specs.declared.turns.Step.{Step}
 use Rattle.search_worklist.specs.declared.turns.Step.TheVariants as step
@@ -20,7 +20,8 @@ use Rattle.search_worklist.specs.States.{table, IsReady, work}
 
 -- a step is what is next, in a table in which no outputs differ
 abbrev pub IsNext : MachinePair → Table → Step → Type 0
-IsNext m T (step.Ends end) = EndsSo m T end
+IsNext m T step.Closed = EndsSo m T None
+IsNext m T (step.Stops o) = EndsSo m T (Some o)
 IsNext m T (step.Changes at c) = (next_move m T ≡ Change at (change_table T c)) × (c.units ≡ units (change_table T c))
 
 -- a turn finds what is next, or leaves less to do
@@ -34,11 +35,11 @@ pub record IsTurned (m : MachinePair) (s t : State) (o : Option Step) : Type 0 w
   pub same : table t ≡ table s
   pub finds : FindsNext m s t o
 
--- the end at an event
-abbrev pub IsEndAt : Move → NfStop → End → Type 0
-IsEndAt at (stop.Wide left right) e = e ≡ end.Wide at
-IsEndAt at (stop.Large units depth) e = e ≡ end.Large at
-IsEndAt at stop.NoMemory e = ⊥
+-- the obstacle of an event
+abbrev pub IsObstacleAt : Move → NfStop → Obstacle → Type 0
+IsObstacleAt at (stop.Wide left right) o = o ≡ obstacle.Wide at
+IsObstacleAt at (stop.Large units depth) o = o ≡ obstacle.Large at
+IsObstacleAt at stop.NoMemory o = ⊥
 
 -- node i has this mode
 pub record ModeFound (m : MachinePair) (ls : List NodeRecord) (i : ℕ) (x : Mode) : Type 0 where

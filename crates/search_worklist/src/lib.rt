@@ -1,6 +1,6 @@
 //! What is next in a search, and the table after it, by the items that wait.
 //!
-//! Promises: `next`: the move that is next, with the change that it makes, or how the moves end; `make`: the table after a
+//! Promises: `next`: the move that is next, with the change that it makes, an obstacle, or nothing; `make`: the table after a
 //! change.
 //!
 //! Rules: `specs/Waiting`, `specs/Turns`, `specs/SearchEnds`.

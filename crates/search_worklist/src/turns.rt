@@ -6,10 +6,9 @@ ghost use Rattle.search_waiting.specs.ItemOrder.{item as plain_item};
 ghost use Rattle.search_waiting.specs.ItemOrder.{waits, IsLeastWaiting};
 ghost use Rattle.search_worklist.specs.NodeWays.{AreKept};
 ghost use Rattle.search_worklist.specs.States.{records, table, IsReady, IsMade};
-ghost use Rattle.search_worklist.specs.Turns.{IsNext, IsTurned, IsEndAt, ModeFound, IsMoveAt, NoMoveAt};
+ghost use Rattle.search_worklist.specs.Turns.{IsNext, IsTurned, IsObstacleAt, ModeFound, IsMoveAt, NoMoveAt};
 ghost use Rattle.search_worklist.specs.View.{machines_in};
 
-use crate::ends::End;
 use crate::node_ways::{Tried, count_move};
 use crate::sides::{Sides, left_paths, right_paths};
 use crate::state::State;
@@ -22,6 +21,7 @@ use propagate::modes::mode;
 use search_places::moves::moves;
 use search_places::nodes::{list_arrival, node_at, set_moves};
 use search_tables::moves::Move;
+use search_tables::outcome::Obstacle;
 use search_waiting::item::Item;
 use search_waiting::waiting::{add_moves, least, remove};
 use std::alloc::Global;
@@ -29,17 +29,21 @@ use std::alloc::Global;
 /// What is next in a table.
 #[derive(Drop)]
 pub enum Step {
-    Ends(End),
+    /// No move makes a difference, and no outputs differ.
+    Closed,
+    /// An obstacle.
+    Stops(Obstacle),
+    /// This move makes this change.
     Changes { at: Move, change: TableChange },
 }
 
-// The end at an event. The one refusal is out of memory, where that is what stopped.
-fn end_at(at: Move, stop: NfStop) -> Result<End, NoMemory>
-    ensures { IfOk result (IsEndAt at stop) }
+// The obstacle of an event. The one refusal is out of memory, where that is what stopped.
+fn obstacle_at(at: Move, stop: NfStop) -> Result<Obstacle, NoMemory>
+    ensures { IfOk result (IsObstacleAt at stop) }
 {
     match stop {
-        NfStop::Wide { .. } => Ok(End::Wide { at }),
-        NfStop::Large { .. } => Ok(End::Large { at }),
+        NfStop::Wide { .. } => Ok(Obstacle::Wide { at }),
+        NfStop::Large { .. } => Ok(Obstacle::Large { at }),
         NfStop::NoMemory => Err(NoMemory),
     }
 }
@@ -114,7 +118,7 @@ fn find_mode(
             list_moves(alloc, m, state, node, mode)?;
             Ok(None)
         }
-        Err(s) => Ok(Some(Step::Ends(end_at(path_at(node, s.side, s.branch), s.stop)?))),
+        Err(s) => Ok(Some(Step::Stops(obstacle_at(path_at(node, s.side, s.branch), s.stop)?))),
     }
 }
 
@@ -186,8 +190,8 @@ fn try_item<'a>(
             Ok(None)
         }
         Ok(Trial::Changes(change)) => Ok(Some(Step::Changes { at, change })),
-        Ok(Trial::Exceeds(what)) => Ok(Some(Step::Ends(End::Exhausted { at, what }))),
-        Err(stop) => Ok(Some(Step::Ends(end_at(at, stop)?))),
+        Ok(Trial::Exceeds(what)) => Ok(Some(Step::Stops(Obstacle::Exhausted { at, what }))),
+        Err(stop) => Ok(Some(Step::Stops(obstacle_at(at, stop)?))),
     }
 }
 
@@ -234,7 +238,7 @@ pub fn next(alloc: Global, m: &Sides<'_>, state: &mut State) -> Result<Step, NoM
                     return Ok(step);
                 }
             }
-            None => return Ok(Step::Ends(End::Closed)),
+            None => return Ok(Step::Closed),
         }
     }
 }

@@ -1,4 +1,4 @@
-use Rattle.std.proofs.Common.{◌<◌, ◌≤◌, ◌++◌, ◌∷◌, [], length, ap, refl, sym, ◌∙◌, subst, arith}
+use Rattle.std.proofs.Common.{◌<◌, ◌≤◌, ◌++◌, ◌∷◌, [], Some, None, length, ap, refl, sym, ◌∙◌, subst, arith}
 use Rattle.std.proofs.lemmas.Option.{slice_get_within}
 use Rattle.cert_model.specs.Lawful.{most_nodes}
 use Rattle.search_tables.specs.Legal.{Makes}
@@ -48,23 +48,33 @@ next-requires-clause-made c =
     made m c.moves.moves.items T c.vars-left.ensures.sound c.vars-right.ensures.sound c.moves.invariant.makes
     (none_differs m T c.moves.changed c.moves.invariant.differs (subst (OutputAt m T c.moves.changed) c.in-None.is c.in_ok-var.ensures))
 
-pub returns-in-Ends-clause-makes : goal.returns-in-Ends-clause-makes
-returns-in-Ends-clause-makes c =
-    subst (Makes (machines_in c.args.m.now) c.moves.moves.items) (sym c.in_ok-end-in-None.ensures.same) c.moves.invariant.makes
+pub returns-in-Stops-clause-makes : goal.returns-in-Stops-clause-makes
+returns-in-Stops-clause-makes c =
+    subst (Makes (machines_in c.args.m.now) c.moves.moves.items) (sym c.in_ok-obstacle-in-None.ensures.same) c.moves.invariant.makes
 
-pub returns-in-Ends-clause-ends : goal.returns-in-Ends-clause-ends
-returns-in-Ends-clause-ends c =
+pub returns-in-Stops-clause-ends : goal.returns-in-Stops-clause-ends
+returns-in-Stops-clause-ends c =
     let m = machines_in c.args.m.now in
-    let n = subst (IsNext m (table c.moves.state)) c.in-Ends.is c.in_ok-end-in-None.ensures.next in
-    subst (λ T. EndsSo m T c.in-Ends.end) (sym c.in_ok-end-in-None.ensures.same) n
+    let n = subst (IsNext m (table c.moves.state)) c.in-Stops.is c.in_ok-obstacle-in-None.ensures.next in
+    subst (λ T. EndsSo m T (Some c.in-Stops.obstacle)) (sym c.in_ok-obstacle-in-None.ensures.same) n
+
+pub returns-in-Closed-clause-makes : goal.returns-in-Closed-clause-makes
+returns-in-Closed-clause-makes c =
+    subst (Makes (machines_in c.args.m.now) c.moves.moves.items) (sym c.in_ok-obstacle-in-None.ensures.same) c.moves.invariant.makes
+
+pub returns-in-Closed-clause-ends : goal.returns-in-Closed-clause-ends
+returns-in-Closed-clause-ends c =
+    let m = machines_in c.args.m.now in
+    let n = subst (IsNext m (table c.moves.state)) c.in-Closed.is c.in_ok-obstacle-in-None.ensures.next in
+    subst (λ T. EndsSo m T None) (sym c.in_ok-obstacle-in-None.ensures.same) n
 
 pub make-requires-clause-few : goal.make-requires-clause-few
 make-requires-clause-few c =
     let m = machines_in c.args.m.now in
     let T = table c.moves.state in
-    let same = c.in_ok-end-in-None.ensures.same in
+    let same = c.in_ok-obstacle-in-None.ensures.same in
     let free = none_differs m T c.moves.changed c.moves.invariant.differs (subst (OutputAt m T c.moves.changed) c.in-None.is c.in_ok-var.ensures) in
-    let n = subst (IsNext m T) c.in-Changes.is c.in_ok-end-in-None.ensures.next in
+    let n = subst (IsNext m T) c.in-Changes.is c.in_ok-obstacle-in-None.ensures.next in
     let h = makes_more m c.moves.moves.items (c.moves.moves.items ++ c.in-Changes.at ∷ []) c.in-Changes.at T (change_table T c.in-Changes.change)
     (change_table T c.in-Changes.change) c.moves.invariant.makes free n.0 refl refl in
     let w = well_formed m c.vars-left.ensures.sound c.vars-right.ensures.sound (c.moves.moves.items ++ c.in-Changes.at ∷ [])
@@ -76,8 +86,8 @@ moves-smaller c =
     let m = machines_in c.args.m.now in
     let T = table c.moves.state in
     let free = none_differs m T c.moves.changed c.moves.invariant.differs (subst (OutputAt m T c.moves.changed) c.in-None.is c.in_ok-var.ensures) in
-    let n = subst (IsNext m T) c.in-Changes.is c.in_ok-end-in-None.ensures.next in
-    let made_table = c.in_ok-changed-in-Changes.ensures.table ∙ ap (λ U. change_table U c.in-Changes.change) c.in_ok-end-in-None.ensures.same in
+    let n = subst (IsNext m T) c.in-Changes.is c.in_ok-obstacle-in-None.ensures.next in
+    let made_table = c.in_ok-changed-in-Changes.ensures.table ∙ ap (λ U. change_table U c.in-Changes.change) c.in_ok-obstacle-in-None.ensures.same in
     fewer_left m c.moves.moves.items c.push.new.self.items c.in-Changes.at (table c.make.new.state) c.in_ok-push-in-Changes.ensures.items
     (makes_more m c.moves.moves.items c.push.new.self.items c.in-Changes.at T (change_table T c.in-Changes.change)
     (table c.make.new.state) c.moves.invariant.makes free n.0 c.in_ok-push-in-Changes.ensures.items made_table)
@@ -87,13 +97,13 @@ moves-preserved c =
     let m = machines_in c.args.m.now in
     let T = table c.moves.state in
     let x = c.in-Changes.change in
-    let same = c.in_ok-end-in-None.ensures.same in
+    let same = c.in_ok-obstacle-in-None.ensures.same in
     let free = none_differs m T c.moves.changed c.moves.invariant.differs (subst (OutputAt m T c.moves.changed) c.in-None.is c.in_ok-var.ensures) in
-    let n = subst (IsNext m T) c.in-Changes.is c.in_ok-end-in-None.ensures.next in
+    let n = subst (IsNext m T) c.in-Changes.is c.in_ok-obstacle-in-None.ensures.next in
     let made_table = c.in_ok-changed-in-Changes.ensures.table ∙ ap (λ U. change_table U x) same in
     let number = c.in_ok-changed-in-Changes.ensures.number ∙ ap (λ U. node_number U (point_of x.left) (point_of x.right)) same in
     record {
-      ready = c.in_ok-changed-in-Changes.ensures.ready m c.in_ok-end-in-None.ensures.ready;
+      ready = c.in_ok-changed-in-Changes.ensures.ready m c.in_ok-obstacle-in-None.ensures.ready;
       makes = makes_more m c.moves.moves.items c.push.new.self.items c.in-Changes.at T (change_table T x)
           (table c.make.new.state) c.moves.invariant.makes free n.0 c.in_ok-push-in-Changes.ensures.items made_table;
       differs = subst (DiffersAlone m (table c.make.new.state)) (sym number)

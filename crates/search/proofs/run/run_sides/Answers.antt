@@ -6,5 +6,5 @@ use Rattle.search.proofs.run.run_sides.Goals as goal
 pub returns : goal.returns
 returns c =
     if_ok c.end_search.result
-    (λ e h. ends_with (machines c.args.a.now c.args.b.now) (table c.make_moves.new.state) c.make_moves.new.moves c.in_ok-end.end e
-    c.in_ok-end.ensures.makes c.in_ok-end.ensures.ends h) c.end_search.ensures
+    (λ e h. ends_with (machines c.args.a.now c.args.b.now) (table c.make_moves.new.state) c.make_moves.new.moves c.in_ok-obstacle.obstacle e
+    c.in_ok-obstacle.ensures.makes c.in_ok-obstacle.ensures.ends h) c.end_search.ensures

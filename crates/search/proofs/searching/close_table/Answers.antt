@@ -24,6 +24,6 @@ pub returns-in-Spins : goal.returns-in-Spins
 returns-in-Spins c =
     let m = machines c.args.a.now c.args.b.now in
     let T = table_in c.args.nodes.items in
-    stops m c.args.moves.items T (map points_in c.args.points.items)
+    c.outcome_at.ensures m (stops m c.args.moves.items T (map points_in c.args.points.items)
     (Spin c.in-Spins.side c.in-Spins.cycle.items) c.vars-left.ensures.sound c.vars-right.ensures.sound c.requires.makes c.requires.points
-    (c.requires.none_differ, c.requires.closed, subst (GivesClosing m T) c.in-Spins.is c.in_ok-cert.ensures)
+    (c.requires.none_differ, c.requires.closed, subst (GivesClosing m T) c.in-Spins.is c.in_ok-cert.ensures))

@@ -71,8 +71,8 @@ returns-in-Ok-Exceeds-clause-turned c =
     (Ok (Exceeds c.in-Ok-Exceeds.what)) c.requires.ready.waiting c.requires.least c.in-Some.ensures.some a in
     record { ready = c.requires.ready; same = refl; finds = excess_next m ls c.in-Some.at c.in-Ok-Exceeds.what c.requires.made.agrees f }
 
-pub returns-in_ok-end_at-in-Err-clause-turned : goal.returns-in_ok-end_at-in-Err-clause-turned
-returns-in_ok-end_at-in-Err-clause-turned c =
+pub returns-in_ok-obstacle_at-in-Err-clause-turned : goal.returns-in_ok-obstacle_at-in-Err-clause-turned
+returns-in_ok-obstacle_at-in-Err-clause-turned c =
     let m = machines_in c.args.m.now in
     let ls = records c.args.state.now in
     let f = is_first m ls (waits c.args.state.now.waiting) c.args.item c.in-Some.at
@@ -80,5 +80,5 @@ returns-in_ok-end_at-in-Err-clause-turned c =
     record {
       ready = c.requires.ready;
       same = refl;
-      finds = stop_next m ls c.in-Some.at c.in-Err.stop c.in_ok-end_at-in-Err.field-0 c.requires.made.agrees f c.in_ok-end_at-in-Err.ensures;
+      finds = stop_next m ls c.in-Some.at c.in-Err.stop c.in_ok-obstacle_at-in-Err.field-0 c.requires.made.agrees f c.in_ok-obstacle_at-in-Err.ensures;
     }
