@@ -159,7 +159,7 @@ equations_cost a b s t ms (q ∷ qs) n =
 -- ---- points, modes and ranks
 
 of_states : (P : List ℕ → Type 0) → P [] → ((x : List ℕ) → is_name x ≡ true → P x) → (ss : List State) (q : ℕ) → list_all (λ x. is_name x.name) ss ≡ true
-    → P (slice_index_or ss q (record { name = []; lines = [] })).name
+    → P (slice_index_or ss q (record { name = []; transitions = [] })).name
 of_states P none some [] q e = none
 of_states P none some (x ∷ ss) zero e = some x.name (and_first (is_name x.name) (list_all (λ (y : State). is_name y.name) ss) e)
 of_states P none some (x ∷ ss) (suc q) e = of_states P none some ss q (and_second (is_name x.name) (list_all (λ (y : State). is_name y.name) ss) e)

@@ -54,7 +54,7 @@ name_goes_on : (x : List ℕ) → is_name x ≡ true → GoesOn x
 name_goes_on x h = word_goes_on x (and_first (is_word x) (nat_le (length x) 32) (and_first (is_word x && nat_le (length x) 32) (not (is_reserved x)) h))
 
 states_go_on : (ss : List State) (q : ℕ) → list_all (λ (s : State). is_name s.name) ss ≡ true
-    → GoesOn (slice_index_or ss q (record { name = []; lines = [] })).name
+    → GoesOn (slice_index_or ss q (record { name = []; transitions = [] })).name
 states_go_on [] q h = refl
 states_go_on (s ∷ ss) zero h = name_goes_on s.name (and_first (is_name s.name) (list_all (λ (t : State). is_name t.name) ss) h)
 states_go_on (s ∷ ss) (suc q) h = states_go_on ss q (and_second (is_name s.name) (list_all (λ (t : State). is_name t.name) ss) h)

@@ -36,7 +36,7 @@ fn move_of_state(moves: &[Move], state: StateId) -> Option<&Move>
 fn add_item(alloc: Global, state: &RawState, out: &mut Vec<Assign<Name>>) -> Result<(), NoMemory>
     ensures { OnOk result
         (map named_assignment out.new.items ≡ map named_assignment out.old.items
-        ++ first_assignments (source_state_of state.now).lines) }
+        ++ first_assignments (source_state_of state.now).transitions) }
 {
     if let Some(line) = state.lines.first() {
         add_assignments(alloc, &line.assigns, out)?;
