@@ -127,4 +127,3 @@ arrival m n x = arrive m.left m.right n.fact.literals (vector_of n.fact.position
 -- what moving from a node by these paths does to a table
 abbrev pub effect : MachinePair → Table → SearchNode → PathPair → MoveEffect
 effect m T n x = effect_of_arrival (positions_of m) T (end_of n.left x.left) (end_of n.right x.right) (arrival m n x)
-
