@@ -1,6 +1,6 @@
 # Completion of fsmd_show for bash: source this file, or put it where bash-completion looks for it, as bin/install does.
 _fsmd_show() {
-  local views="machine pair why certificate inputs"
+  local views="machine pair why certificate inputs trace"
   local word=${COMP_WORDS[COMP_CWORD]}
   COMPREPLY=()
   if [ "$COMP_CWORD" = 1 ]; then

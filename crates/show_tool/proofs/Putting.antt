@@ -37,7 +37,8 @@ none_by name rows =
     (either (bytes_eq name (codes "pair")) _ _ refl
     (either (bytes_eq name (codes "why")) _ _ refl
     (either (bytes_eq name (codes "certificate")) _ _ refl
-    (either (bytes_eq name (codes "inputs")) _ _ refl tt))))
+    (either (bytes_eq name (codes "inputs")) _ _ refl
+    (either (bytes_eq name (codes "trace")) _ _ refl tt)))))
 
 none_in : (o : Option (Text × List Row)) → IfSome (shown_in o) NamesNone
 none_in None = tt

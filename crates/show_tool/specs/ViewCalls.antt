@@ -16,7 +16,7 @@ shown_by_words words = shown_of (map string_bytes words)
 
 -- how the program is used
 abbrev pub usage_text : List ℕ
-usage_text = codes "usage: fsmd_show machine A | pair A B | why A B | certificate A B C | inputs A B\n"
+usage_text = codes "usage: fsmd_show machine A | pair A B | why A B | certificate A B C | inputs A B | trace A I [--steps N]\n"
 
 -- the answer follows, by the view, from what may have been read of the files, and was put with its status, whole or cut by a
 -- sink that failed

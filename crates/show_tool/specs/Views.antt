@@ -1,6 +1,7 @@
 -- Which answer each view gives.
 use Rattle.std.specs.Prelude.{◌≡◌, ℕ, false, List, ◌++◌}
 use Rattle.fs_model.specs.Machines.{Fsmd}
+use Rattle.fs_model.specs.Runs.{Inputs as Given}
 use Rattle.cert_bisimulation.specs.Tables.{Node}
 use Rattle.sym_facts.specs.Facts.{Fact}
 use Rattle.search_tables.specs.SearchTables.{machines}
@@ -10,17 +11,19 @@ use Rattle.show_search_views.specs.Why.{IsExplanation, answer_behind}
 use Rattle.show_search_views.specs.SearchPictures.{IsPicture}
 use Rattle.show_inputs_text.specs.InputTexts.{ShowsDifferenceOf}
 use Rattle.show_search_views.specs.Demands.{obligation_lines}
+use Rattle.show_traces.specs.Traces.{IsTrace}
 use Rattle.fsmd_replies.specs.declared.answer.Answer.{Answer}
 use Rattle.fsmd_replies.specs.declared.answer.Answer.TheVariants.{Text, Differs, Undecided}
 use Rattle.fsmd_answers.specs.LineAnswers.{HasLines}
 use Rattle.fsmd_answers.specs.ComparisonAnswers.{IsOfPair}
 use Rattle.fsmd_answers.specs.Verdicts.{IsJudged}
+use Rattle.fsmd_answers.specs.RunAnswers.{IsOfRun}
 use Rattle.fsmd_answers.specs.Readings.{Reading}
-use Rattle.fsmd_answers.specs.Follows.{Ends, OpensMachine, OpensPair, OpensCertificate}
+use Rattle.fsmd_answers.specs.Follows.{Ends, OpensMachine, OpensPair, OpensInputs, OpensCertificate}
 use Rattle.show_tool.specs.declared.views.PairView.{PairView}
 use Rattle.show_tool.specs.declared.views.PairView.TheVariants as pair_views
 use Rattle.show_words.specs.declared.asking.View.{View}
-use Rattle.show_words.specs.declared.asking.View.TheVariants.{Machine, Pair, Why, Certificate, Inputs}
+use Rattle.show_words.specs.declared.asking.View.TheVariants.{Machine, Pair, Why, Certificate, Inputs, Trace}
 
 -- the picture of the search of two machines
 abbrev pub IsOfPicture : (a b : Fsmd) → Answer → Type 0
@@ -44,17 +47,25 @@ IsOfPairView pair_views.Why = IsOfWhy 10000
 IsOfPairView pair_views.Inputs = IsOfInputs 10000
 
 -- an answer that is lines, behind others
-abbrev pub verdict_behind : (lines : List ℕ) → Answer → Answer
-verdict_behind lines (Text more) = Text (lines ++ more)
-verdict_behind lines (Differs more) = Differs (lines ++ more)
-verdict_behind lines (Undecided more) = Undecided (lines ++ more)
-verdict_behind lines other = other
+abbrev pub answer_behind_lines : (lines : List ℕ) → Answer → Answer
+answer_behind_lines lines (Text more) = Text (lines ++ more)
+answer_behind_lines lines (Differs more) = Differs (lines ++ more)
+answer_behind_lines lines (Undecided more) = Undecided (lines ++ more)
+answer_behind_lines lines other = other
 
 -- the obligations of a certificate, and then the lines of `verify`, with its status
 pub record IsOfCertificate (a b : Fsmd) (nodes : List (Node Fact)) (answer : Answer) : Type 0 where
   pub verdict : Answer
   pub judged : IsJudged a b nodes verdict
-  pub told : answer ≡ verdict_behind (obligation_lines (machines a b) nodes) verdict
+  pub told : answer ≡ answer_behind_lines (obligation_lines (machines a b) nodes) verdict
+
+-- the trace of a run of at most so many steps from these inputs, and then the lines of `run`, with its status
+pub record IsOfTrace (limit : ℕ) (m : Fsmd) (ins : Given) (answer : Answer) : Type 0 where
+  pub lines : List ℕ
+  pub trace : IsTrace m ins limit lines
+  pub end : Answer
+  pub run : IsOfRun limit m ins end
+  pub told : answer ≡ answer_behind_lines lines end
 
 -- which answer follows for a view, from what was read of the files from a number on
 abbrev pub ShownFrom : View → (file : ℕ) → Reading → Answer → Type 0
@@ -63,3 +74,4 @@ ShownFrom Why = OpensPair (λ a b. Ends (IsOfWhy 10000 a b))
 ShownFrom Certificate = OpensPair (λ a b. OpensCertificate a b (λ nodes. Ends (IsOfCertificate a b nodes)))
 ShownFrom Inputs = OpensPair (λ a b. Ends (IsOfInputs 10000 a b))
 ShownFrom Pair = OpensPair (λ a b. Ends (IsOfPicture a b))
+ShownFrom (Trace steps) = OpensMachine (λ m. OpensInputs m (λ ins. Ends (IsOfTrace steps m ins)))

@@ -1,6 +1,7 @@
 //! What each view answers of machines and of certificates.
 
-ghost use Rattle.std.specs.Prelude.{◌≡◌, ◌++◌, IfOk, None, false, map};
+ghost use Rattle.std.specs.Prelude.{◌≡◌, ◌≤◌, ◌++◌, IfOk, None, false, map};
+ghost use Rattle.fs_stores.specs.InputValues.{inputs_of, signatures_of, Serves};
 ghost use Rattle.fs_pair.specs.Interfaces.{interface_fault};
 ghost use Rattle.fs_pair.specs.Positions.{positions};
 ghost use Rattle.cert_model.specs.Lawful.{IsLawful};
@@ -10,14 +11,16 @@ ghost use Rattle.search_tables.specs.SearchTables.{machines};
 ghost use Rattle.fsmd_replies.specs.ObstacleTexts.{outcome_text};
 ghost use Rattle.fsmd_replies.specs.declared.answer.Answer.TheVariants.{Differs, Undecided};
 ghost use Rattle.show_search_views.specs.Why.{answer_behind};
-ghost use Rattle.show_tool.specs.Views.{verdict_behind, IsOfPicture, IsOfWhy, IsOfInputs, IsOfCertificate};
+ghost use Rattle.show_tool.specs.Views.{answer_behind_lines, IsOfPicture, IsOfWhy, IsOfInputs, IsOfCertificate, IsOfTrace};
 
 use cert_model::cert::Cert;
 use fs_ast::machine::Machine;
 use fs_pair::positions::Pairing;
+use fs_stores::inputs::Inputs;
 use fsmd_answers::compare::compare;
 use fsmd_answers::judge::judge;
 use fsmd_answers::pair::Pair;
+use fsmd_answers::runs::run_machine;
 use fsmd_replies::answer::{Answer, Lines};
 use fsmd_replies::obstacles::obstacle_line;
 use fsmd_replies::reply::equivalent_text;
@@ -26,6 +29,7 @@ use show_inputs_text::differing::differing_inputs;
 use show_search_views::obligations::obligation_lines;
 use show_search_views::pictures::search_picture;
 use show_search_views::why::{PairAnswer, explain};
+use show_traces::traces::trace_text;
 use std::alloc::{AllocError, Global};
 
 // The most steps of a run from a candidate, where `check` is told none.
@@ -136,9 +140,9 @@ pub fn differing_machines(alloc: Global, pair: &Pair) -> Result<Answer, AllocErr
     }
 }
 
-// The verdict on a certificate behind lines.
-fn verdict_behind(lines: Vec<u8>, answer: Answer) -> Result<Answer, AllocError>
-    ensures { IfOk result (λ told. told ≡ verdict_behind lines.items answer) }
+// An answer that is lines, behind others.
+fn answer_behind_lines(lines: Vec<u8>, answer: Answer) -> Result<Answer, AllocError>
+    ensures { IfOk result (λ told. told ≡ answer_behind_lines lines.items answer) }
 {
     match answer {
         Answer::Text { lines: more } => Ok(Answer::Text {
@@ -169,7 +173,25 @@ pub fn certificate_of(
     ensures { IfOk result (IsOfCertificate a.now b.now (map node_of cert.now.nodes.items)) }
 {
     match obligation_lines(alloc, a, b, cert.nodes.as_slice()) {
-        Ok(lines) => verdict_behind(lines, judge(alloc, a, b, p, cert)?),
+        Ok(lines) => answer_behind_lines(lines, judge(alloc, a, b, p, cert)?),
+        Err(_) => Err(AllocError),
+    }
+}
+
+/// What `trace` answers: the trace of a machine's run of at most so many steps from inputs, and then what `run` says. The one
+/// refusal is out of memory.
+pub fn trace_machine(
+    alloc: Global,
+    machine: &Machine,
+    inputs: &Inputs,
+    steps: u64,
+) -> Result<Answer, AllocError>
+    requires steps { 1 ≤ steps }
+    requires inputs { Serves (signatures_of inputs.now) machine.now }
+    ensures { IfOk result (IsOfTrace steps machine.now (inputs_of inputs.now)) }
+{
+    match trace_text(alloc, machine, inputs, steps) {
+        Ok(lines) => answer_behind_lines(lines, run_machine(alloc, machine, inputs, steps)?),
         Err(_) => Err(AllocError),
     }
 }

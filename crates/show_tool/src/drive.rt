@@ -6,7 +6,7 @@ ghost use Rattle.fs_base.specs.Outside.{NoneFell};
 ghost use Rattle.fsmd_tool.specs.SinkReplies.{put_between};
 ghost use Rattle.fsmd_tool.specs.CertificateStores.{file_change, IsUnchangedStore};
 ghost use Rattle.fsmd_replies.specs.AskedFiles.{cert_of};
-ghost use Rattle.show_words.specs.ViewWords.{shown_view};
+ghost use Rattle.show_words.specs.ViewWords.{IsViewWithinLimits, shown_view};
 ghost use Rattle.show_tool.specs.ViewCalls.{shown_by_words, ViewOutcome, IsShown, PutsOf};
 
 use crate::put::put_usage;
@@ -27,7 +27,8 @@ fn put_reply_to<F: Files, S: Sink>(
     files: &mut F,
     out: &mut S,
 ) -> Result<Status, AllocError>
-    requires { cert_of (Some (shown_view show.now).asked) ≡ None }
+    requires certificate { cert_of (Some (shown_view show.now).asked) ≡ None }
+    requires limits { IsViewWithinLimits (shown_view show.now).view }
     ensures shown { IfOk result (λ status. IsShown (shown_view show.now) (F.told files.old) (F.told files.new)
         (put_between status (S.told out.old) (S.told out.new))) }
     ensures err { OnErr result ((S.told out.new).got ≡ (S.told out.old).got) }
@@ -62,9 +63,9 @@ fn put_reply<F: Files, S: Sink>(
 
 /// Shows what the words ask to see, and tells how it ended.
 ///
-/// The words are those after the program's name: a view, and the names of its files. Files are refused as `fsmd` refuses them,
-/// by the same replies and with the same statuses, and no file is changed. `NoMemory` comes where memory is refused, also where
-/// the sink has no room for the reply; then nothing was put.
+/// The words are those after the program's name: a view, the names of its files, and its option. Files are refused as `fsmd`
+/// refuses them, by the same replies and with the same statuses, and no file is changed. `NoMemory` comes where memory is
+/// refused, also where the sink has no room for the reply; then nothing was put.
 pub fn drive_show<F: Files, S: Sink>(
     alloc: Global,
     words: &[String],

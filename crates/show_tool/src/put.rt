@@ -12,7 +12,7 @@ use fsmd_tool::put::put_whole;
 use std::alloc::AllocError;
 
 const USAGE: &str =
-    "usage: fsmd_show machine A | pair A B | why A B | certificate A B C | inputs A B\n";
+    "usage: fsmd_show machine A | pair A B | why A B | certificate A B C | inputs A B | trace A I [--steps N]\n";
 
 /// Puts how the program is used, and gives `Usage`, or `Fault` where the sink failed.
 ///

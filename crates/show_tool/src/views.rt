@@ -1,17 +1,19 @@
 //! What each view answers, from its files.
 
-ghost use Rattle.std.specs.Prelude.{◌≡◌, None, Some, IfOk};
+ghost use Rattle.std.specs.Prelude.{◌≡◌, ◌≤◌, None, Some, IfOk};
 ghost use Rattle.fsmd_words.specs.AskedWords.{asked_of_ask};
 ghost use Rattle.fs_pair.specs.Interfaces.{interface_fault};
 ghost use Rattle.fs_pair.specs.Positions.{positions};
 ghost use Rattle.show_machine_pictures.specs.Pictures.{picture_of};
 ghost use Rattle.fsmd_replies.specs.declared.answer.Answer.TheVariants.{Text};
-ghost use Rattle.fsmd_answers.specs.Follows.{Ends, OpensPair, OpensMachine, OpensCertificate};
+ghost use Rattle.fsmd_answers.specs.Follows.{Ends, OpensPair, OpensMachine, OpensInputs, OpensCertificate};
 ghost use Rattle.fsmd_tool.specs.Calls.{call, OnlyRead, IsCorrectFrom, AnswersBy};
-ghost use Rattle.show_words.specs.ViewWords.{shown_view};
-ghost use Rattle.show_tool.specs.Views.{IsOfPairView, IsOfCertificate, ShownFrom};
+ghost use Rattle.show_words.specs.ViewWords.{IsViewWithinLimits, shown_view};
+ghost use Rattle.show_tool.specs.Views.{IsOfPairView, IsOfCertificate, IsOfTrace, ShownFrom};
 
-use crate::answers::{certificate_of, differing_machines, picture_machines, why_machines};
+use crate::answers::{
+    certificate_of, differing_machines, picture_machines, trace_machine, why_machines,
+};
 use fs_ast::machine::Machine;
 use fs_base::outside::Files;
 use fs_pair::positions::Pairing;
@@ -19,7 +21,7 @@ use fsmd_answers::pair::Pair;
 use fsmd_answers::reading::Loaded;
 use fsmd_answers::refused::{Refused, made_answer};
 use fsmd_replies::answer::{Answer, Lines, Operand};
-use fsmd_tool::load::{load, load_certificate, load_pair};
+use fsmd_tool::load::{load, load_certificate, load_inputs, load_pair};
 use fsmd_words::asking::Ask;
 use show_machine_pictures::pictures::picture_of;
 use show_words::asking::{Show, View};
@@ -110,8 +112,42 @@ fn show_certificate<F: Files>(alloc: Global, ask: &Ask, files: &mut F) -> Result
     show_certificate_of(alloc, ask, &left, &right, &pairing, files)
 }
 
+// What the trace of a machine answers to the file of its inputs.
+fn show_trace_of<F: Files>(
+    alloc: Global,
+    ask: &Ask,
+    machine: &Machine,
+    steps: u64,
+    files: &mut F,
+) -> Result<Answer, Refused>
+    requires { 1 ≤ steps }
+    ensures answers { AnswersBy (IsCorrectFrom (OpensInputs machine.now (λ ins. Ends (IsOfTrace steps machine.now ins))) 1
+        (call (Some (asked_of_ask ask.now)) (F.told files.old) (F.told files.new))) result }
+    ensures only_read { OnlyRead (F.told files.old) (F.told files.new) }
+{
+    let inputs = load_inputs(alloc, Operand(1), ask, machine, files)?;
+    made_answer(trace_machine(alloc, machine, &inputs, steps))
+}
+
+// What `trace` answers.
+fn show_trace<F: Files>(
+    alloc: Global,
+    steps: u64,
+    ask: &Ask,
+    files: &mut F,
+) -> Result<Answer, Refused>
+    requires { 1 ≤ steps }
+    ensures answers { AnswersBy (IsCorrectFrom (OpensMachine (λ m. OpensInputs m (λ ins. Ends (IsOfTrace steps m ins)))) 0
+        (call (Some (asked_of_ask ask.now)) (F.told files.old) (F.told files.new))) result }
+    ensures only_read { OnlyRead (F.told files.old) (F.told files.new) }
+{
+    let Loaded { machine, .. } = load(alloc, Operand(0), ask, files)?;
+    show_trace_of(alloc, ask, &machine, steps, files)
+}
+
 /// What a view answers.
 pub fn answer_view<F: Files>(alloc: Global, show: &Show, files: &mut F) -> Result<Answer, Refused>
+    requires { IsViewWithinLimits (shown_view show.now).view }
     ensures answers { AnswersBy (IsCorrectFrom (ShownFrom (shown_view show.now).view) 0
         (call (Some (shown_view show.now).asked) (F.told files.old) (F.told files.new))) result }
     ensures only_read { OnlyRead (F.told files.old) (F.told files.new) }
@@ -122,5 +158,6 @@ pub fn answer_view<F: Files>(alloc: Global, show: &Show, files: &mut F) -> Resul
         View::Why => show_pair(alloc, PairView::Why, &show.ask, files),
         View::Certificate => show_certificate(alloc, &show.ask, files),
         View::Inputs => show_pair(alloc, PairView::Inputs, &show.ask, files),
+        View::Trace { steps } => show_trace(alloc, steps, &show.ask, files),
     }
 }

@@ -1,1 +1,2 @@
+mod Limits
 pub mod Named

@@ -18,7 +18,7 @@ abbrev IsCommand : Shape → Type 0
 IsCommand s = (rows : List Row) → is_some (shown_by s.name rows) ≡ true
 
 are_commands : Each IsCommand (built view_command_line).subs
-are_commands = ((λ rows. refl), ((λ rows. refl), ((λ rows. refl), ((λ rows. refl), ((λ rows. refl), tt)))))
+are_commands = ((λ rows. refl), ((λ rows. refl), ((λ rows. refl), ((λ rows. refl), ((λ rows. refl), ((λ rows. refl), tt))))))
 
 found_asks :
     (o : Option Shape) (words : List Text) → IfSome o IsCommand → is_some (option_map (λ s. rows_at s words) o) ≡ true

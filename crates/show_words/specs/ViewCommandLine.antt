@@ -2,6 +2,7 @@
 use Rattle.std.specs.Prelude.{List, [], ◌∷◌, true, false, codes}
 use Rattle.clap.specs.Words.{App, Rule, Shape, Text, new_rule}
 use Rattle.clap.specs.Simple.{new_shape}
+use Rattle.fsmd_command_line.specs.CommandLine.{steps_option}
 
 -- a word that has to be there
 abbrev pub view_file_word : Text → Rule
@@ -27,6 +28,11 @@ abbrev pub certificate_command : Shape
 certificate_command = view_command_with (codes "certificate")
     (view_file_word (codes "left") ∷ view_file_word (codes "right") ∷ view_file_word (codes "certificate") ∷ [])
 
+-- `trace A I [--steps N]`
+abbrev pub trace_command : Shape
+trace_command = view_command_with (codes "trace")
+    (view_file_word (codes "machine") ∷ view_file_word (codes "inputs") ∷ steps_option ∷ [])
+
 -- before its commands are added: the words are those after the program's name, and one of the commands has to be there
 abbrev pub view_program_alone : Shape
 view_program_alone = record (new_shape (codes "fsmd_show")) {
@@ -40,5 +46,5 @@ abbrev pub view_command_line : App
 view_command_line = record {
   top = record view_program_alone { is_leaf = false };
   subs = machine_command ∷ pair_command (codes "pair") ∷ pair_command (codes "why") ∷ certificate_command ∷ pair_command
-      (codes "inputs") ∷ [];
+      (codes "inputs") ∷ trace_command ∷ [];
 }

@@ -1,10 +1,10 @@
 -- What words ask to see, by the matches that clap defines for them.
-use Rattle.std.specs.Prelude.{◌≡◌, List, [], ◌∷◌, Option, Some, None, codes, option_and_then, if◌then◌else◌}
+use Rattle.std.specs.Prelude.{◌≡◌, ◌≤◌, List, [], ◌∷◌, Option, Some, None, ⊤, codes, option_and_then, if◌then◌else◌}
 use Rattle.std.specs.Str.{bytes_eq}
 use Rattle.clap.specs.Words.{Kinds, Row, Text, subcommand_of, fault_of}
-use Rattle.fsmd_words.specs.AskedWords.{Asked, Check, Verify, Fmt, asked_of_ask, match_word}
+use Rattle.fsmd_words.specs.AskedWords.{Asked, Check, Verify, Fmt, asked_of_ask, match_word, step_limit_of, run_of}
 use Rattle.show_words.specs.declared.asking.View.{View}
-use Rattle.show_words.specs.declared.asking.View.TheVariants.{Machine, Pair, Why, Certificate, Inputs}
+use Rattle.show_words.specs.declared.asking.View.TheVariants.{Machine, Pair, Why, Certificate, Inputs, Trace}
 use Rattle.show_words.specs.declared.asking.Show.{Show}
 use Rattle.show_words.specs.ViewCommandLine.{view_command_line}
 
@@ -34,6 +34,9 @@ certificate_of rows = record {
       (match_word (codes "certificate") rows);
 }
 
+abbrev pub trace_view_of : List Row → ShownView
+trace_view_of rows = record { view = Trace (step_limit_of rows); asked = run_of rows }
+
 abbrev pub shown_by : Text → List Row → Option ShownView
 shown_by name rows =
     if bytes_eq name (codes "machine") then Some (machine_view_of rows)
@@ -41,7 +44,8 @@ shown_by name rows =
     else (if bytes_eq name (codes "why") then Some (pair_view_of Why rows)
     else (if bytes_eq name (codes "certificate") then Some (certificate_of rows)
     else (if bytes_eq name (codes "inputs") then Some (pair_view_of Inputs rows)
-    else None))))
+    else (if bytes_eq name (codes "trace") then Some (trace_view_of rows)
+    else None)))))
 
 -- what a command and its matches ask to see
 abbrev pub shown_in : Option (Text × List Row) → Option ShownView
@@ -65,3 +69,8 @@ where_taken (kind ∷ kinds) what = None
 -- what words ask to see, and nothing where clap refuses them
 unfoldable pub shown_of : List Text → Option ShownView
 shown_of words = where_taken (fault_of view_command_line words) (matched_view_of words)
+
+-- steps are from 1 to 100,000
+abbrev pub IsViewWithinLimits : View → Type 0
+IsViewWithinLimits (Trace steps) = (1 ≤ steps) × (steps ≤ 100000)
+IsViewWithinLimits _ = ⊤

@@ -15,6 +15,8 @@ pub enum View {
     Certificate,
     /// `inputs A B`: the file of inputs that show a difference.
     Inputs,
+    /// `trace A I [--steps N]`: a run of a machine on inputs, step by step, of at most so many steps.
+    Trace { steps: u64 },
 }
 
 /// A view, and what `fsmd` is asked of the same files.

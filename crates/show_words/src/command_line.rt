@@ -6,11 +6,11 @@ ghost use Rattle.show_words.specs.ViewCommandLine.{view_command_line};
 
 use clap::Command;
 use fsmd_command_line::building::command_line_of;
-use fsmd_command_line::subcommands::Argument::File;
+use fsmd_command_line::subcommands::Argument::{File, Steps};
 use fsmd_command_line::subcommands::Subcommand;
 use std::alloc::{AllocError, Global};
 
-const COMMANDS: [Subcommand<'static>; 5] = [
+const COMMANDS: [Subcommand<'static>; 6] = [
     Subcommand {
         name: "machine",
         arguments: &[File("machine")],
@@ -30,6 +30,10 @@ const COMMANDS: [Subcommand<'static>; 5] = [
     Subcommand {
         name: "inputs",
         arguments: &[File("left"), File("right")],
+    },
+    Subcommand {
+        name: "trace",
+        arguments: &[File("machine"), File("inputs"), Steps],
     },
 ];
 

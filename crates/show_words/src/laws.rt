@@ -2,7 +2,7 @@
 
 ghost use Rattle.std.specs.Prelude.{List, IsSome};
 ghost use Rattle.clap.specs.Words.{Text};
-ghost use Rattle.show_words.specs.ViewExamples.{PlainWordsAreViewFiles, RefusedViewExamples};
+ghost use Rattle.show_words.specs.ViewExamples.{PlainWordsAreViewFiles, TakenViewExamples, RefusedViewExamples};
 ghost use Rattle.show_words.specs.ViewWords.{AreTakenAsView, shown_of};
 
 /// Words ask to see something exactly where they are taken.
@@ -14,6 +14,11 @@ pub fn taken_words_show()
 /// Words that begin with no hyphen are the files of a view, in their order.
 pub fn plain_words_are_files()
     ensures { PlainWordsAreViewFiles }
+{}
+
+/// Examples of words with an option, and what they ask to see.
+pub fn examples_are_taken()
+    ensures { TakenViewExamples }
 {}
 
 /// Examples of words that are refused, and why.

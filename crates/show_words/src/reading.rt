@@ -3,12 +3,13 @@
 ghost use Rattle.std.specs.Prelude.{◌≡◌, IfOk, IfErr, Option, Some, None};
 ghost use Rattle.clap.specs.Words.{found_of, rows_of};
 ghost use Rattle.fsmd_words.specs.declared.asking.AskError.TheVariants.{Usage};
-ghost use Rattle.show_words.specs.ViewWords.{ShownView, certificate_of, machine_view_of, pair_view_of, shown_view, shown_by};
+ghost use Rattle.show_words.specs.ViewWords.{ShownView, certificate_of, machine_view_of, pair_view_of, trace_view_of};
+ghost use Rattle.show_words.specs.ViewWords.{shown_view, shown_by};
 
 use crate::asking::{Show, View};
 use clap::ArgMatches;
 use fsmd_words::asking::{Ask, AskError};
-use fsmd_words::matched::{two_words, word};
+use fsmd_words::matched::{steps, two_words, word};
 use std::alloc::{AllocError, Global};
 
 fn machine(alloc: Global, found: &ArgMatches) -> Result<Show, AllocError>
@@ -49,6 +50,21 @@ fn certificate(alloc: Global, found: &ArgMatches) -> Result<Show, AllocError>
     })
 }
 
+fn trace(alloc: Global, found: &ArgMatches) -> Result<Show, AllocError>
+    ensures { IfOk result (λ show. shown_view show ≡ trace_view_of (rows_of (found_of found.now))) }
+{
+    let (machine, inputs) = two_words(alloc, found, "machine", "inputs")?;
+    let steps = steps(found);
+    Ok(Show {
+        view: View::Trace { steps },
+        ask: Ask::Run {
+            machine,
+            inputs,
+            steps,
+        },
+    })
+}
+
 // What is asked to be shown, with the refusal of memory as an error of words, so that the caller returns early with
 // nothing in its hands.
 fn show_or_refusal(show: Result<Show, AllocError>) -> Result<Show, AskError>
@@ -69,6 +85,7 @@ pub fn read(alloc: Global, name: &str, found: &ArgMatches) -> Result<Show, AskEr
         "why" => show_or_refusal(pair(alloc, View::Why, found)),
         "certificate" => show_or_refusal(certificate(alloc, found)),
         "inputs" => show_or_refusal(pair(alloc, View::Inputs, found)),
+        "trace" => show_or_refusal(trace(alloc, found)),
         _ => Err(AskError::Usage),
     }
 }

@@ -6,8 +6,8 @@ use Rattle.show_tool.specs.ViewCalls.{PutsOf}
 use Rattle.show_tool.proofs.Putting.{to_words, no_certificate}
 use Rattle.show_tool.proofs.drive.put_reply.Goals as goal
 
-pub put_reply_to-requires : goal.put_reply_to-requires
-put_reply_to-requires g c = no_certificate (map string_bytes c.args.words.now) _ c.in-Ok.ensures.ok
+pub put_reply_to-requires-clause-certificate : goal.put_reply_to-requires-clause-certificate
+put_reply_to-requires-clause-certificate g c = no_certificate (map string_bytes c.args.words.now) _ c.in-Ok.ensures.ok
 
 pub returns-in-Ok-clause-shown : goal.returns-in-Ok-clause-shown
 returns-in-Ok-clause-shown g c =

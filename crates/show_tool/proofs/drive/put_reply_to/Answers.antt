@@ -11,7 +11,7 @@ pub returns-clause-shown : goal.returns-clause-shown
 returns-clause-shown g c =
     shown (words.shown_view c.args.show.now) (g.F.Files.told c.args.files.now) (g.F.Files.told c.answer_view.new.files)
     (g.F.Files.told c.put_answer.new.files) c.in_ok-answer.answer c.put_answer.result
-    (λ s. put_between s (g.S.Sink.told c.args.out.now) (g.S.Sink.told c.put_answer.new.out)) c.requires c.answer_view.ensures.only_read
+    (λ s. put_between s (g.S.Sink.told c.args.out.now) (g.S.Sink.told c.put_answer.new.out)) c.requires.certificate c.answer_view.ensures.only_read
     c.put_answer.ensures.counts
     (in_answer
     (IsCorrectFrom (ShownFrom (words.shown_view c.args.show.now).view) 0
@@ -21,4 +21,4 @@ returns-clause-shown g c =
 pub returns-clause-kept : goal.returns-clause-kept
 returns-clause-kept g c =
     kept (words.shown_view c.args.show.now) (g.F.Files.told c.args.files.now) (g.F.Files.told c.answer_view.new.files)
-    (g.F.Files.told c.put_answer.new.files) c.in_ok-answer.answer c.requires c.answer_view.ensures.only_read c.put_answer.ensures.leaves
+    (g.F.Files.told c.put_answer.new.files) c.in_ok-answer.answer c.requires.certificate c.answer_view.ensures.only_read c.put_answer.ensures.leaves

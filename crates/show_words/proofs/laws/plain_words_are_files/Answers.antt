@@ -22,4 +22,5 @@ returns c = record {
     no_short d r,
   ) (refl, refl);
   inputs = λ a b p q. rw (no_hyphens a p, no_long a p, no_short a p, no_hyphens b q, no_long b q, no_short b q) (refl, refl);
+  trace = λ a b p q. rw (no_hyphens a p, no_long a p, no_short a p, no_hyphens b q, no_long b q, no_short b q) (refl, refl);
 }

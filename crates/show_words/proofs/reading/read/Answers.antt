@@ -14,3 +14,6 @@ returns-in-certificate-clause-ok c = rw c.in-certificate.is (c.show_or_refusal-i
 
 pub returns-in-inputs-clause-ok : goal.returns-in-inputs-clause-ok
 returns-in-inputs-clause-ok c = rw c.in-inputs.is (c.show_or_refusal-in-inputs.ensures.ok _ c.pair-in-inputs.ensures)
+
+pub returns-in-trace-clause-ok : goal.returns-in-trace-clause-ok
+returns-in-trace-clause-ok c = rw c.in-trace.is (c.show_or_refusal-in-trace.ensures.ok _ c.trace.ensures)

@@ -2,6 +2,7 @@ use Rattle.std.proofs.Common.{◌≡◌, ◌∙◌, rules, ap, sym, subst, map, 
 use Rattle.std.proofs.lemmas.Result.{IfOk-weaker, IfErr-weaker}
 use Rattle.clap.specs.Words.{App, Kinds, HasKind, fault_of, found_of, kind_of, is_simple, is_simple_and_free, rows_of, subcommand_of}
 use Rattle.clap.specs.declared.error.kind.ErrorKind.TheVariants.{OutOfMemory}
+use Rattle.show_words.proofs.Limits.{view_within}
 use Rattle.show_words.proofs.Named.{not_taken, refused_asks, sub_asks, taken_asks}
 use Rattle.show_words.proofs.words.show.Goals as goal
 
@@ -13,6 +14,10 @@ returns-in-Some-clause-ok c =
     let asks = sub_asks c.in-Ok.matches words c.in-Some.name.now (rows_of (found_of c.in-Some.found.now)) c.in-Some.ensures.name c.in-Some.ensures.rows same in
     let passes = ap (λ (a : App). fault_of a words) (sym line) ∙ c.in-Ok.ensures.kinds (ap is_simple_and_free line) in
     IfOk-weaker c.read.result _ _ (λ ask e. taken_asks words passes ∙ sym asks ∙ e) c.read.ensures.ok
+
+pub returns-in-Some-clause-limits : goal.returns-in-Some-clause-limits
+returns-in-Some-clause-limits c =
+    IfOk-weaker c.read.result _ _ (λ ask e. view_within c.in-Some.name.now (rows_of (found_of c.in-Some.found.now)) _ e) c.read.ensures.ok
 
 pub returns-in-Some-clause-none : goal.returns-in-Some-clause-none
 returns-in-Some-clause-none c =
