@@ -1,7 +1,7 @@
 -- Which answer each view gives.
 use Rattle.std.specs.Prelude.{◌≡◌, ℕ, false, List, ◌++◌}
 use Rattle.fs_model.specs.Machines.{Fsmd}
-use Rattle.fs_model.specs.Runs.{Inputs as Given}
+use Rattle.fs_model.specs.Runs.{Inputs as RunInputs}
 use Rattle.cert_bisimulation.specs.Tables.{Node}
 use Rattle.sym_facts.specs.Facts.{Fact}
 use Rattle.search_tables.specs.SearchTables.{machines}
@@ -60,7 +60,7 @@ pub record IsOfCertificate (a b : Fsmd) (nodes : List (Node Fact)) (answer : Ans
   pub told : answer ≡ answer_behind_lines (obligation_lines (machines a b) nodes) verdict
 
 -- the trace of a run of at most so many steps from these inputs, and then the lines of `run`, with its status
-pub record IsOfTrace (limit : ℕ) (m : Fsmd) (ins : Given) (answer : Answer) : Type 0 where
+pub record IsOfTrace (limit : ℕ) (m : Fsmd) (ins : RunInputs) (answer : Answer) : Type 0 where
   pub lines : List ℕ
   pub trace : IsTrace m ins limit lines
   pub end : Answer
