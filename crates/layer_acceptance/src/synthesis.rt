@@ -1,7 +1,7 @@
 //! Basic blocks, their rows, unit counts, blocks in blocks and chains.
 
+mod blocks;
 mod chains;
 mod counts;
-mod lines;
 mod nested;
 mod plans;

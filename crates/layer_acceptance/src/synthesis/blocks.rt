@@ -1,28 +1,28 @@
-//! The lines of machines.
+//! The basic blocks of machines.
 
 use crate::machines::reading::machine;
 use crate::machines::samples::SOLVER;
 use fs_ast::machine::Machine;
 use fs_model::parts::StateId;
 use hls_sched::arrivals::count_arrivals;
-use hls_sched::lines::{Line, firsts, is_in_block, item, trace_line};
+use hls_sched::blocks::{Block, firsts, is_in_block, item, trace_block};
 use std::alloc::Global;
 
-// Whether a line has the states of a text, and leads where that says, as `4 5 to 0`.
-fn is_line(line: &Line, text: &str) -> bool {
+// Whether a block has the states of a text, and leads where that says, as `4 5 to 0`.
+fn is_block(block: &Block, text: &str) -> bool {
     let (states, exit) = text.split_once(" to ").unwrap_or((text, ""));
     let mut words = states.split(' ');
-    for state in line.states.as_slice() {
+    for state in block.states.as_slice() {
         let word = words.next().unwrap_or("");
         if word.parse::<u32>().ok() != Some(state.0) {
             return false;
         }
     }
-    words.next().is_none() && exit.parse::<u32>().ok() == Some(line.exit.0)
+    words.next().is_none() && exit.parse::<u32>().ok() == Some(block.exit.0)
 }
 
-// Whether the lines of a machine, in order, are those of a text.
-fn has_lines(alloc: Global, m: &Machine, text: &str) -> bool {
+// Whether the blocks of a machine, in order, are those of a text.
+fn has_blocks(alloc: Global, m: &Machine, text: &str) -> bool {
     let Ok(arrivals) = count_arrivals(alloc, m) else {
         return false;
     };
@@ -31,10 +31,10 @@ fn has_lines(alloc: Global, m: &Machine, text: &str) -> bool {
     };
     let mut wanted = text.split("; ");
     for start in starts.as_slice() {
-        let Ok(line) = trace_line(alloc, m, arrivals.as_slice(), *start) else {
+        let Ok(block) = trace_block(alloc, m, arrivals.as_slice(), *start) else {
             return false;
         };
-        if !is_line(&line, wanted.next().unwrap_or("")) {
+        if !is_block(&block, wanted.next().unwrap_or("")) {
             return false;
         }
     }
@@ -52,7 +52,7 @@ fn assignment_count(text: &str, state: u32) -> Option<usize> {
     None
 }
 
-// Whether the states of a machine that stand in lines are those of a text, each with how many assignments it makes.
+// Whether the states of a machine that stand in blocks are those of a text, each with how many assignments it makes.
 fn has_states(m: &Machine, text: &str) -> bool {
     for q in 0..m.state_count() {
         let count = assignment_count(text, q);
@@ -68,7 +68,7 @@ fn has_states(m: &Machine, text: &str) -> bool {
     true
 }
 
-// Two branches meet in a state that no line leads into, since two states lead to it.
+// Two branches meet in a state that no block leads into, since two states lead to it.
 const MEETING: &str = "fsmd 1; input a; output x; reset s0;
 state s0: goto s1;
 state s1: when a < 0 goto s2; goto s3;
@@ -77,7 +77,7 @@ state s3: goto s4: x = 2;
 state s4: goto s5: x = x + 1;
 state s5: goto s0: x = x + 1;";
 
-// A line goes against the order of the states.
+// A block goes against the order of the states.
 const BACKWARDS: &str = "fsmd 1; output x; reset s0;
 state s0: goto s3;
 state s1: goto s0: x = x + 3;
@@ -93,15 +93,15 @@ state s3: goto s2;";
 
 const ALONE: &str = "fsmd 1; output x; reset s0; state s0: goto s0: x = 1;";
 
-// Whether the machine of a text has these lines, and these states stand in them.
-fn leads(alloc: Global, text: &str, lines: &str, states: &str) -> bool {
+// Whether the machine of a text has these blocks, and these states stand in them.
+fn leads(alloc: Global, text: &str, blocks: &str, states: &str) -> bool {
     match machine(alloc, text) {
-        Ok(machine) => has_lines(alloc, &machine, lines) && has_states(&machine, states),
+        Ok(machine) => has_blocks(alloc, &machine, blocks) && has_states(&machine, states),
         Err(_) => false,
     }
 }
 
-// Texts of machines, their lines and the states that stand in them.
+// Texts of machines, their blocks and the states that stand in them.
 static MACHINES: [(&str, &str, &str); 5] = [
     (
         SOLVER,
@@ -119,8 +119,8 @@ static MACHINES: [(&str, &str, &str); 5] = [
 ];
 
 #[test]
-fn lines_of_machines(rt: HostRuntime) {
-    for (text, lines, states) in &MACHINES {
-        assert!(rt; leads(rt.alloc(), text, lines, states), "{text}");
+fn blocks_of_machines(rt: HostRuntime) {
+    for (text, blocks, states) in &MACHINES {
+        assert!(rt; leads(rt.alloc(), text, blocks, states), "{text}");
     }
 }
