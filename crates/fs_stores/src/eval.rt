@@ -1,6 +1,6 @@
 //! Values of expressions within 128 bits.
 
-ghost use Rattle.std.specs.Prelude.{◌≡◌, slice_get, FitsSigned};
+ghost use Rattle.std.specs.Prelude.{◌≡◌, IfSome, slice_get, FitsSigned};
 ghost use Rattle.std.specs.Int.{w128};
 ghost use Rattle.std.specs.Option.{SomeIff};
 ghost use Rattle.fs_model.specs.Meaning.{value};
@@ -9,6 +9,7 @@ ghost use Rattle.fs_stores.specs.Values.{value_number, entry_in, store_from};
 ghost use Rattle.fs_stores.specs.Reads.{EachFits};
 ghost use Rattle.fs_stores.specs.Operations.{operation_value};
 
+use crate::arithmetic::product;
 use crate::values::Value;
 use base_laws::{quotient, remainder};
 use fs_model::parts::{Expr, VarId};
@@ -42,10 +43,23 @@ fn combine(e: &Expr<VarId>, left: i128, right: i128) -> Option<i128>
     match e {
         Expr::Add(..) => left.checked_add(right),
         Expr::Sub(..) => left.checked_sub(right),
-        Expr::Mul(..) => left.checked_mul(right),
+        Expr::Mul(..) => product(left, right),
         Expr::Div(..) => quotient(left, right),
         Expr::Rem(..) => Some(remainder(left, right)),
         Expr::Num(_) | Expr::Var(_) | Expr::Read(..) | Expr::Neg(_) => Some(0),
+    }
+}
+
+// The value of a number or a scalar, and `None` where an expression is another.
+fn leaf_value(e: &Expr<VarId>, values: &[Value]) -> Option<i128>
+    ensures { IfSome result (λ n. EachFits (expression_of e.now) (store_from values.now)
+        × (n ≡ value (expression_of e.now) (store_from values.now))) }
+{
+    match e {
+        Expr::Num(n) => Some(*n),
+        Expr::Var(x) => Some(number(values, *x)),
+        Expr::Read(..) | Expr::Neg(_) => None,
+        Expr::Add(..) | Expr::Sub(..) | Expr::Mul(..) | Expr::Div(..) | Expr::Rem(..) => None,
     }
 }
 
@@ -54,20 +68,45 @@ pub fn value_of(e: &Expr<VarId>, values: &[Value]) -> Option<i128>
     ensures { SomeIff result (EachFits (expression_of e.now) (store_from values.now))
         (value (expression_of e.now) (store_from values.now)) }
 {
+    match leaf_value(e, values) {
+        Some(n) => Some(n),
+        None => tree_value(e, values),
+    }
+}
+
+// The same of an operand. It stands in place of its calls, so that a number or a scalar takes none.
+#[cycle(value)]
+#[inline(always)]
+fn operand_value(e: &Expr<VarId>, values: &[Value]) -> Option<i128>
+    ensures { SomeIff result (EachFits (expression_of e.now) (store_from values.now))
+        (value (expression_of e.now) (store_from values.now)) }
+{
+    match leaf_value(e, values) {
+        Some(n) => Some(n),
+        None => tree_value(e, values),
+    }
+}
+
+// The same of a tree.
+#[cycle(value)]
+fn tree_value(e: &Expr<VarId>, values: &[Value]) -> Option<i128>
+    ensures { SomeIff result (EachFits (expression_of e.now) (store_from values.now))
+        (value (expression_of e.now) (store_from values.now)) }
+{
     match e {
         Expr::Num(n) => Some(*n),
         Expr::Var(x) => Some(number(values, *x)),
         Expr::Read(x, i) => {
-            let at = value_of(i, values)?;
+            let at = operand_value(i, values)?;
             Some(element(values, *x, at))
         }
         Expr::Add(a, b) | Expr::Sub(a, b) | Expr::Mul(a, b) | Expr::Div(a, b) | Expr::Rem(a, b) => {
-            let left = value_of(a, values)?;
-            let right = value_of(b, values)?;
+            let left = operand_value(a, values)?;
+            let right = operand_value(b, values)?;
             combine(e, left, right)
         }
         Expr::Neg(a) => {
-            let inner = value_of(a, values)?;
+            let inner = operand_value(a, values)?;
             inner.checked_neg()
         }
     }

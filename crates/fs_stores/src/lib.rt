@@ -8,6 +8,7 @@
 //! - listing (of an array): its entries that are not 0, by rising index
 #![tactic(auto)]
 
+mod arithmetic;
 pub mod branches;
 pub mod changes;
 mod eval;
