@@ -8,7 +8,7 @@ ghost use Rattle.fs_stores.specs.InputValues.{inputs_of, signatures_of, Serves};
 ghost use Rattle.fs_runs.specs.Outcomes.{output_names, outs_of, told_by, HoldsEach, IsStopped};
 ghost use Rattle.std.specs.Result.{OnOk};
 
-use crate::step::step;
+use crate::step::step_with;
 use fs_ast::machine::Machine;
 use fs_model::parts::{StateId, VarInfo};
 use fs_stores::changes::StepStop;
@@ -70,9 +70,10 @@ fn run_from(alloc: Global, m: &Machine, store: &mut Store, limit: u64) -> Result
         → IfOk result (λ e. StaysInRange m.now e.steps m.now.reset (start m.now ins)) }
     ensures stopped { (ins : Given) → store_of store.old ≡ start m.now ins → IfErr result (λ e. IsStopped m.now ins limit e) }
 {
+    let mut changes = Vec::new(alloc);
     let mut at = m.reset();
     for done in 0..limit {
-        match step(alloc, m, store, at) {
+        match step_with(&mut changes, m, store, at) {
             Ok(next) => at = next,
             Err(StepStop::PastWide) => return Err(RunStop::PastWide { step: done + 1 }),
             Err(StepStop::NoMemory) => return Err(RunStop::NoMemory),

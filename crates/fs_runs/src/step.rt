@@ -10,7 +10,7 @@ ghost use Rattle.fs_stores.specs.Changes.{PastOnly};
 use fs_ast::machine::Machine;
 use fs_model::parts::StateId;
 use fs_stores::branches::taken_branch;
-use fs_stores::changes::{StepStop, change_all, changes_of};
+use fs_stores::changes::{Change, StepStop, assign_all};
 use fs_stores::store::Store;
 use std::alloc::Global;
 
@@ -30,12 +30,35 @@ pub fn step(alloc: Global, m: &Machine, store: &mut Store, s: StateId) -> Result
     ensures unchanged { OnErr result (store_of store.new ≡ store_of store.old) }
     ensures kept { IsStoreOf m.now store.new }
 {
+    let mut changes = Vec::new(alloc);
+    step_with(&mut changes, m, store, s)
+}
+
+// The same; `changes` lends its memory.
+pub(crate) fn step_with(
+    changes: &mut Vec<Change>,
+    m: &Machine,
+    store: &mut Store,
+    s: StateId,
+) -> Result<StateId, StepStop>
+    requires state { s.0 < length m.now.states }
+    requires store { IsStoreOf m.now store.old }
+    ensures step { IfOk result (λ r. Step m.now s.0 (store_of store.old) r.0 (store_of store.new)) }
+    ensures target { IfOk result (λ r. r.0 < length m.now.states) }
+    ensures in_range { OnOk result (AllInRange (touched_by_step m.now s.0 (store_of store.old))) }
+    ensures past { IfErr result (λ e. PastOnly e (¬ AllInRange (touched_by_step m.now s.0 (store_of store.old)))) }
+    ensures unchanged { OnErr result (store_of store.new ≡ store_of store.old) }
+    ensures kept { IsStoreOf m.now store.new }
+{
     let Some(branch) = taken_branch(m.branches(s), store.values.as_slice()) else {
         return Err(StepStop::PastWide);
     };
-    let changes = changes_of(alloc, branch.assigns.as_slice(), store.values.as_slice())?;
-    match change_all(store.values.as_mut_slice(), changes.as_slice()) {
+    match assign_all(
+        changes,
+        branch.assigns.as_slice(),
+        store.values.as_mut_slice(),
+    ) {
         Ok(()) => Ok(branch.target),
-        Err(_) => Err(StepStop::NoMemory),
+        Err(stop) => Err(stop),
     }
 }

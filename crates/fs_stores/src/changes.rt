@@ -1,6 +1,6 @@
 //! The changes of a step: valued in the store before it, then made in order, or none of them.
 
-ghost use Rattle.std.specs.Prelude.{◌≡◌, ◌++◌, ◌∷◌, [], true, ℕ, suc, IsTrue, map, IfOk, IfErr, Some};
+ghost use Rattle.std.specs.Prelude.{◌≡◌, ◌++◌, ◌∷◌, [], true, ℕ, suc, IsTrue, map, IfOk, IfErr, IfSome, Some};
 ghost use Rattle.std.specs.Option.{SomeIff};
 ghost use Rattle.std.specs.Result.{OnOk, OnErr};
 ghost use Rattle.fs_model.specs.View.{assignment_of};
@@ -15,7 +15,6 @@ use crate::eval::value_of;
 use crate::memory::NoMemory;
 use crate::values::Value;
 use fs_model::parts::{Assign, VarId};
-use std::alloc::Global;
 
 /// Why a step is not taken.
 #[derive(Clone, Copy)]
@@ -55,25 +54,97 @@ fn change_of(assign: &Assign<VarId>, values: &[Value]) -> Option<Change>
     }
 }
 
-/// What assignments change, all valued before any change is made. `PastWide` where a number of any of them lies outside
-/// 128 bits; `NoMemory` may come at any time.
-pub fn changes_of(
-    alloc: Global,
+/// Makes assignments, all valued in the store before any change is made; `changes` lends its memory. `PastWide` comes exactly
+/// where a number of any of them lies outside 128 bits; `NoMemory` may come at any time. After an error the values are as
+/// before.
+pub fn assign_all(
+    changes: &mut Vec<Change>,
+    assigns: &[Assign<VarId>],
+    values: &mut [Value],
+) -> Result<(), StepStop>
+    requires { AllSuit values.old (map (change_by (store_from values.old)) (map assignment_of assigns.now)) }
+    ensures changed { OnOk result (store_from values.new
+        ≡ changed_all (store_from values.old) (map (change_by (store_from values.old)) (map assignment_of assigns.now))) }
+    ensures fit { OnOk result (AssignmentsFit (store_from values.old) (map assignment_of assigns.now)) }
+    ensures past { IfErr result (λ e. PastOnly e (¬ AssignmentsFit (store_from values.old) (map assignment_of assigns.now))) }
+    ensures unchanged { OnErr result (store_from values.new ≡ store_from values.old) }
+    ensures sorts { map sort_of values.new ≡ map sort_of values.old }
+{
+    match only(assigns) {
+        Some(assign) => assign_one(assign, values),
+        None => assign_each(changes, assigns, values),
+    }
+}
+
+// The only assignment, and `None` where there may be more or none.
+fn only(assigns: &[Assign<VarId>]) -> Option<&Assign<VarId>>
+    ensures { IfSome result (λ assign. assigns.now ≡ assign.now ∷ []) }
+{
+    match assigns {
+        [assign] => Some(assign),
+        _ => None,
+    }
+}
+
+// Makes one assignment.
+fn assign_one(assign: &Assign<VarId>, values: &mut [Value]) -> Result<(), StepStop>
+    requires { AllSuit values.old (map (change_by (store_from values.old)) (assignment_of assign.now ∷ [])) }
+    ensures changed { OnOk result (store_from values.new
+        ≡ changed_all (store_from values.old) (map (change_by (store_from values.old)) (assignment_of assign.now ∷ []))) }
+    ensures fit { OnOk result (AssignmentsFit (store_from values.old) (assignment_of assign.now ∷ [])) }
+    ensures past { IfErr result (λ e. PastOnly e (¬ AssignmentsFit (store_from values.old) (assignment_of assign.now ∷ []))) }
+    ensures unchanged { OnErr result (store_from values.new ≡ store_from values.old) }
+    ensures sorts { map sort_of values.new ≡ map sort_of values.old }
+{
+    let Some(change) = change_of(assign, values) else {
+        return Err(StepStop::PastWide);
+    };
+    match change_one(values, &change) {
+        Ok(()) => Ok(()),
+        Err(_) => Err(StepStop::NoMemory),
+    }
+}
+
+// Makes any assignments: their changes are valued first.
+fn assign_each(
+    changes: &mut Vec<Change>,
+    assigns: &[Assign<VarId>],
+    values: &mut [Value],
+) -> Result<(), StepStop>
+    requires { AllSuit values.old (map (change_by (store_from values.old)) (map assignment_of assigns.now)) }
+    ensures changed { OnOk result (store_from values.new
+        ≡ changed_all (store_from values.old) (map (change_by (store_from values.old)) (map assignment_of assigns.now))) }
+    ensures fit { OnOk result (AssignmentsFit (store_from values.old) (map assignment_of assigns.now)) }
+    ensures past { IfErr result (λ e. PastOnly e (¬ AssignmentsFit (store_from values.old) (map assignment_of assigns.now))) }
+    ensures unchanged { OnErr result (store_from values.new ≡ store_from values.old) }
+    ensures sorts { map sort_of values.new ≡ map sort_of values.old }
+{
+    value_changes(changes, assigns, values)?;
+    match change_all(values, changes.as_slice()) {
+        Ok(()) => Ok(()),
+        Err(_) => Err(StepStop::NoMemory),
+    }
+}
+
+/// Puts what assignments change in place of other changes, all valued before any change is made. `PastWide` where a number of
+/// any of them lies outside 128 bits; `NoMemory` may come at any time.
+pub fn value_changes(
+    changes: &mut Vec<Change>,
     assigns: &[Assign<VarId>],
     values: &[Value],
-) -> Result<Vec<Change>, StepStop>
-    ensures changes { IfOk result (λ out. out.items ≡ map (change_by (store_from values.now)) (map assignment_of assigns.now)) }
+) -> Result<(), StepStop>
+    ensures changes { OnOk result (changes.new.items ≡ map (change_by (store_from values.now)) (map assignment_of assigns.now)) }
     ensures fit { OnOk result (AssignmentsFit (store_from values.now) (map assignment_of assigns.now)) }
     ensures past { IfErr result (λ e. PastOnly e (¬ AssignmentsFit (store_from values.now) (map assignment_of assigns.now))) }
 {
-    let mut out = Vec::new(alloc);
+    changes.clear();
     for assign in assigns {
         let Some(change) = change_of(assign, values) else {
             return Err(StepStop::PastWide);
         };
-        push(&mut out, change)?;
+        push(changes, change)?;
     }
-    Ok(out)
+    Ok(())
 }
 
 fn push(out: &mut Vec<Change>, change: Change) -> Result<(), StepStop>
@@ -83,6 +154,53 @@ fn push(out: &mut Vec<Change>, change: Change) -> Result<(), StepStop>
     match out.push(change) {
         Ok(()) => Ok(()),
         Err(_) => Err(StepStop::NoMemory),
+    }
+}
+
+// Makes one change, or none where memory runs out. An entry that becomes 0 goes.
+fn change_one(values: &mut [Value], change: &Change) -> Result<(), NoMemory>
+    requires { IsTrue (suits values.old change.now) }
+    ensures changed { OnOk result (store_from values.new ≡ change_store (store_from values.old) change.now) }
+    ensures unchanged { OnErr result (store_from values.new ≡ store_from values.old) }
+    ensures sorts { map sort_of values.new ≡ map sort_of values.old }
+{
+    match change {
+        Change::Set(x, v) => {
+            values[*x as usize] = Value::Num(*v);
+            Ok(())
+        }
+        Change::Put(x, i, v) => set_in(&mut values[*x as usize], *i, *v),
+        Change::Append(x, v) => push_in(&mut values[*x as usize], *v),
+    }
+}
+
+fn set_in(value: &mut Value, i: i128, v: i128) -> Result<(), NoMemory>
+    requires { is_array_value (Some value.old) ≡ true }
+    ensures put { OnOk result (PutsAtIndex i v value.old value.new) }
+    ensures same { OnErr result (ReadsAlike value.old value.new) }
+    ensures sort { sort_of value.new ≡ sort_of value.old }
+{
+    match value {
+        Value::Arr(entries) => match entries.set(i, v) {
+            Ok(()) => Ok(()),
+            Err(e) => Err(e),
+        },
+        Value::Num(_) | Value::List(_) => unreachable!(),
+    }
+}
+
+fn push_in(value: &mut Value, v: i128) -> Result<(), NoMemory>
+    requires { is_list (Some value.old) ≡ true }
+    ensures pushed { OnOk result (Appends v value.old value.new) }
+    ensures same { OnErr result (ReadsAlike value.old value.new) }
+    ensures sort { sort_of value.new ≡ sort_of value.old }
+{
+    match value {
+        Value::List(numbers) => match numbers.push(v) {
+            Ok(()) => Ok(()),
+            Err(e) => Err(e),
+        },
+        Value::Num(_) | Value::Arr(_) => unreachable!(),
     }
 }
 

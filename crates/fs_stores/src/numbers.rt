@@ -1,7 +1,7 @@
 //! Lists of numbers, as a port emits them.
 
 ghost use Rattle.std.specs.Prelude.{◌≡◌, ◌++◌, ◌∷◌, [], ℕ, suc, true, IsTrue, IfOk};
-ghost use Rattle.std.specs.Result.{OnOk};
+ghost use Rattle.std.specs.Result.{OnOk, OnErr};
 ghost use Rattle.fs_stores.specs.Values.{numbers_of, has_room};
 
 use crate::memory::NoMemory;
@@ -49,6 +49,17 @@ impl Numbers {
         ensures room { (n : ℕ) → has_room self.old (suc n) ≡ true → has_room self.new n ≡ true }
     {
         self.items.push_reserved(number);
+    }
+
+    // Appends a number.
+    pub(crate) fn push(&mut self, number: i128) -> Result<(), NoMemory>
+        ensures pushed { OnOk result (numbers_of self.new ≡ numbers_of self.old ++ number ∷ []) }
+        ensures unchanged { OnErr result (numbers_of self.new ≡ numbers_of self.old) }
+    {
+        match self.items.push(number) {
+            Ok(()) => Ok(()),
+            Err(_) => Err(NoMemory),
+        }
     }
 
     /// A copy. The one refusal is out of memory.

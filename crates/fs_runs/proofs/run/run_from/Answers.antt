@@ -16,10 +16,10 @@ returns-in-Err-PastWide-clause-stopped c = λ ins e.
 pub returns-then-is_reset-clause-ended : goal.returns-then-is_reset-clause-ended
 returns-then-is_reset-clause-ended c = λ ins e.
     let m = c.args.m.now in
-    run_ended c.end_after.result m ins (c.loop-done.done + 1) (store_of c.step.new.store)
-    (subst (λ s. FirstReturn m (c.loop-done.done + 1) m.reset s (store_of c.step.new.store)) e
+    run_ended c.end_after.result m ins (c.loop-done.done + 1) (store_of c.step_with.new.store)
+    (subst (λ s. FirstReturn m (c.loop-done.done + 1) m.reset s (store_of c.step_with.new.store)) e
     (ended_goes m c.loop-done.done c.loop-done.at.0 c.in-Ok.next.0 (store_of c.loop-done.store)
-    (store_of c.step.new.store) m.reset (store_of c.args.store.now) c.loop-done.invariant.at c.in-Ok.ensures.step
+    (store_of c.step_with.new.store) m.reset (store_of c.args.store.now) c.loop-done.invariant.at c.in-Ok.ensures.step
     (eqb-true c.in-Ok.next.0 m.reset (sym c.is_reset.ensures ∙ c.if-is_reset.true))))
     c.end_after.ensures.outputs c.end_after.ensures.steps
 
@@ -29,7 +29,7 @@ returns-then-is_reset-clause-in_range c = λ ins e.
     range_ended c.end_after.result m ins (c.loop-done.done + 1)
     (subst (λ s. StaysInRange m (c.loop-done.done + 1) m.reset s) e
     (ended_range m c.loop-done.done c.loop-done.at.0 c.in-Ok.next.0 (store_of c.loop-done.store)
-    (store_of c.step.new.store) m.reset (store_of c.args.store.now) c.loop-done.invariant.at c.in-Ok.ensures.step c.in-Ok.ensures.in_range))
+    (store_of c.step_with.new.store) m.reset (store_of c.args.store.now) c.loop-done.invariant.at c.in-Ok.ensures.step c.in-Ok.ensures.in_range))
     c.end_after.ensures.steps
 
 pub loop-done-preserved : goal.loop-done-preserved
@@ -37,7 +37,7 @@ loop-done-preserved c =
     let m = c.args.m.now in
     record {
       at = at_next m c.loop-done.done c.loop-done.at.0 c.in-Ok.next.0 (store_of c.loop-done.store)
-          (store_of c.step.new.store) m.reset (store_of c.args.store.now) c.loop-done.invariant.at c.in-Ok.ensures.step c.in-Ok.ensures.in_range
+          (store_of c.step_with.new.store) m.reset (store_of c.args.store.now) c.loop-done.invariant.at c.in-Ok.ensures.step c.in-Ok.ensures.in_range
           (eqb-false c.in-Ok.next.0 m.reset (sym c.is_reset.ensures ∙ c.if-is_reset.false));
       store = c.in-Ok.ensures.kept;
       within = c.in-Ok.ensures.target;

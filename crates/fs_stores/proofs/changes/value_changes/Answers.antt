@@ -4,7 +4,7 @@ use Rattle.fs_model.specs.View.{assignment_of}
 use Rattle.fs_stores.specs.Values.{store_from}
 use Rattle.fs_stores.specs.Changes.{change_by, AssignmentsFit}
 use Rattle.fs_stores.proofs.Valued.{valued_more}
-use Rattle.fs_stores.proofs.changes.changes_of.Goals as goal
+use Rattle.fs_stores.proofs.changes.value_changes.Goals as goal
 
 pub returns-in_default-clause-past : goal.returns-in_default-clause-past
 returns-in_default-clause-past c =
@@ -14,7 +14,7 @@ returns-in_default-clause-past c =
 pub loop-assign-preserved : goal.loop-assign-preserved
 loop-assign-preserved c =
     let s = store_from c.args.values.now in
-    let out = c.loop-assign.out.items in
+    let out = c.loop-assign.changes.items in
     let parts = map_drop_next assignment_of c.args.assigns.now c.loop-assign.assign-index c.assign-item.result c.loop-assign-test.true c.assign-item.is in
     record {
       done = valued_more assignment_of (change_by s) c.args.assigns.now c.loop-assign.assign-index c.assign-item.result out c.push.new.out.items
