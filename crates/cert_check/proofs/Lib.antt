@@ -1,4 +1,5 @@
 pub mod Steps
 pub mod Results
 pub mod Keyed
+pub mod Targets
 pub mod Ways

@@ -14,7 +14,8 @@ use Rattle.sym_paths.specs.Execution.{Post, execute, arrive, end_of}
 use Rattle.sym_facts.specs.Facts.{Fact, vector_of}
 use Rattle.sym_entailment.specs.Outcomes.{refuted_together}
 use Rattle.cert_bisimulation.specs.Tables.{Node}
-use Rattle.cert_model.specs.Obligations.{Judged, node_at, reaches, rank_falls}
+use Rattle.cert_model.specs.Obligations.{Judged, nodes_at, reaches, rank_falls}
+use Rattle.cert_model.specs.declared.reason.Reason.TheVariants.{NoTarget}
 use Rattle.cert_check.specs.declared.table.Table.{Table}
 use Rattle.cert_check.specs.View.{index_nodes, move_in, ways_in, way_of}
 
@@ -44,7 +45,7 @@ module _ (tells : Tells) (t : Table) (n : Node Fact) where
       ap (λ c. after c (λ b. cond {A = Judged} b (Done None) (move_in t n (Some l) (Some r))))
       (sym (tells t.a.now t.b.now n.fact.literals (vector_of n.fact.positions) l r))
       ∙ asked_twice (arrive t.a.now t.b.now n.fact.literals (vector_of n.fact.positions) (Some l) (Some r))
-      (λ post. reaches (node_at (index_nodes t.nodes) (end_of n.left (Some l)) (end_of n.right (Some r))) (rank_falls n) post)
+      (λ post. reaches NoTarget (nodes_at (index_nodes t.nodes) (end_of n.left (Some l)) (end_of n.right (Some r))) (rank_falls n) post)
 
   module _ (v : List (Pos × Nf)) (e : v ≡ vector_of n.fact.positions) where
     over_vector : (l r : Path) → ways_in t n (way_of t.a.now Left v l) (way_of t.b.now Right v r) ≡ move_in t n (Some l) (Some r)

@@ -1,3 +1,4 @@
+pub mod Listing
 pub mod Progress
 pub mod VectorOutputs
 pub mod View

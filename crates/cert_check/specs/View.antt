@@ -1,5 +1,5 @@
 -- The types of src/ as plain data.
-use Rattle.std.specs.Prelude.{ℕ, ◌+◌, ◌*◌, ◌≤◌, cond, List, [], map, Option, Some, None}
+use Rattle.std.specs.Prelude.{ℕ, ◌+◌, ◌*◌, ◌≤◌, Bool, true, cond, List, [], map, Option, Some, None}
 use Rattle.fs_model.specs.Machines.{Fsmd}
 use Rattle.fs_model.specs.declared.sides.Side.{Side}
 use Rattle.fs_model.specs.declared.sides.Pos.{Pos}
@@ -14,6 +14,8 @@ use Rattle.sym_facts.specs.Facts.{Fact, vector_of}
 use Rattle.sym_entailment.specs.Outcomes.{refuted_together}
 use Rattle.cert_model.specs.Obligations as obligations
 use Rattle.cert_model.specs.View.{node_of}
+use Rattle.cert_model.specs.declared.reason.Reason.{Reason}
+use Rattle.cert_model.specs.declared.reason.Reason.TheVariants as reason
 use Rattle.cert_check.specs.Progress as progress
 use Rattle.cert_check.specs.declared.verdict.Verdict.{Verdict}
 use Rattle.cert_check.specs.declared.verdict.Verdict.TheVariants as code
@@ -39,11 +41,22 @@ NumberUpTo n (going.Stopped v) = Unit {0}
 
 -- the nodes of an index, in order
 abbrev pub index_nodes : NodeIndex → List (Node Fact)
-index_nodes i = map (λ e. node_of e.1.now) i.nodes.entries
+index_nodes i = map node_of i.nodes.now
 
 -- what arrives at two points over a table, from a node
 abbrev pub reached_in : Table → Node Fact → Post → (left right : Point) → obligations.Judged
-reached_in t n post P Q = obligations.reaches (obligations.node_at (index_nodes t.nodes) P Q) (obligations.rank_falls n) post
+reached_in t n post P Q =
+    obligations.reaches reason.NoTarget (obligations.nodes_at (index_nodes t.nodes) P Q) (obligations.rank_falls n) post
+
+-- whether the rank falls from a node, which it need not from the start
+abbrev pub falls_from : Option (Node Fact) → Node Fact → Bool
+falls_from None t = true
+falls_from (Some n) t = obligations.rank_falls n t
+
+-- several, of which the first ones failed; the first of these for this reason
+abbrev pub behind : Option Reason → (later : obligations.Judged) → obligations.Judged
+behind None later = later
+behind (Some r) later = obligations.or_else (Done (Some r)) later
 
 -- a move over a table
 abbrev pub move_in : Table → Node Fact → (left right : Option Path) → obligations.Judged

@@ -1,11 +1,12 @@
 //! Nodes found by their points.
 
-ghost use Rattle.std.specs.Prelude.{◌≡◌, ◌++◌, ◌∷◌, [], None, map, option_map, IsTrue, IfOk, OnOk};
+ghost use Rattle.std.specs.Prelude.{◌≡◌, ◌++◌, ◌∷◌, [], map, IfOk, OnOk};
+ghost use Rattle.std.specs.Option.{option_map_or};
+ghost use Rattle.fs_cut.specs.Paths.{Point as PlainPoint};
 ghost use Rattle.fs_cut.specs.View.{point_of};
-ghost use Rattle.cert_model.specs.Lawful.{points_differ};
-ghost use Rattle.cert_model.specs.Obligations.{node_at};
+ghost use Rattle.cert_model.specs.Obligations.{nodes_at};
 ghost use Rattle.cert_model.specs.View.{node_of};
-ghost use Rattle.cert_model.specs.PointKeys.{key_of};
+ghost use Rattle.cert_check.specs.Listing.{listed_at, referred};
 ghost use Rattle.cert_check.specs.View.{index_nodes};
 
 use crate::node_index::NodeIndex;
@@ -16,41 +17,46 @@ use indexmap::IndexMap;
 use nf_terms::stop::NoMemory;
 use std::alloc::Global;
 
-/// The node at two points.
-pub fn node_at<'a>(index: &NodeIndex<'a>, left: Point, right: Point) -> Option<&'a Node>
-    ensures { option_map (λ n. node_of n.now) result ≡ node_at (index_nodes index.now) (point_of left) (point_of right) }
+/// The nodes at two points, in order, where there are any.
+pub fn nodes_at<'i, 'a>(
+    index: &'i NodeIndex<'a>,
+    left: Point,
+    right: Point,
+) -> Option<&'i Vec<&'a Node>>
+    ensures { option_map_or (λ ns. referred ns.now) result []
+        ≡ nodes_at (index_nodes index.now) (point_of left) (point_of right) }
 {
-    let key = key_of(left, right);
-    match index.nodes.get(&key) {
-        Some(node) => Some(*node),
-        None => None,
-    }
+    index.by_points.get(&key_of(left, right))
 }
 
-// Adds a node at points at which there is none. The one refusal is out of memory.
-fn put<'a>(nodes: &mut IndexMap<(u64, u64), &'a Node>, node: &'a Node) -> Result<(), NoMemory>
-    requires keyed { map (λ e. e.0) nodes.old.entries
-        ≡ map (λ e. key_of (point_of e.1.now.left) (point_of e.1.now.right)) nodes.old.entries }
-    requires absent { node_at (map (λ e. node_of e.1.now) nodes.old.entries) (point_of node.now.left)
-        (point_of node.now.right) ≡ None }
-    ensures keyed { OnOk result
-        (map (λ e. e.0) nodes.new.entries ≡ map (λ e. key_of (point_of e.1.now.left) (point_of e.1.now.right))
-        nodes.new.entries) }
-    ensures added { OnOk result
-        (map (λ e. node_of e.1.now) nodes.new.entries ≡ map (λ e. node_of e.1.now) nodes.old.entries ++ node_of node.now ∷ []) }
+// Puts a node behind those that stand at its points. The one refusal is out of memory.
+fn put<'a>(
+    alloc: Global,
+    by_points: &mut IndexMap<(u64, u64), Vec<&'a Node>>,
+    node: &'a Node,
+) -> Result<(), NoMemory>
+    ensures { OnOk result
+        ((P Q : PlainPoint) → listed_at by_points.new.entries P Q
+        ≡ listed_at by_points.old.entries P Q
+        ++ nodes_at (node_of node.now ∷ []) P Q) }
 {
-    nodes.insert(key_of(node.left, node.right), node)?;
+    let key = key_of(node.left, node.right);
+    let mut nodes = match by_points.swap_remove(&key) {
+        Some(nodes) => nodes,
+        None => Vec::new(alloc),
+    };
+    nodes.push(node)?;
+    by_points.insert(key, nodes)?;
     Ok(())
 }
 
-/// The index of nodes at different pairs of points. The one refusal is out of memory.
+/// The index of nodes. The one refusal is out of memory.
 pub fn index_of<'a>(alloc: Global, nodes: &'a [Node]) -> Result<NodeIndex<'a>, NoMemory>
-    requires { IsTrue (points_differ (map node_of nodes.now)) }
     ensures { IfOk result (λ i. index_nodes i ≡ map node_of nodes.now) }
 {
-    let mut index = IndexMap::new(alloc);
+    let mut by_points = IndexMap::new(alloc);
     for node in nodes {
-        put(&mut index, node)?;
+        put(alloc, &mut by_points, node)?;
     }
-    Ok(NodeIndex { nodes: index })
+    Ok(NodeIndex { nodes, by_points })
 }

@@ -1,7 +1,6 @@
 //! The table of two machines and of a certificate, made.
 
-ghost use Rattle.std.specs.Prelude.{◌≡◌, map, IsTrue, IfOk};
-ghost use Rattle.cert_model.specs.Lawful.{points_differ};
+ghost use Rattle.std.specs.Prelude.{◌≡◌, map, IfOk};
 ghost use Rattle.cert_model.specs.View.{node_of};
 ghost use Rattle.cert_check.specs.View.{index_nodes};
 
@@ -13,14 +12,13 @@ use fs_ast::machine::Machine;
 use nf_terms::stop::NoMemory;
 use std::alloc::Global;
 
-/// The table of two machines and of nodes at different pairs of points. The one refusal is out of memory.
+/// The table of two machines and of nodes. The one refusal is out of memory.
 pub fn table_of<'a>(
     alloc: Global,
     a: &'a Machine,
     b: &'a Machine,
     nodes: &'a [Node],
 ) -> Result<Table<'a>, NoMemory>
-    requires { IsTrue (points_differ (map node_of nodes.now)) }
     ensures left { IfOk result (λ t. t.a.now ≡ a.now) }
     ensures right { IfOk result (λ t. t.b.now ≡ b.now) }
     ensures nodes { IfOk result (λ t. index_nodes t.nodes ≡ map node_of nodes.now) }

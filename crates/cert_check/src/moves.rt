@@ -4,19 +4,19 @@ ghost use Rattle.std.specs.Prelude.{◌≡◌, ◌+◌, ◌*◌, ◌<◌, ◌≤
 ghost use Rattle.std.specs.List.{flat_map};
 ghost use Rattle.fs_model.specs.Limits.{most_branches};
 ghost use Rattle.fs_cut.specs.View.{point_of, path_of};
-ghost use Rattle.nf_terms.specs.Computed.{Answers, Done, after};
+ghost use Rattle.nf_terms.specs.Computed.{Answers, Done};
 ghost use Rattle.sym_paths.specs.Execution.{end_of};
 ghost use Rattle.sym_paths.specs.View.{post_in};
-ghost use Rattle.sym_facts.specs.Entailment.{entails as entailed};
 ghost use Rattle.sym_facts.specs.Literals.{is_refuted as refuted};
 ghost use Rattle.fs_model.specs.declared.sides.Side.TheVariants.{Left};
 ghost use Rattle.sym_entailment.specs.Outcomes.{way_in};
-ghost use Rattle.cert_model.specs.Obligations.{first_missing};
+ghost use Rattle.cert_model.specs.Obligations.{first_missing, judge_target, nodes_at, reaches};
 ghost use Rattle.cert_model.specs.View.{node_of};
 ghost use Rattle.cert_check.specs.Progress.{progress_from};
-ghost use Rattle.cert_check.specs.View.{progress_in, reached_in, move_in, ways_in, way_of, NumberUpTo};
+ghost use Rattle.cert_check.specs.View.{progress_in, index_nodes, reached_in, falls_from, move_in, ways_in, way_of};
+ghost use Rattle.cert_check.specs.View.{NumberUpTo};
 
-use crate::lookup::node_at;
+use crate::lookup::nodes_at;
 use crate::progress::{Progress, advance};
 use crate::table::Table;
 use cert_bisimulation::ranks::rank_falls;
@@ -47,15 +47,15 @@ fn first_missing(equations: &[u32], literals: &[u32], falls: bool) -> Option<Rea
     if falls { None } else { Some(Reason::Rank) }
 }
 
-/// Why a post does not reach a node that is there: an equation or a literal that is not entailed, or a rank that does not fall.
-pub fn judge_target(
+// Why a post does not reach a node: an equation or a literal that is not entailed, or a rank that does not fall.
+fn judge_target(
     alloc: Global,
     post: &Post,
     target: &Node,
     falls: bool,
 ) -> Result<Option<Reason>, NfStop>
     ensures { Answers result
-        (after (entailed (post_in post.now) target.now.fact) (λ e. Done (first_missing e.equations e.literals falls))) }
+        (judge_target (post_in post.now) (node_of target.now) falls) }
 {
     let missing = entails(alloc, post, &target.fact)?;
     Ok(first_missing(
@@ -63,6 +63,61 @@ pub fn judge_target(
         missing.conds.as_slice(),
         falls,
     ))
+}
+
+// Whether the rank falls from a node to a target, or the post is that of the start.
+fn falls_from(from: Option<&Node>, target: &Node) -> bool
+    ensures { result ≡ falls_from (option_map (λ n. node_of n.now) from.entry) (node_of target.now) }
+{
+    match from {
+        Some(node) => rank_falls(node.mode, node.rank, target.mode, target.rank),
+        None => true,
+    }
+}
+
+// Why a post reaches none of the targets, which are tried in order: the reason of the first, or the given one where there is
+// none.
+fn judge_targets(
+    alloc: Global,
+    from: Option<&Node>,
+    post: &Post,
+    targets: &[&Node],
+    none: Reason,
+) -> Result<Option<Reason>, NfStop>
+    ensures { Answers result
+        (reaches none (map (λ t. node_of t.now) targets.now) (falls_from (option_map (λ n. node_of n.now) from.entry))
+        (post_in post.now)) }
+{
+    let mut first = None;
+    for target in targets {
+        let missing = judge_target(alloc, post, target, falls_from(from, target))?;
+        match missing {
+            None => return Ok(None),
+            Some(reason) => first = first.or(Some(reason)),
+        }
+    }
+    Ok(first.or(Some(none)))
+}
+
+/// Why a post, which comes from a node or is that of the start, reaches none of the nodes at two points, which are tried in
+/// order: the reason of the first, or the given one where none stands there.
+pub fn judge_arrival(
+    alloc: Global,
+    table: &Table<'_>,
+    from: Option<&Node>,
+    post: &Post,
+    left: Point,
+    right: Point,
+    none: Reason,
+) -> Result<Option<Reason>, NfStop>
+    ensures { Answers result
+        (reaches none (nodes_at (index_nodes table.now.nodes) (point_of left) (point_of right))
+        (falls_from (option_map (λ n. node_of n.now) from.entry)) (post_in post.now)) }
+{
+    match nodes_at(&table.nodes, left, right) {
+        Some(targets) => judge_targets(alloc, from, post, targets.as_slice(), none),
+        None => Ok(Some(none)),
+    }
 }
 
 // Where a side comes to, which keeps its point where it stays.
@@ -75,8 +130,8 @@ fn end_of(point: Point, path: Option<&Path>) -> Point
     }
 }
 
-// Why what arrives at two points fails: no node stands there, or it is not reached. What is refuted never fails.
-fn judge_arrival(
+// Why what arrives at two points fails: no node stands there, or none is reached. What is refuted never fails.
+fn judge_post(
     alloc: Global,
     table: &Table<'_>,
     node: &Node,
@@ -91,13 +146,15 @@ fn judge_arrival(
     if is_refuted(alloc, post.conds.as_slice())? {
         return Ok(None);
     }
-    match node_at(&table.nodes, left, right) {
-        Some(target) => {
-            let falls = rank_falls(node.mode, node.rank, target.mode, target.rank);
-            judge_target(alloc, post, target, falls)
-        }
-        None => Ok(Some(Reason::NoTarget)),
-    }
+    judge_arrival(
+        alloc,
+        table,
+        Some(node),
+        post,
+        left,
+        right,
+        Reason::NoTarget,
+    )
 }
 
 // Why a move fails. A refuted one does not.
@@ -114,7 +171,7 @@ fn judge_move(
 {
     let post = arrive(alloc, table.a, table.b, &node.fact, left, right)?;
     let (left, right) = (end_of(node.left, left), end_of(node.right, right));
-    judge_arrival(alloc, table, node, &post, left, right)
+    judge_post(alloc, table, node, &post, left, right)
 }
 
 /// The moves of the left paths, where the right machine stays.

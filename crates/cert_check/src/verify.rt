@@ -3,7 +3,7 @@
 ghost use Rattle.std.specs.Prelude.{◌≡◌, ◌+◌, ◌<◌, ◌≤◌, ◌^◌, ◌&&◌, true, length, map, IsTrue, IfOk, None};
 ghost use Rattle.std.specs.List.{flat_map, list_all};
 ghost use Rattle.fs_model.specs.Runs.{SameBehaviour};
-ghost use Rattle.fs_cut.specs.Paths.{Start, is_point};
+ghost use Rattle.fs_cut.specs.Paths.{is_point};
 ghost use Rattle.fs_cut.specs.View.{point_of};
 ghost use Rattle.fs_pair.specs.Interfaces.{interface_fault};
 ghost use Rattle.fs_pair.specs.Positions.{positions};
@@ -12,7 +12,7 @@ ghost use Rattle.sym_paths.specs.View.{post_in};
 ghost use Rattle.sym_facts.specs.Starts.{start_fact as started};
 ghost use Rattle.cert_bisimulation.specs.declared.mode.Mode.TheVariants.{End};
 ghost use Rattle.cert_model.specs.Lawful.{IsLawful, most_nodes};
-ghost use Rattle.cert_model.specs.Obligations.{verdict as verdict_on, obligations, start_reaches, node_at as node_standing};
+ghost use Rattle.cert_model.specs.Obligations.{verdict as verdict_on, obligations, judge_start as start_judged};
 ghost use Rattle.cert_model.specs.Obligations.{is_done, mode_fits, judge_mode};
 ghost use Rattle.cert_model.specs.View.{node_of};
 ghost use Rattle.cert_check.specs.declared.verdict.Verdict.TheVariants.{Yes};
@@ -20,9 +20,8 @@ ghost use Rattle.cert_check.specs.Progress.{progress_from};
 ghost use Rattle.cert_check.specs.View.{verdict_in, progress_in, index_nodes, owed_in, owed_moves, start_post, most_node_moves};
 ghost use Rattle.cert_check.specs.View.{most_owed, NumberUpTo};
 
-use crate::lookup::node_at;
 use crate::make_table::table_of;
-use crate::moves::{both_moves, judge_target, left_moves, right_moves};
+use crate::moves::{both_moves, judge_arrival, left_moves, right_moves};
 use crate::outputs::outputs;
 use crate::progress::{Progress, advance, verdict};
 use crate::table::Table;
@@ -51,18 +50,21 @@ fn post_of_start(alloc: Global, p: &Pairing) -> Result<Post, NoMemory>
     })
 }
 
-// Why the start fails: no node stands there, or its fact is not entailed by the start fact.
+// Why the start fails: no node stands there, or the fact of none is entailed by the start fact.
 fn judge_start(alloc: Global, table: &Table<'_>, p: &Pairing) -> Result<Option<Reason>, NfStop>
     ensures { Answers result
-        (start_reaches (node_standing (index_nodes table.now.nodes) Start Start) (start_post (started p.now))) }
+        (start_judged (index_nodes table.now.nodes) (start_post (started p.now))) }
 {
-    match node_at(&table.nodes, Point::Start, Point::Start) {
-        Some(target) => {
-            let post = post_of_start(alloc, p)?;
-            judge_target(alloc, &post, target, true)
-        }
-        None => Ok(Some(Reason::NoStartNode)),
-    }
+    let post = post_of_start(alloc, p)?;
+    judge_arrival(
+        alloc,
+        table,
+        None,
+        &post,
+        Point::Start,
+        Point::Start,
+        Reason::NoStartNode,
+    )
 }
 
 // Whether a machine is done at a point.

@@ -1,7 +1,7 @@
 -- Where all obligations hold, the nodes lead on, and so the machines have the same behaviour.
 use Rattle.std.proofs.Common.{◌≡◌, ℕ, zero, suc, ◌+◌, ◌<◌, cond, Bool, true, false, arith, refl, ap, sym, subst, ◌∙◌, List, [], ◌∷◌, ◌++◌, map, length, Option}
-use Rattle.std.proofs.Common.{Some, None}
-use Rattle.std.specs.Prelude.{◌≢◌, not, ◌&&◌, ◌||◌, nat_lt, slice_get, Contains}
+use Rattle.std.proofs.Common.{Some, None, inl, inr}
+use Rattle.std.specs.Prelude.{◌≢◌, ◌⊎◌, not, ◌&&◌, ◌||◌, nat_lt, slice_get, Contains}
 use Rattle.std.specs.List.{list_all, flat_map, slice_index_or, AllByRecursion}
 use Rattle.std.proofs.lemmas.Bool.Decides.{nat_tests}
 use Rattle.std.proofs.lemmas.Bool.{and_from}
@@ -46,7 +46,8 @@ use Rattle.sym_facts.proofs.Entailing.{numbers_equal, arrays_equal, lists_equal,
 use Rattle.sym_facts.proofs.StartHolds.{start_holds}
 use Rattle.cert_model.specs.declared.reason.Reason.{Reason}
 use Rattle.cert_model.specs.declared.reason.Reason.TheVariants as reason
-use Rattle.cert_model.specs.Obligations.{Judged, node_at, first_missing, same_alone, rank_falls, reaches, start_reaches, judge_move, is_done, mode_fits}
+use Rattle.cert_model.specs.Obligations.{Judged, nodes_at, or_else, one_of, first_missing, same_alone, rank_falls, judge_target, reaches, judge_start}
+use Rattle.cert_model.specs.Obligations.{judge_move, is_done, mode_fits}
 use Rattle.cert_model.specs.Obligations.{same_forms, judge_output, moves_by, owed_by, obligations, Verdict, Yes, verdict_by, verdict_from, verdict}
 use Rattle.cert_model.specs.Lawful.{IsLawful}
 
@@ -96,28 +97,49 @@ not_done P h e = let k : not (is_done Done) ≡ true = subst (λ Q. not (is_done
 done_is : (P : Point) → is_done P ≡ true → P ≡ Done
 done_is P h = same_is P Done h
 
--- ---- the node at two points
-record NodeFound (ns : List (Node Fact)) (P Q : Point) (t : Node Fact) : Type 0 where
-  place : ℕ
-  is_in : slice_get ns place ≡ Some t
-  at_left : t.left ≡ P
-  at_right : t.right ≡ Q
+-- ---- one of the nodes at two points
+one_holds_of : (first later : Judged) → or_else first later ≡ computed.Done None → (first ≡ computed.Done None) ⊎ (later ≡ computed.Done None)
+one_holds_of (computed.Done None) later e = inl refl
+one_holds_of (computed.Done (Some r)) (computed.Done None) e = inr refl
+one_holds_of (computed.Done (Some r)) (computed.Done (Some x)) e = absurd (cc e)
+one_holds_of (computed.Done (Some r)) (Wide w v) e = absurd (cc e)
+one_holds_of (computed.Done (Some r)) (Large w v) e = absurd (cc e)
+one_holds_of (Wide w v) later e = absurd (cc e)
+one_holds_of (Large w v) later e = absurd (cc e)
 
-node_found : (ns : List (Node Fact)) (P Q : Point) (t : Node Fact) → node_at ns P Q ≡ Some t → NodeFound ns P Q t
-node_found [] P Q t e = absurd (cc e)
-node_found (n ∷ ns) P Q t e = step (same_point n.left P && same_point n.right Q) refl e (λ g. node_found ns P Q t g)
-  where
-    step : (b : Bool) → same_point n.left P && same_point n.right Q ≡ b → cond b (Some n) (node_at ns P Q) ≡ Some t
-        → (node_at ns P Q ≡ Some t → NodeFound ns P Q t) → NodeFound (n ∷ ns) P Q t
-    step true h g again =
-        let s : n ≡ t = cc g in
-        record {
+-- a node at two points, of which something holds
+record NodeFound (ns : List (Node Fact)) (P Q : Point) (judge : Node Fact → Judged) : Type 0 where
+  node : Node Fact
+  place : ℕ
+  is_in : slice_get ns place ≡ Some node
+  at_left : node.left ≡ P
+  at_right : node.right ≡ Q
+  holds : judge node ≡ computed.Done None
+
+module _ (none : Reason) (judge : Node Fact → Judged) (P Q : Point) where
+  further : (n : Node Fact) (ns : List (Node Fact)) → NodeFound ns P Q judge → NodeFound (n ∷ ns) P Q judge
+  further n ns f =
+      record { node = f.node; place = suc f.place; is_in = f.is_in; at_left = f.at_left; at_right = f.at_right; holds = f.holds }
+
+  node_found : (ns : List (Node Fact)) → one_of none (map judge (nodes_at ns P Q)) ≡ computed.Done None → NodeFound ns P Q judge
+  node_found [] e = absurd (cc e)
+  node_found (n ∷ ns) e = step (same_point n.left P && same_point n.right Q) refl e (λ g. further n ns (node_found ns g))
+    where
+      step : (b : Bool) → same_point n.left P && same_point n.right Q ≡ b
+          → one_of none (map judge (cond b (n ∷ nodes_at ns P Q) (nodes_at ns P Q))) ≡ computed.Done None
+          → (one_of none (map judge (nodes_at ns P Q)) ≡ computed.Done None → NodeFound (n ∷ ns) P Q judge) → NodeFound (n ∷ ns) P Q judge
+      step true h g again = elim (one_holds_of (judge n) (one_of none (map judge (nodes_at ns P Q))) g) [
+        | inl x ↦ record {
+          node = n;
           place = 0;
-          is_in = ap Some s;
-          at_left = ap (λ (z : Node Fact). z.left) (sym s) ∙ same_is n.left P (and_first (same_point n.left P) (same_point n.right Q) h);
-          at_right = ap (λ (z : Node Fact). z.right) (sym s) ∙ same_is n.right Q (and_second (same_point n.left P) (same_point n.right Q) h);
+          is_in = refl;
+          at_left = same_is n.left P (and_first (same_point n.left P) (same_point n.right Q) h);
+          at_right = same_is n.right Q (and_second (same_point n.left P) (same_point n.right Q) h);
+          holds = x;
         }
-    step false h g again = let r = again g in record { place = suc r.place; is_in = r.is_in; at_left = r.at_left; at_right = r.at_right }
+        | inr x ↦ again x
+      ]
+      step false h g again = again g
 
 -- ---- entailment
 record NoneMissing (es ls : List ℕ) (falls : Bool) : Type 0 where
@@ -132,27 +154,20 @@ none_missing [] [] true e = record { equations = refl; literals = refl; falls_tr
 none_missing [] [] false e = absurd (cc e)
 
 -- a target that is reached holds
-record Reached (ns : List (Node Fact)) (P Q : Point) (falls : Node Fact → Bool) (v : Valuation) : Type 0 where
-  node : Node Fact
-  found : NodeFound ns P Q node
-  holds_in : HoldsIn v node.fact
-  falls_true : falls node ≡ true
+record Reached (ns : List (Node Fact)) (P Q : Point) (falls : Node Fact → Bool) (post : Post) (w : Valuation) : Type 0 where
+  found : NodeFound ns P Q (λ t. judge_target post t (falls t))
+  holds_in : HoldsIn (vector_meaning post.vector w) found.node.fact
+  falls_true : falls found.node ≡ true
 
-reached : (ns : List (Node Fact)) (P Q : Point) (falls : Node Fact → Bool) (post : Post) (w : Valuation) (o : Option (Node Fact)) → node_at ns P Q ≡ o
-    → reaches o falls post ≡ computed.Done None → all_true_in w post.conditions ≡ true
-    → Reached ns P Q falls (vector_meaning post.vector w)
-reached ns P Q falls post w None n e c = absurd (cc e)
-reached ns P Q falls post w (Some t) n e c =
-    let s = goes_done (entails post t.fact) (λ m. computed.Done (first_missing m.equations m.literals (falls t))) None e in
+reached : (none : Reason) (ns : List (Node Fact)) (P Q : Point) (falls : Node Fact → Bool) (post : Post) (w : Valuation)
+    → reaches none (nodes_at ns P Q) falls post ≡ computed.Done None → all_true_in w post.conditions ≡ true → Reached ns P Q falls post w
+reached none ns P Q falls post w e c =
+    let f = node_found none (λ t. judge_target post t (falls t)) P Q ns e in
+    let t = f.node in
+    let s = goes_done (entails post t.fact) (λ m. computed.Done (first_missing m.equations m.literals (falls t))) None f.holds in
     let k : first_missing s.middle.equations s.middle.literals (falls t) ≡ None = cc s.next in
     let m = none_missing s.middle.equations s.middle.literals (falls t) k in
-    record { node = t; found = node_found ns P Q t n; holds_in = entailed w post t.fact s.middle s.first m.equations m.literals c; falls_true = m.falls_true }
-
-start_reached : (ns : List (Node Fact)) (post : Post) (w : Valuation) (o : Option (Node Fact)) → node_at ns Start Start ≡ o
-    → start_reaches o post ≡ computed.Done None → all_true_in w post.conditions ≡ true
-    → Reached ns Start Start (λ n. true) (vector_meaning post.vector w)
-start_reached ns post w None n e c = absurd (cc e)
-start_reached ns post w (Some t) n e c = reached ns Start Start (λ z. true) post w (Some t) n e c
+    record { found = f; holds_in = entailed w post t.fact s.middle s.first m.equations m.literals c; falls_true = m.falls_true }
 
 -- ---- a pair of stores
 pair_of : (v : Valuation) (s u : Store) → store_on side.Left v ≡ s → store_on side.Right v ≡ u → v ≡ pair s u
@@ -191,14 +206,14 @@ move_leads a b ns n left right s u e h p q =
     let P = end_of n.left left in
     let Q = end_of n.right right in
     let x = goes_done (arrive a b n.fact.literals v left right)
-    (λ post. cond (is_refuted post.conditions) (computed.Done None) (reaches (node_at ns P Q) (rank_falls n) post)) None e in
+    (λ post. cond (is_refuted post.conditions) (computed.Done None) (reaches reason.NoTarget (nodes_at ns P Q) (rank_falls n) post)) None e in
     let post = x.middle in
     let r : Arrived a b n.fact.literals v left right w post = arrived a b n.fact.literals v left right post w x.first in
     let own : vector_meaning v w ≡ w = vector_means w n.fact.positions h.equations in
     let pl : takes_if a left (store_on side.Left (vector_meaning v w)) ≡ true = ap (λ z. takes_if a left (store_on side.Left z)) own ∙ p in
     let qr : takes_if b right (store_on side.Right (vector_meaning v w)) ≡ true = ap (λ z. takes_if b right (store_on side.Right z)) own ∙ q in
     let c : all_true_in w post.conditions ≡ true = r.true_where ∙ and_from _ _ h.literals (and_from _ _ pl qr) in
-    let t = reached ns P Q (rank_falls n) post w (node_at ns P Q) refl
+    let t = reached reason.NoTarget ns P Q (rank_falls n) post w
     (cond_none (is_refuted post.conditions) _
     (not_refuted (is_refuted post.conditions) (all_true_in w post.conditions) c (refuted_false w post.conditions)) x.next) c in
     let le : store_on side.Left (vector_meaning post.vector w) ≡ effect_if a left s = r.left_end ∙ ap (λ z. effect_if a left (store_on side.Left z)) own in
@@ -207,12 +222,12 @@ move_leads a b ns n left right s u e h p q =
     pair_of (vector_meaning post.vector w) (effect_if a left s) (effect_if b right u) le re in
     record {
       to = record {
-        node = t.node;
+        node = t.found.node;
         place = t.found.place;
         is_in = t.found.is_in;
         at_left = t.found.at_left;
         at_right = t.found.at_right;
-        holds_of = subst (λ z. HoldsIn z t.node.fact) both t.holds_in;
+        holds_of = subst (λ z. HoldsIn z t.found.node.fact) both t.holds_in;
       };
       falls = t.falls_true;
     }
@@ -319,19 +334,19 @@ module _ (a b : Fsmd) (sound_a : IsSound a) (sound_b : IsSound b) (matched : int
       points_at ms k n (and_second (is_point a m.left && is_point b m.right) (list_all (λ x. is_point a x.left && is_point b x.right) ms) h) e
 
   starts_at : (first : Fact) → ((ins : Inputs) → Holds first (start a ins) (start b ins))
-      → start_reaches (node_at ns Start Start) (record { conditions = []; vector = vector_of first.positions }) ≡ computed.Done None → (ins : Inputs)
+      → judge_start ns (record { conditions = []; vector = vector_of first.positions }) ≡ computed.Done None → (ins : Inputs)
       → Stands Holds ns Start Start (start a ins) (start b ins)
   starts_at first h e ins =
       let w = pair (start a ins) (start b ins) in
       let own : vector_meaning (vector_of first.positions) w ≡ w = vector_means w first.positions (h ins).equations in
-      let t = start_reached ns (record { conditions = []; vector = vector_of first.positions }) w (node_at ns Start Start) refl e refl in
+      let t = reached reason.NoStartNode ns Start Start (λ z. true) (record { conditions = []; vector = vector_of first.positions }) w e refl in
       record {
-        node = t.node;
+        node = t.found.node;
         place = t.found.place;
         is_in = t.found.is_in;
         at_left = t.found.at_left;
         at_right = t.found.at_right;
-        holds_of = subst (λ z. HoldsIn z t.node.fact) own t.holds_in;
+        holds_of = subst (λ z. HoldsIn z t.found.node.fact) own t.holds_in;
       }
 
   leads_on : (first : Fact) → ((ins : Inputs) → Holds first (start a ins) (start b ins)) → IsLawful a b ns → AllHold (obligations a b first ns)

@@ -1,5 +1,5 @@
 -- Points by their numbers.
-use Rattle.std.proofs.Common.{◌≡◌, ℕ, ◌+◌, ◌==◌, Bool, true, false, ◌&&◌, refl, sym, ◌∙◌, arith}
+use Rattle.std.proofs.Common.{◌≡◌, ℕ, ◌+◌, ◌==◌, Bool, true, false, refl, sym, ◌∙◌, arith}
 use Rattle.std.proofs.lemmas.Bool.{eqb-true, eq-eqb}
 use Rattle.fs_cut.specs.Paths.{Point, Start, At, Done}
 use Rattle.fs_cut.specs.Covers.{same_point}
@@ -26,5 +26,8 @@ same_numbers Done Start = refl
 same_numbers Done (At r) = decided 1 (r + 2) false (λ e. absurd (omega (arith, e))) (λ e. absurd (cc e))
 same_numbers Done Done = refl
 
-abbrev pub same_key : ℕ × ℕ → ℕ × ℕ → Bool
-same_key a b = (a.0 == b.0) && (a.1 == b.1)
+flipped : (a b : ℕ) → (a == b) ≡ (b == a)
+flipped a b = decided a b (b == a) (λ e. eq-eqb b a (sym e)) (λ e. sym (eqb-true b a e))
+
+pub numbers_are : (P Q : Point) → (point_number P == point_number Q) ≡ same_point P Q
+numbers_are P Q = flipped (point_number P) (point_number Q) ∙ same_numbers Q P

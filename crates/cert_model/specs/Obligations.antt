@@ -1,6 +1,7 @@
 -- The obligations of a certificate, as a numbered list.
-use Rattle.std.specs.Prelude.{ℕ, ◌+◌, nat_lt, Bool, true, false, not, ◌&&◌, ◌||◌, cond, List, [], ◌∷◌, map, Option, Some, None}
-use Rattle.std.specs.List.{flat_map, find}
+use Rattle.std.specs.Prelude.{ℕ, ◌+◌, nat_lt, Bool, true, false, not, ◌&&◌, ◌||◌, cond, List, [], ◌∷◌, map, filter}
+use Rattle.std.specs.Prelude.{Option, Some, None, option_map}
+use Rattle.std.specs.List.{flat_map}
 use Rattle.fs_model.specs.declared.parts.Sort.{Sort}
 use Rattle.fs_model.specs.declared.parts.Sort.TheVariants as sort
 use Rattle.fs_model.specs.Machines.{Fsmd}
@@ -33,9 +34,21 @@ use Rattle.cert_model.specs.declared.reason.Reason.TheVariants as reason
 abbrev pub Judged : Type 0
 Judged = Computed (Option Reason)
 
--- the first node at two points
-abbrev pub node_at : List (Node Fact) → Point → Point → Option (Node Fact)
-node_at ns P Q = find (λ n. same_point n.left P && same_point n.right Q) ns
+-- the nodes at two points, in order
+abbrev pub nodes_at : List (Node Fact) → Point → Point → List (Node Fact)
+nodes_at ns P Q = filter (λ n. same_point n.left P && same_point n.right Q) ns
+
+-- where the first fails, the later one is tried; where that fails, too, the reason is that of the first
+abbrev pub or_else : Judged → (later : Judged) → Judged
+or_else (Done None) later = Done None
+or_else (Done (Some r)) later = after later (λ found. Done (option_map (λ other. r) found))
+or_else (Wide left right) later = Wide left right
+or_else (Large units depth) later = Large units depth
+
+-- one of them holds, tried in order; there is none for this reason
+abbrev pub one_of : (none : Reason) → List Judged → Judged
+one_of none [] = Done (Some none)
+one_of none (j ∷ js) = or_else j (one_of none js)
 
 -- the first that is missing, and then whether the rank falls
 abbrev pub first_missing : (equations literals : List ℕ) → (rank_falls : Bool) → Option Reason
@@ -47,22 +60,24 @@ first_missing [] [] false = Some reason.Rank
 abbrev pub rank_falls : Node Fact → Node Fact → Bool
 rank_falls n t = not (same_alone n.mode t.mode) || nat_lt t.rank n.rank
 
--- a target is there, and is entailed
-abbrev pub reaches : Option (Node Fact) → (falls : Node Fact → Bool) → Post → Judged
-reaches None falls post = Done (Some reason.NoTarget)
-reaches (Some t) falls post = after (entails post t.fact) (λ e. Done (first_missing e.equations e.literals (falls t)))
+-- a target is entailed
+abbrev pub judge_target : Post → Node Fact → (falls : Bool) → Judged
+judge_target post t falls = after (entails post t.fact) (λ e. Done (first_missing e.equations e.literals falls))
 
--- the start node is there, and is entailed by the start fact's vector
-abbrev pub start_reaches : Option (Node Fact) → Post → Judged
-start_reaches None post = Done (Some reason.NoStartNode)
-start_reaches (Some t) post = after (entails post t.fact) (λ e. Done (first_missing e.equations e.literals true))
+-- one of the targets is entailed
+abbrev pub reaches : (none : Reason) → List (Node Fact) → (falls : Node Fact → Bool) → Post → Judged
+reaches none ts falls post = one_of none (map (λ t. judge_target post t (falls t)) ts)
 
--- a move: it is refuted, or its target is reached
+-- a node at the start is entailed by the start fact's vector, whatever its rank
+abbrev pub judge_start : List (Node Fact) → Post → Judged
+judge_start ns post = reaches reason.NoStartNode (nodes_at ns Start Start) (λ t. true) post
+
+-- a move: it is refuted, or one of the nodes at its ends is reached
 abbrev pub judge_move : (a b : Fsmd) → List (Node Fact) → Node Fact → (left right : Option Path) → Judged
 judge_move a b ns n left right =
     after (arrive a b n.fact.literals (vector_of n.fact.positions) left right) (λ post.
     cond (is_refuted post.conditions) (Done None)
-    (reaches (node_at ns (end_of n.left left) (end_of n.right right)) (rank_falls n) post))
+    (reaches reason.NoTarget (nodes_at ns (end_of n.left left) (end_of n.right right)) (rank_falls n) post))
 
 abbrev pub is_done : Point → Bool
 is_done P = same_point P paths.Done
@@ -100,7 +115,7 @@ owed_by a b ns n = judge_mode n ∷ moves_by n.mode a b ns n
 -- the obligations, in order, over the start fact
 abbrev pub obligations : (a b : Fsmd) → (start : Fact) → List (Node Fact) → List Judged
 obligations a b start ns =
-    start_reaches (node_at ns Start Start) (record { conditions = []; vector = vector_of start.positions })
+    judge_start ns (record { conditions = []; vector = vector_of start.positions })
     ∷ flat_map (owed_by a b ns) ns
 
 -- what a checker answers

@@ -16,8 +16,8 @@ use Rattle.search_tables.specs.declared.nodes.SearchNode.{SearchNode as CodeNode
 use Rattle.search_tables.specs.View.{table_in, search_node_in}
 use Rattle.search_tables.specs.SearchTables.{SearchNode, Table, Unknown, Known, is_at, target_from}
 use Rattle.search_tables.specs.TableInvariants.{nodes_differ}
-use Rattle.cert_model.specs.PointKeys.{key_of}
-use Rattle.cert_model.proofs.SameKeys.{same_numbers, same_key}
+use Rattle.cert_model.specs.PointKeys.{key_of, same_key}
+use Rattle.cert_model.proofs.SameKeys.{same_numbers}
 use Rattle.search_closing.specs.NodePlaces.{keys_in, NodeStandsAt}
 
 abbrev key_at : SearchNode → ℕ × ℕ

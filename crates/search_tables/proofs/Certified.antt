@@ -20,8 +20,8 @@ use Rattle.cert_model.specs.Entailment.{entails}
 use Rattle.cert_model.specs.Starts.{start_fact}
 use Rattle.propagate.specs.Modes.{Found}
 use Rattle.cert_model.specs.declared.reason.Reason.TheVariants as reason
-use Rattle.cert_model.specs.Obligations.{Judged, node_at, first_missing, start_reaches, judge_move, mode_fits, same_forms, judge_output, moves_by, owed_by}
-use Rattle.cert_model.specs.Obligations.{obligations, Yes, verdict_by, verdict_from, verdict}
+use Rattle.cert_model.specs.Obligations.{Judged, nodes_at, or_else, first_missing, reaches, judge_start, judge_move, mode_fits, same_forms, judge_output}
+use Rattle.cert_model.specs.Obligations.{moves_by, owed_by, obligations, Yes, verdict_by, verdict_from, verdict}
 use Rattle.search_tables.specs.Graphs.{above, AreRanks}
 use Rattle.search_tables.specs.declared.moves.Move.{Move}
 use Rattle.search_tables.specs.SearchTables.{MachinePair, positions_of, SearchNode, Table, is_at, start_node, Keeps, effect}
@@ -119,15 +119,17 @@ module _ (m : MachinePair) (cs : List (CertificateNode Fact)) (modes : AllByRecu
   -- ---- the start
   start_held : (rest : List SearchNode) → IsSound m.left → interface_fault m.left m.right ≡ None → (ds : List (CertificateNode Fact))
       → map node_without_mode ds ≡ start_node m ∷ rest
-      → Held (start_reaches (node_at ds Start Start) (record { conditions = []; vector = vector_of (start_fact (positions_of m)).positions }))
+      → Held (judge_start ds (record { conditions = []; vector = vector_of (start_fact (positions_of m)).positions }))
   start_held rest sound matched [] e = absurd (cc e)
   start_held rest sound matched (d ∷ ds) e =
       let same : node_without_mode d ≡ start_node m = cc e in
       let post : Post = record { conditions = []; vector = vector_of (start_fact (positions_of m)).positions } in
-      let first : node_at (d ∷ ds) Start Start ≡ Some d = ap (λ (n : SearchNode). cond (is_at Start Start n) (Some d) (node_at ds Start Start)) same in
+      let later = nodes_at ds Start Start in
+      let first : nodes_at (d ∷ ds) Start Start ≡ d ∷ later = ap (λ (n : SearchNode). cond (is_at Start Start n) (d ∷ later) later) same in
       let entailed : entails post d.fact ≡ Done (record { equations = []; literals = [] }) = ap (λ (n : SearchNode). entails post n.fact) same
       ∙ entails_itself m.left m.right sound matched in
-      ap (λ o. start_reaches o post) first ∙ ap (λ z. after z (λ x. Done (first_missing x.equations x.literals true))) entailed
+      ap (λ ns. reaches reason.NoStartNode ns (λ t. true) post) first
+      ∙ ap (λ z. or_else (after z (λ x. Done (first_missing x.equations x.literals true))) (reaches reason.NoStartNode later (λ t. true) post)) entailed
 
   all_held : (rest : List SearchNode) → IsSound m.left → interface_fault m.left m.right ≡ None → T ≡ start_node m ∷ rest → next_move m T ≡ Nothing
       → difference_in m T ≡ None → AreRanks (lone_moves m T) ranks → verdict m.left m.right (start_fact (positions_of m)) cs ≡ Yes

@@ -17,7 +17,8 @@ use Rattle.propagate.specs.Execution.{Post, arrive, end_of}
 use Rattle.cert_model.specs.Facts.{Fact, vector_of}
 use Rattle.cert_model.specs.Entailment.{Missing, entails, is_nothing}
 use Rattle.propagate.specs.Modes.{Found}
-use Rattle.cert_model.specs.Obligations.{Judged, node_at, first_missing, same_alone, rank_falls, reaches, judge_move}
+use Rattle.cert_model.specs.declared.reason.Reason.TheVariants.{NoTarget}
+use Rattle.cert_model.specs.Obligations.{Judged, nodes_at, or_else, first_missing, same_alone, rank_falls, reaches, judge_move}
 use Rattle.search_tables.specs.Graphs.{above}
 use Rattle.search_tables.specs.SearchTables.{MachinePair, positions_of, SearchNode, Table, Known, node_target, Keeps, PathPair, effect}
 use Rattle.search_tables.specs.Next.{mode_at}
@@ -76,10 +77,10 @@ module _ (m : MachinePair) (cs : List (CertificateNode Fact)) (modes : AllByRecu
 
   abbrev judged_post : CertificateNode Fact → PathPair → Post → Judged
   judged_post c x post = cond (is_refuted post.conditions) (Done None)
-      (reaches (node_at cs (end_of c.left x.left) (end_of c.right x.right)) (rank_falls c) post)
+      (reaches NoTarget (nodes_at cs (end_of c.left x.left) (end_of c.right x.right)) (rank_falls c) post)
 
   target_reached : (c : CertificateNode Fact) (P Q : Point) (post : Post) → above ranks (lone_target m T c.mode P Q (Done post)) ≤ c.rank → Into T P Q post
-      → reaches (node_at cs P Q) (rank_falls c) post ≡ Done None
+      → reaches NoTarget (nodes_at cs P Q) (rank_falls c) post ≡ Done None
   target_reached c P Q post le t =
       let s = standing P Q 0 cs t.number t.node t.target in
       let at : t.number ≡ s.place = omega (arith, s.number) in
@@ -90,9 +91,10 @@ module _ (m : MachinePair) (cs : List (CertificateNode Fact)) (modes : AllByRecu
       let lt = lower m T ranks c.mode P Q post t.number c.rank t.node t.is_open t.target (ap (moves_alone c.mode) mode ∙ h) le in
       subst (λ r. r < c.rank) rank lt) in
       let entailed : entails post s.node.fact ≡ Done t.missing = ap (λ (n : SearchNode). entails post n.fact) s.same ∙ t.compared_to in
-      ap (λ o. reaches o (rank_falls c) post) s.first
-      ∙ ap (λ z. after z (λ e. Done (first_missing e.equations e.literals (rank_falls c s.node)))) entailed
-      ∙ ap Done (none_missing t.missing (rank_falls c s.node) t.entailed falls)
+      let others = reaches NoTarget s.others (rank_falls c) post in
+      ap (λ ns. reaches NoTarget ns (rank_falls c) post) s.first
+      ∙ ap (λ z. or_else (after z (λ e. Done (first_missing e.equations e.literals (rank_falls c s.node)))) others) entailed
+      ∙ ap (λ o. or_else (Done o) others) (none_missing t.missing (rank_falls c s.node) t.entailed falls)
 
   move_holds : (c : CertificateNode Fact) (x : PathPair) (r : Computed Post)
       → above ranks (lone_target m T c.mode (end_of c.left x.left) (end_of c.right x.right) r) ≤ c.rank
@@ -102,8 +104,8 @@ module _ (m : MachinePair) (cs : List (CertificateNode Fact)) (modes : AllByRecu
       subst (λ z. above ranks (lone_target m T c.mode (end_of c.left x.left) (end_of c.right x.right) z) ≤ c.rank) a.arrives le in
       ap (λ z. after z (judged_post c x)) a.arrives
       ∙ elim a.holds [
-        | inl h ↦ ap (λ b. cond b (Done None) (reaches (node_at cs (end_of c.left x.left) (end_of c.right x.right)) (rank_falls c) a.post)) h
-        | inr t ↦ ap (λ b. cond b (Done None) (reaches (node_at cs (end_of c.left x.left) (end_of c.right x.right)) (rank_falls c) a.post)) t.is_open
+        | inl h ↦ ap (λ b. cond b (Done None) (reaches NoTarget (nodes_at cs (end_of c.left x.left) (end_of c.right x.right)) (rank_falls c) a.post)) h
+        | inr t ↦ ap (λ b. cond b (Done None) (reaches NoTarget (nodes_at cs (end_of c.left x.left) (end_of c.right x.right)) (rank_falls c) a.post)) t.is_open
             ∙ target_reached c (end_of c.left x.left) (end_of c.right x.right) a.post le' t
       ]
 

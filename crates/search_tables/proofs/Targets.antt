@@ -4,7 +4,7 @@ use Rattle.std.specs.Prelude.{slice_get}
 use Rattle.fs_cut.specs.Paths.{Point}
 use Rattle.cert_bisimulation.specs.Tables.{Node as CertificateNode}
 use Rattle.cert_model.specs.Facts.{Fact}
-use Rattle.cert_model.specs.Obligations.{node_at}
+use Rattle.cert_model.specs.Obligations.{nodes_at}
 use Rattle.search_tables.specs.SearchTables.{SearchNode, Known, target_from, is_at}
 use Rattle.search_tables.specs.Certifying.{node_without_mode}
 
@@ -18,7 +18,8 @@ pub record Stands (cs : List (CertificateNode Fact)) (P Q : Point) (i k : ℕ) (
   pub node : CertificateNode Fact
   pub is_in : slice_get cs place ≡ Some node
   pub same : node_without_mode node ≡ t
-  pub first : node_at cs P Q ≡ Some node
+  pub others : List (CertificateNode Fact)
+  pub first : nodes_at cs P Q ≡ node ∷ others
 
 pub standing : (P Q : Point) (i : ℕ) (cs : List (CertificateNode Fact)) (k : ℕ) (t : SearchNode) → target_from P Q i (map node_without_mode cs) ≡ Known k t
     → Stands cs P Q i k t
@@ -30,7 +31,15 @@ standing P Q i (c ∷ cs) k t e = by_test (is_at P Q (node_without_mode c)) refl
         → (target_from P Q (i + 1) (map node_without_mode cs) ≡ Known k t → Stands cs P Q (i + 1) k t) → Stands (c ∷ cs) P Q i k t
     by_test true h g again =
         let s = known_same i k (node_without_mode c) t g in
-        record { place = 0; number = omega (arith, s.0); node = c; is_in = refl; same = s.1; first = ap (λ b. cond b (Some c) (node_at cs P Q)) h }
+        record {
+          place = 0;
+          number = omega (arith, s.0);
+          node = c;
+          is_in = refl;
+          same = s.1;
+          others = nodes_at cs P Q;
+          first = ap (λ b. cond b (c ∷ nodes_at cs P Q) (nodes_at cs P Q)) h;
+        }
     by_test false h g again =
         let s = again g in
         record {
@@ -39,5 +48,6 @@ standing P Q i (c ∷ cs) k t e = by_test (is_at P Q (node_without_mode c)) refl
           node = s.node;
           is_in = s.is_in;
           same = s.same;
-          first = ap (λ b. cond b (Some c) (node_at cs P Q)) h ∙ s.first;
+          others = s.others;
+          first = ap (λ b. cond b (c ∷ nodes_at cs P Q) (nodes_at cs P Q)) h ∙ s.first;
         }

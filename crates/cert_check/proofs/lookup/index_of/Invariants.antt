@@ -1,11 +1,11 @@
 use Rattle.std.proofs.Common.{◌≡◌, ◌++◌, map, drop}
-use Rattle.fs_cut.specs.View.{point_of}
+use Rattle.fs_cut.specs.Paths.{Point}
+use Rattle.cert_model.specs.Obligations.{nodes_at}
 use Rattle.cert_model.specs.View.{node_of}
-use Rattle.cert_model.specs.PointKeys.{key_of}
+use Rattle.cert_check.specs.Listing.{listed_at}
 use Rattle.cert_check.proofs.lookup.index_of.Given as goal
 
 abbrev pub invariant-loop-node : goal.invariant-loop-node
-invariant-loop-node l = record {
-  keyed : map (λ e. e.0) l.index.entries ≡ map (λ e. key_of (point_of e.1.now.left) (point_of e.1.now.right)) l.index.entries;
-  rest : map (λ e. node_of e.1.now) l.index.entries ++ map node_of (drop l.node-index l.nodes) ≡ map node_of l.nodes;
-}
+invariant-loop-node l = (P Q : Point)
+    → listed_at l.by_points.entries P Q ++ nodes_at (map node_of (drop l.node-index l.nodes)) P Q
+    ≡ nodes_at (map node_of l.nodes) P Q
