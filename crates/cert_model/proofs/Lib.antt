@@ -1,4 +1,5 @@
 pub mod SameKeys
 pub mod AllHold
+pub mod Alone
 pub use Rattle.sym_facts.proofs.StartHolds
 pub use Rattle.sym_facts.proofs.StartSolved
