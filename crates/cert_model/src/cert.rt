@@ -16,7 +16,7 @@ pub struct Node {
     pub fact: Fact,
 }
 
-/// A certificate: nodes, at most one for a pair of points.
+/// A certificate: nodes, of which several may stand at a pair of points.
 #[derive(Drop)]
 pub struct Cert {
     pub nodes: Vec<Node>,

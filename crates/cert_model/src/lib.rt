@@ -9,8 +9,8 @@
 //!
 //! Words:
 //! - certificate: nodes at pairs of points that show the same behaviour
-//! - lawful (of a certificate): at most 4,096 nodes at different pairs of points, with ranks of at most 4,096 and facts
-//!   of the pairing
+//! - lawful (of a certificate): at most 4,096 nodes at points of the machines, with ranks of at most 4,096 and facts of the
+//!   pairing
 //! - obligation: what a certificate owes, by number
 //! - verdict: what a checker says of a certificate
 #![tactic(auto)]

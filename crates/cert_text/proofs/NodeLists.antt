@@ -42,17 +42,18 @@ module _ (left rest : List Value) (x : Value) (is : left ≡ x ∷ rest) where
 -- ---- one node
 
 module _ (c : Context) (i : ℕ) (earlier : List (Node Fact)) (n : NodeText) (left right : List ℕ) (l : left ≡ n.left) (r : right ≡ n.right) where
-  same_points : points_read i c.states earlier left right ≡ points_read i c.states earlier n.left n.right
-  same_points = λ k. points_read i c.states earlier (l k) (r k)
+  same_points : points_read i c.terms.format c.states earlier left right ≡ points_read i c.terms.format c.states earlier n.left n.right
+  same_points = λ k. points_read i c.terms.format c.states earlier (l k) (r k)
 
-  pub points_stop : (e : Stop) → Tells {X = CodePoint × CodePoint} (λ P. (point_of P.0, point_of P.1)) (Err e) (points_read i c.states earlier left right)
+  pub points_stop : (e : Stop)
+      → Tells {X = CodePoint × CodePoint} (λ P. (point_of P.0, point_of P.1)) (Err e) (points_read i c.terms.format c.states earlier left right)
       → Tells node_of (Err e) (node_read c i earlier n)
   unfolding node_read
   points_stop e h =
-      stopped_first {V = CodePoint × CodePoint} (λ P. (point_of P.0, point_of P.1)) node_of e (points_read i c.states earlier n.left n.right) _
+      stopped_first {V = CodePoint × CodePoint} (λ P. (point_of P.0, point_of P.1)) node_of e (points_read i c.terms.format c.states earlier n.left n.right) _
       (subst (λ y. Tells {X = CodePoint × CodePoint} (λ P. (point_of P.0, point_of P.1)) (Err e) y) same_points h)
 
-  module _ (P Q : Point) (h : points_read i c.states earlier left right ≡ Ok (P, Q)) where
+  module _ (P Q : Point) (h : points_read i c.terms.format c.states earlier left right ≡ Ok (P, Q)) where
     with_fact : Result Fact CertError → Result (Node Fact) CertError
     with_fact y = then_part y (λ f. Ok (record { left = P; right = Q; mode = mode_named n.mode; rank = n.rank; fact = f }))
 

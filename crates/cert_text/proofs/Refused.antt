@@ -1,6 +1,6 @@
 -- Which refusals come of the nodes of a file.
 use Rattle.std.proofs.Common.{◌≡◌, ℕ, ◌+◌, Bool, true, false, cond, refl, sym, ap, ◌∙◌, List, [], ◌∷◌, ◌++◌, Option, Some, None, Result, Ok, Err}
-use Rattle.std.specs.Prelude.{map, set}
+use Rattle.std.specs.Prelude.{not, ◌&&◌, map, set}
 use Rattle.std.specs.List.{list_any}
 use Rattle.serde_json.specs.Data.{Data}
 use Rattle.fs_model.specs.Machines.{Fsmd}
@@ -23,7 +23,8 @@ use Rattle.cert_facts.specs.JsonParts.{file_nodes, file_format}
 use Rattle.cert_terms.specs.CertificateNames.{place_named, find_in, name_place, place_by_key, sort_at}
 use Rattle.cert_text.specs.FileErrors.{error_of}
 use Rattle.cert_facts.specs.PartAnswers.{then_part}
-use Rattle.cert_text.specs.NodePointNames.{point_named, known_point, cut_point, node_is_at, points_if_new, StateTables, points_read}
+use Rattle.cert_text.specs.NodePointNames.{point_named, known_point, cut_point, node_is_at, may_share_points, points_if_free, StateTables}
+use Rattle.cert_text.specs.NodePointNames.{points_read}
 use Rattle.cert_terms.specs.TextFunctions.{meanings_by}
 use Rattle.cert_facts.specs.FactReading.{TermContext, text_read, known_place, equation_read, equation_put, equations_read}
 use Rattle.cert_facts.specs.FactReading.{unwritten_equation, conditions_read, solved_fact, node_fact}
@@ -69,20 +70,20 @@ cut_passes i m P = by_test (is_point m P)
     by_test true = refl
     by_test false = refl
 
-noted_passes : (i : ℕ) (earlier : List (Node Fact)) (P Q : Point) → passes (points_if_new i earlier P Q) ≡ true
-noted_passes i earlier P Q = by_test (list_any (node_is_at P Q) earlier)
+free_passes : (i format : ℕ) (earlier : List (Node Fact)) (P Q : Point) → passes (points_if_free i format earlier P Q) ≡ true
+free_passes i format earlier P Q = by_test (not (may_share_points format) && list_any (node_is_at P Q) earlier)
   where
     by_test : (t : Bool) → passes (cond {A = Result (Point × Point) CertError} t (Err (errors.TwiceNode i)) (Ok (P, Q))) ≡ true
     by_test true = refl
     by_test false = refl
 
-points_pass : (i : ℕ) (s : StateTables) (earlier : List (Node Fact)) (left right : List ℕ) → passes (points_read i s earlier left right) ≡ true
+points_pass : (i format : ℕ) (s : StateTables) (earlier : List (Node Fact)) (left right : List ℕ) → passes (points_read i format s earlier left right) ≡ true
 unfolding points_read
-points_pass i s earlier left right =
+points_pass i format s earlier left right =
     passes_after (known_point i (point_named s.left left)) _ (known_passes i (point_named s.left left)) (λ P.
     passes_after (known_point i (point_named s.right right)) _ (known_passes i (point_named s.right right)) (λ Q.
     passes_after (cut_point i s.a P) _ (cut_passes i s.a P) (λ R.
-    passes_after (cut_point i s.b Q) _ (cut_passes i s.b Q) (λ S. noted_passes i earlier R S))))
+    passes_after (cut_point i s.b Q) _ (cut_passes i s.b Q) (λ S. free_passes i format earlier R S))))
 
 -- ---- texts
 
@@ -133,7 +134,7 @@ fact_passes c i n =
 node_passes : (c : Context) (i : ℕ) (earlier : List (Node Fact)) (n : NodeText) → passes (node_read c i earlier n) ≡ true
 unfolding node_read
 node_passes c i earlier n =
-    passes_after (points_read i c.states earlier n.left n.right) _ (points_pass i c.states earlier n.left n.right) (λ P.
+    passes_after (points_read i c.terms.format c.states earlier n.left n.right) _ (points_pass i c.terms.format c.states earlier n.left n.right) (λ P.
     passes_after (node_fact c.terms i n) _ (fact_passes c.terms i n) (λ f. refl))
 
 nodes_pass : (c : Context) (i : ℕ) (earlier : List (Node Fact)) (ns : List NodeText) → passes (nodes_read c i earlier ns) ≡ true

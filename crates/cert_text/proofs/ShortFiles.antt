@@ -224,7 +224,7 @@ module _ (a b : Fsmd) (format : ℕ) (r : TextMeanings) (few : length (positions
   node_alike : (i : ℕ) (earlier : List (Node Fact)) (n : NodeText) → IsDistinct bytes_eq (map key_of (take 385 n.equations))
       → node_read (context_of a b format r) i earlier (short_node n) ≡ node_read (context_of a b format r) i earlier n
   unfolding node_read
-  node_alike i earlier n h = then_same (points_read i (context_of a b format r).states earlier n.left n.right) _ _ (λ P.
+  node_alike i earlier n h = then_same (points_read i format (context_of a b format r).states earlier n.left n.right) _ _ (λ P.
       ap (λ y. then_part {Y = Node Fact} y (λ f. Ok (record { left = P.0; right = P.1; mode = mode_named n.mode; rank = n.rank; fact = f })))
       (fact_alike i n h))
 

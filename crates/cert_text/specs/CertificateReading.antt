@@ -27,7 +27,7 @@ mode_named s = cond (bytes_eq s (codes "both")) mode.Both
 -- node i behind others: first its points, then its fact
 unfoldable pub node_read : Context → ℕ → List (Node Fact) → NodeText → Result (Node Fact) CertError
 node_read c i earlier n =
-    then_part (points_read i c.states earlier n.left n.right) (λ P.
+    then_part (points_read i c.terms.format c.states earlier n.left n.right) (λ P.
     then_part (node_fact c.terms i n)
     (λ f. Ok (record { left = P.0; right = P.1; mode = mode_named n.mode; rank = n.rank; fact = f })))
 

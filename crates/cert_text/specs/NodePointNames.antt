@@ -1,5 +1,5 @@
 -- The points that a node names.
-use Rattle.std.specs.Prelude.{ℕ, Bool, ◌&&◌, cond, List, Option, Some, None, option_map, Result, Ok, Err, codes}
+use Rattle.std.specs.Prelude.{ℕ, ◌==◌, Bool, not, ◌&&◌, cond, List, Option, Some, None, option_map, Result, Ok, Err, codes}
 use Rattle.std.specs.List.{list_any}
 use Rattle.std.specs.Str.{bytes_eq}
 use Rattle.fs_model.specs.Machines.{Fsmd}
@@ -28,9 +28,14 @@ cut_point i m P = cond (is_point m P) (Ok P) (Err (NotCutpoint i))
 abbrev pub node_is_at : (left right : Point) → Node Fact → Bool
 node_is_at P Q n = same_point n.left P && same_point n.right Q
 
--- the points of node i, where no other node stands there
-abbrev pub points_if_new : ℕ → List (Node Fact) → (left right : Point) → Result (Point × Point) CertError
-points_if_new i earlier P Q = cond (list_any (node_is_at P Q) earlier) (Err (TwiceNode i)) (Ok (P, Q))
+-- whether two nodes may stand at the same points in a file of a format
+abbrev pub may_share_points : ℕ → Bool
+may_share_points format = format == 4
+
+-- the points of node i in a file of a format, where no other node stands there or may stand there too
+abbrev pub points_if_free : ℕ → (format : ℕ) → List (Node Fact) → (left right : Point) → Result (Point × Point) CertError
+points_if_free i format earlier P Q =
+    cond (not (may_share_points format) && list_any (node_is_at P Q) earlier) (Err (TwiceNode i)) (Ok (P, Q))
 
 -- what points are looked up in: two machines, and the numbers of their states by name
 pub record StateTables : Type 0 where
@@ -39,10 +44,11 @@ pub record StateTables : Type 0 where
   pub left : List ℕ → Option ℕ
   pub right : List ℕ → Option ℕ
 
--- the points of node i behind others: first both are known, then both are points, then no other node stands there
-unfoldable pub points_read : ℕ → StateTables → List (Node Fact) → (left right : List ℕ) → Result (Point × Point) CertError
-points_read i s earlier left right =
+-- the points of node i behind others in a file of a format: first both are known, then both are points, then they are free
+unfoldable pub points_read : ℕ → (format : ℕ) → StateTables → List (Node Fact) → (left right : List ℕ)
+    → Result (Point × Point) CertError
+points_read i format s earlier left right =
     then_part (known_point i (point_named s.left left)) (λ P.
     then_part (known_point i (point_named s.right right)) (λ Q.
     then_part (cut_point i s.a P) (λ R.
-    then_part (cut_point i s.b Q) (λ S. points_if_new i earlier R S))))
+    then_part (cut_point i s.b Q) (λ S. points_if_free i format earlier R S))))

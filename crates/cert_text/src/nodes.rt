@@ -1,14 +1,12 @@
 //! Nodes.
 
 ghost use Rattle.std.specs.Prelude.{◌≡◌, ◌≤◌, ◌+◌, [], true, false, codes, length, map, IfOk, OnOk};
-ghost use Rattle.std.specs.List.{list_any};
 ghost use Rattle.cert_values.specs.View.{view, items_view};
 ghost use Rattle.cert_values.specs.Shape.{is_node, are_nodes, has_many_conditions, some_has_many};
 ghost use Rattle.cert_model.specs.Lawful.{most_nodes, most_rank};
 ghost use Rattle.cert_model.specs.View.{node_of};
 ghost use Rattle.cert_facts.specs.JsonParts.{json_number as number_under, node_text_in, node_texts};
 ghost use Rattle.cert_facts.specs.PartAnswers.{Tells};
-ghost use Rattle.cert_text.specs.NodePointNames.{node_is_at};
 ghost use Rattle.cert_text.specs.CertificateReading.{mode_named as mode_of, node_read, node_added, nodes_read};
 ghost use Rattle.cert_terms.specs.Repeats.{AreLast};
 ghost use Rattle.cert_text.specs.View.{context_in};
@@ -65,7 +63,6 @@ fn read_node(
     requires last { AreLast c.now.places.now last.old.items }
     ensures told { Tells node_of result
         (node_read (context_in c.now) node (map node_of earlier.now) (node_text_in (view value.now))) }
-    ensures free { IfOk result (λ n. list_any (node_is_at (node_of n).left (node_of n).right) (map node_of earlier.now) ≡ false) }
     ensures of { IfOk result (λ n. IsNodeOf c.now.a.now c.now.b.now c.now.places.now.positions.now (node_of n)) }
     ensures last { OnOk result (AreLast c.now.places.now last.new.items) }
 {

@@ -1,6 +1,6 @@
 //! The points of nodes.
 
-ghost use Rattle.std.specs.Prelude.{◌≡◌, true, false, option_map, map, IfOk};
+ghost use Rattle.std.specs.Prelude.{◌≡◌, true, option_map, map, IfOk};
 ghost use Rattle.std.specs.List.{list_any};
 ghost use Rattle.fs_cut.specs.Paths.{is_point};
 ghost use Rattle.fs_cut.specs.View.{point_of};
@@ -8,7 +8,7 @@ ghost use Rattle.cert_model.specs.View.{node_of};
 ghost use Rattle.cert_facts.specs.PartAnswers.{Tells};
 ghost use Rattle.cert_terms.specs.NameTables.{name_number};
 ghost use Rattle.cert_text.specs.NodePointNames.{point_named as named, known_point as known, cut_point as cut};
-ghost use Rattle.cert_text.specs.NodePointNames.{node_is_at as stands_at, points_if_new, points_read};
+ghost use Rattle.cert_text.specs.NodePointNames.{node_is_at as stands_at, may_share_points, points_if_free, points_read};
 ghost use Rattle.cert_text.specs.View.{states_in};
 
 use cert_facts::context::Context;
@@ -77,19 +77,26 @@ fn is_taken(left: Point, right: Point, nodes: &[Node]) -> bool
     false
 }
 
-// Refuses a node at points at which an earlier one stands.
+// Whether two nodes may stand at the same points in a file of a format.
+fn may_share_points(format: u64) -> bool
+    ensures { result ≡ may_share_points format }
+{
+    format == 4
+}
+
+// Refuses a node at points at which an earlier one stands, where that may not be in a file of the format.
 fn free_points(
     node: u32,
+    format: u64,
     earlier: &[Node],
     left: Point,
     right: Point,
 ) -> Result<(Point, Point), Stop>
     ensures told { Tells (λ P. (point_of P.0, point_of P.1)) result
-        (points_if_new node (map node_of earlier.now) (point_of left) (point_of right)) }
-    ensures free { IfOk result (λ P. list_any (stands_at (point_of P.0) (point_of P.1)) (map node_of earlier.now) ≡ false) }
+        (points_if_free node format (map node_of earlier.now) (point_of left) (point_of right)) }
     ensures same { IfOk result (λ P. P ≡ (left, right)) }
 {
-    if is_taken(left, right, earlier) {
+    if !may_share_points(format) && is_taken(left, right, earlier) {
         return Err(Stop::Refused(CertError::TwiceNode { node }));
     }
     Ok((left, right))
@@ -105,8 +112,7 @@ pub fn read_points(
     right: &[u8],
 ) -> Result<(Point, Point), Stop>
     ensures told { Tells (λ P. (point_of P.0, point_of P.1)) result
-        (points_read node (states_in c.now) (map node_of earlier.now) left.now right.now) }
-    ensures free { IfOk result (λ P. list_any (stands_at (point_of P.0) (point_of P.1)) (map node_of earlier.now) ≡ false) }
+        (points_read node c.now.places.now.format (states_in c.now) (map node_of earlier.now) left.now right.now) }
     ensures left { IfOk result (λ P. is_point c.now.a.now (point_of P.0) ≡ true) }
     ensures right { IfOk result (λ P. is_point c.now.b.now (point_of P.1) ≡ true) }
 {
@@ -114,5 +120,5 @@ pub fn read_points(
     let second = known_point(node, c.right_states, right)?;
     let first = cut_point(node, c.a, first)?;
     let second = cut_point(node, c.b, second)?;
-    free_points(node, earlier, first, second)
+    free_points(node, c.places.format, earlier, first, second)
 }

@@ -156,12 +156,12 @@ fn cert_of(
 /// The first rule that is broken is refused. First the whole file is looked at: `NotJson` where the bytes are not JSON as
 /// `serde_json` reads it, `Shape` where the value does not have the form of a certificate, `TooMany` where there are more
 /// than 4,096 nodes or 64 conditions in a node. Then, for each node in order: `UnknownState` for its left and then for its
-/// right point, `NotCutpoint` for the left and then for the right, `TwiceNode`; for each equation in byte order of the keys
-/// `UnknownName` where the key names no position, and then what is wrong with its term; what is wrong with each condition
-/// in order; and `NotSolved` with the place of the first position that has an equation and is mentioned. Of a term or a
-/// condition the first of these counts: `BadTerm`, `NumberTooBig`, `UnknownName`, `SortOf`, `NotNormal`. In a file of
-/// format 1 a port is no position, and its equation is the empty list. Of equal keys the last counts. `NoMemory` may come
-/// at any time.
+/// right point, `NotCutpoint` for the left and then for the right, `TwiceNode`, which is none in format 4; for each equation
+/// in byte order of the keys `UnknownName` where the key names no position, and then what is wrong with its term; what is
+/// wrong with each condition in order; and `NotSolved` with the place of the first position that has an equation and is
+/// mentioned. Of a term or a condition the first of these counts: `BadTerm`, `NumberTooBig`, `UnknownName`, `SortOf`,
+/// `NotNormal`. In a file of format 1 a port is no position, and its equation is the empty list. Of equal keys the last
+/// counts. `NoMemory` may come at any time.
 pub fn read_cert(
     alloc: Global,
     bytes: &[u8],

@@ -72,7 +72,7 @@ is_list_of_nodes (Some ds) = are_nodes ds
 -- the number of a format
 abbrev pub is_format : Option ℕ → Bool
 is_format None = false
-is_format (Some n) = n == 1 || n == 2
+is_format (Some n) = n == 1 || n == 2 || n == 4
 
 -- a file has these two members and no others
 abbrev pub is_file : Data → Bool

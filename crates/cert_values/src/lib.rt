@@ -6,7 +6,8 @@
 //! Rules: `specs/View`, `specs/Shape`, `specs/JsonTexts`.
 //!
 //! Words:
-//! - format (of a certificate): 1 or 2, the value of `format`; where ports are named it is 2
+//! - format (of a certificate): 1, 2 or 4, the value of `format`; where ports are named it is not 1, and where two nodes stand
+//!   at the same points it is 4
 #![tactic(auto)]
 
 pub mod shape;

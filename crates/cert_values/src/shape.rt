@@ -147,7 +147,7 @@ fn is_format(value: Option<&Value<'_>>) -> bool
 {
     match value {
         Some(value) => match value.as_u64() {
-            Some(n) => n == 1 || n == 2,
+            Some(n) => n == 1 || n == 2 || n == 4,
             None => false,
         },
         None => false,

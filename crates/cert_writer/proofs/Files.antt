@@ -18,7 +18,7 @@ use Rattle.cert_bisimulation.specs.declared.mode.Mode.{Mode}
 use Rattle.cert_bisimulation.specs.declared.mode.Mode.TheVariants as mode
 use Rattle.cert_bisimulation.specs.Tables.{Node}
 use Rattle.sym_facts.specs.Facts.{Fact}
-use Rattle.cert_model.specs.Lawful.{IsLawful}
+use Rattle.cert_model.specs.Lawful.{IsLawful, points_differ}
 use Rattle.cert_json.specs.Shape.{are_texts, name_texts, is_mode_name, is_node, are_nodes, is_format, is_file, has_many_conditions, some_has_many, has_too_many}
 use Rattle.cert_json.specs.Refusals.{IsFileOf}
 use Rattle.cert_json.specs.WrittenJson.{NodeText, texts, named_texts, node_data, nodes_data, file_data}
@@ -92,13 +92,17 @@ nodes_shape a b (n ∷ ns) h =
     and_from (is_node (node_data (node_written a b n))) (are_nodes (nodes_data (map (node_written a b) ns)))
     (node_shape (node_written a b n) (mode_shape n.mode) (and_first (nat_le n.rank 4096) rest h)) (nodes_shape a b ns (and_second (nat_le n.rank 4096) rest h))
 
-format_shape : (t : Bool) → is_format (Some (cond t 2 1)) ≡ true
-format_shape true = refl
-format_shape false = refl
+format_shape : (differ : Bool) (ps : List Position) → is_format (Some (needed_format differ ps)) ≡ true
+format_shape true ps = by_ports (list_any (λ p. is_port p.sort) ps)
+  where
+    by_ports : (t : Bool) → is_format (Some (cond t 2 1)) ≡ true
+    by_ports true = refl
+    by_ports false = refl
+format_shape false ps = refl
 
 file_shape : (a b : Fsmd) (ps : List Position) (ns : List (Node Fact)) → list_all (λ n. nat_le n.rank 4096) ns ≡ true → is_file (file_written a b ps ns) ≡ true
 unfolding serde_json_on_literals
-file_shape a b ps ns h = rw (format_shape (list_any (λ p. is_port p.sort) ps), nodes_shape a b ns h) refl
+file_shape a b ps ns h = rw (format_shape (points_differ ns) ps, nodes_shape a b ns h) refl
 
 -- ---- the limits
 
@@ -129,12 +133,15 @@ file_few a b ps ns l h = let ds = map (node_written a b) ns in
 
 pub text_is : (a b : Fsmd) (ps : List Position) (ns : List (Node Fact)) (bytes : List ℕ) (d : Data) → d ≡ file_written a b ps ns
     → (has_float d ≡ false → bytes ≡ compact_text d) → bytes ≡ compact_text (file_written a b ps ns)
-text_is a b ps ns bytes d e text = text (ap has_float e ∙ file_no_float (needed_format ps) (map (node_written a b) ns)) ∙ ap compact_text e
+text_is a b ps ns bytes d e text = text (ap has_float e ∙ file_no_float (needed_format (points_differ ns) ps) (map (node_written a b) ns)) ∙ ap compact_text e
 
 pub is_file_of : (a b : Fsmd) (ps : List Position) (ns : List (Node Fact)) → IsLawful a b ns → AllByRecursion HasNormalFact ns → (bytes : List ℕ) (d : Data)
     → d ≡ file_written a b ps ns → IsUtf8 bytes → (depth d ≤ 127 → read bytes ≡ Some d) → IsFileOf bytes (file_written a b ps ns)
 is_file_of a b ps ns lawful kept bytes d e utf8 back = record {
-  json = record { text = utf8; value = back (omega (arith, ap depth e, file_flat (needed_format ps) (map (node_written a b) ns))) ∙ ap Some e };
+  json = record {
+    text = utf8;
+    value = back (omega (arith, ap depth e, file_flat (needed_format (points_differ ns) ps) (map (node_written a b) ns))) ∙ ap Some e;
+  };
   shape = file_shape a b ps ns lawful.ranks;
   few = file_few a b ps ns lawful.few kept;
 }

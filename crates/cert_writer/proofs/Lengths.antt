@@ -31,6 +31,7 @@ use Rattle.term_text.specs.TermTexts.{symbol_text}
 use Rattle.term_writer.proofs.Plain.{is_plain, ArePlain}
 use Rattle.term_writer.proofs.Bound.{symbol_short}
 use Rattle.cert_json.specs.WrittenJson.{NodeText, texts, named_texts, node_data, nodes_data}
+use Rattle.cert_model.specs.Lawful.{points_differ}
 use Rattle.cert_writer.specs.WrittenCertificates.{form_written, literal_bytes, with_equation_member, equations_written, point_written, mode_written}
 use Rattle.cert_writer.specs.WrittenCertificates.{node_written, needed_format, file_written}
 use Rattle.cert_model.specs.Sizes.{units_of}
@@ -261,9 +262,13 @@ nodes_bound a b s t later (n ∷ ns) k r =
       nodes_bound a b s t true ns k.1 (and_second (nat_le n.rank 4096) rest r),
     )
 
-format_length : (t : Bool) → length (decimal (cond t 2 1)) ≤ 1
-format_length true = length-decimal-le_wide 1 2 (omega arith) (omega arith) (omega arith)
-format_length false = length-decimal-le_wide 1 1 (omega arith) (omega arith) (omega arith)
+format_length : (differ : Bool) (ps : List Position) → length (decimal (needed_format differ ps)) ≤ 1
+format_length true ps = by_ports (list_any (λ p. is_port p.sort) ps)
+  where
+    by_ports : (t : Bool) → length (decimal (cond t 2 1)) ≤ 1
+    by_ports true = length-decimal-le_wide 1 2 (omega arith) (omega arith) (omega arith)
+    by_ports false = length-decimal-le_wide 1 1 (omega arith) (omega arith) (omega arith)
+format_length false ps = length-decimal-le_wide 1 4 (omega arith) (omega arith) (omega arith)
 
 pub file_bound : (a b : Fsmd) → IsSound a → IsSound b → (ps : List Position) (ns : List (Node Fact)) → AllByRecursion HasNormalFact ns
     → list_all (λ n. nat_le n.rank 4096) ns ≡ true → (bytes : List ℕ) → bytes ≡ compact_text (file_written a b ps ns) → length bytes ≤ most_bytes ns
@@ -275,8 +280,8 @@ file_bound a b s t ps ns k r bytes e =
       ap length e,
       file_key_lengths.0,
       file_key_lengths.1,
-      member_length false (codes "format") (number (unsigned (needed_format ps))) nodes,
+      member_length false (codes "format") (number (unsigned (needed_format (points_differ ns) ps))) nodes,
       member_length true (codes "nodes") (array ds) no_members,
-      format_length (list_any (λ p. is_port p.sort) ps),
+      format_length (points_differ ns) ps,
       nodes_bound a b s t false ns k r,
     )

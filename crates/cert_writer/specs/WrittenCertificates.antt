@@ -1,5 +1,5 @@
 -- How a certificate is written.
-use Rattle.std.specs.Prelude.{ℕ, cond, List, [], ◌∷◌, map, Option, Some, None, codes}
+use Rattle.std.specs.Prelude.{ℕ, Bool, true, false, cond, List, [], ◌∷◌, map, Option, Some, None, codes}
 use Rattle.std.specs.List.{list_any}
 use Rattle.serde_json.specs.Data.{Data, string, Members, no_members, put}
 use Rattle.serde_json.specs.Written.{compact_text}
@@ -18,6 +18,7 @@ use Rattle.nf_terms.specs.declared.form.Nf.{Nf}
 use Rattle.nf_terms.specs.declared.form.Nf.TheVariants.{Num, Arr, Seq}
 use Rattle.nf_rel.specs.Literals.{NormalLiteral}
 use Rattle.sym_facts.specs.Facts.{FactPosition, Fact}
+use Rattle.cert_model.specs.Lawful.{points_differ}
 use Rattle.term_text.specs.TermTexts.{symbol_text, polynomial_text, array_text, list_text}
 use Rattle.term_condition_text.specs.ConditionTexts.{condition_text}
 use Rattle.term_writer.specs.WrittenTerms.{polynomial_written, array_written, list_written, literal_written as written_literal}
@@ -63,13 +64,14 @@ node_written a b n = record {
   right = point_written b n.right;
 }
 
--- format 2 exactly where a machine declares a port
-abbrev pub needed_format : List Position → ℕ
-needed_format ps = cond (list_any (λ p. is_port p.sort) ps) 2 1
+-- where no two nodes stand at the same points, format 2 exactly where a machine declares a port; else format 4
+abbrev pub needed_format : (points_differ : Bool) → List Position → ℕ
+needed_format true ps = cond (list_any (λ p. is_port p.sort) ps) 2 1
+needed_format false ps = 4
 
 -- the JSON that a certificate is written as
 abbrev pub file_written : (a b : Fsmd) → List Position → List (Node Fact) → Data
-file_written a b ps ns = file_data (needed_format ps) (map (node_written a b) ns)
+file_written a b ps ns = file_data (needed_format (points_differ ns) ps) (map (node_written a b) ns)
 
 -- the bytes of a certificate of two machines
 abbrev pub certificate_text : (a b : Fsmd) → List (Node Fact) → List ℕ

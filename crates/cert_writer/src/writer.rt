@@ -6,7 +6,7 @@ ghost use Rattle.fs_model.specs.Runs.{is_port};
 ghost use Rattle.fs_model.specs.SoundMachines.{IsSound};
 ghost use Rattle.serde_json.specs.View.{view};
 ghost use Rattle.fs_pair.specs.Positions.{positions};
-ghost use Rattle.cert_model.specs.Lawful.{IsLawful};
+ghost use Rattle.cert_model.specs.Lawful.{IsLawful, points_differ};
 ghost use Rattle.cert_model.specs.View.{node_of};
 ghost use Rattle.cert_json.specs.Refusals.{IsFileOf};
 ghost use Rattle.cert_writer.specs.WrittenCertificates.{needed_format as format_by, file_written, certificate_text};
@@ -16,7 +16,8 @@ ghost use Rattle.cert_model.specs.Kept.{HasNormalFact};
 use crate::names::MachineNames;
 use crate::nodes::nodes_value;
 use crate::written::file_value;
-use cert_model::cert::Cert;
+use cert_model::cert::{Cert, Node};
+use cert_model::lawful_nodes::points_differ;
 use fs_ast::machine::Machine;
 use fs_model::parts::Sort;
 use fs_pair::positions::{Pairing, Position};
@@ -36,10 +37,13 @@ fn has_port(positions: &[Position]) -> bool
     false
 }
 
-// The format of a certificate for machines with these positions.
-fn format_of(positions: &[Position]) -> u64
-    ensures { result ≡ format_by positions.now }
+// The format of a certificate with these nodes for machines with these positions.
+fn format_of(positions: &[Position], nodes: &[Node]) -> u64
+    ensures { result ≡ format_by (points_differ (map node_of nodes.now)) positions.now }
 {
+    if !points_differ(nodes) {
+        return 4;
+    }
     if has_port(positions) { 2 } else { 1 }
 }
 
@@ -60,12 +64,14 @@ fn value_of<'a>(
     let names = MachineNames { a, b };
     names.hold();
     let nodes = nodes_value(alloc, &names, c.nodes.as_slice())?;
-    let value = file_value(alloc, format_of(p.positions()), nodes)?;
+    let format = format_of(p.positions(), c.nodes.as_slice());
+    let value = file_value(alloc, format, nodes)?;
     Ok(value)
 }
 
-/// The bytes of a lawful certificate of two machines, in time linear in them: compact JSON with keys in byte order, and
-/// format 2 exactly where a machine declares a port. The one refusal is out of memory.
+/// The bytes of a lawful certificate of two machines: compact JSON with keys in byte order. It has format 4 exactly where two
+/// nodes stand at the same points, and else format 2 exactly where a machine declares a port. The time is linear in the bytes,
+/// and quadratic in the number of nodes. The one refusal is out of memory.
 pub fn write_cert(
     alloc: Global,
     c: &Cert,

@@ -101,13 +101,13 @@ not_kept l h e =
     let t : not (same_literal True True) ≡ true = ap (λ m. not (same_literal m True)) (sym e) ∙ and_first (not (same_literal l True)) (is_normal_literal l) h in
     cc t
 
-module _ (a b : Fsmd) (left : IsSound a) (right : IsSound b) (laws : TextLaws (position_name a b) (find a b left right)) (r : TextMeanings)
-    (read : AreRead (find a b left right) r) where
+module _ (a b : Fsmd) (left : IsSound a) (right : IsSound b) (differ : Bool) (laws : TextLaws (position_name a b) (find a b left right differ))
+    (r : TextMeanings) (read : AreRead (find a b left right differ) r) where
   abbrev all : List Position
   all = positions a b
 
   abbrev terms : TermContext
-  terms = record { place = place_named a b all; positions = all; format = needed_format all; texts = r }
+  terms = record { place = place_named a b all; positions = all; format = needed_format differ all; texts = r }
 
   -- ---- conditions
 
@@ -117,8 +117,8 @@ module _ (a b : Fsmd) (left : IsSound a) (right : IsSound b) (laws : TextLaws (p
   conditions_again i before (l ∷ ls) h w =
       let texts : List (List ℕ) = map (literal_bytes (position_name a b)) ls in
       let kept : may_be_kept l ≡ true = and_first (may_be_kept l) (list_all may_be_kept ls) h in
-      let here = literal_read (position_name a b) (find a b left right) laws r read (is_position all)
-      (named a b left right) l (and_second (not (same_literal l True)) (is_normal_literal l) kept) (not_kept l kept)
+      let here = literal_read (position_name a b) (find a b left right differ) laws r read (is_position all)
+      (named a b left right differ) l (and_second (not (same_literal l True)) (is_normal_literal l) kept) (not_kept l kept)
       (and_first (literal_within (is_position all) l) (list_all (literal_within (is_position all)) ls) w) in
       ap (λ y. then_part (text_read i y) (λ m. conditions_read terms i (before ++ m ∷ []) texts)) here
       ∙ conditions_again i (before ++ l ∷ []) ls (and_second (may_be_kept l) (list_all may_be_kept ls) h)
@@ -139,7 +139,7 @@ module _ (a b : Fsmd) (left : IsSound a) (right : IsSound b) (laws : TextLaws (p
     key q = symbol_text q.pos.side (position_name a b q.pos)
 
     key_names : (k : ℕ) (p : Position) (q : FactPosition) → slice_get all k ≡ Some p → SamePlace p q → Names terms k (key q)
-    key_names k p q e s = subst (λ z. Names terms k (symbol_text z.side (position_name a b z))) s.pos (key_found a b left right k p e)
+    key_names k p q e s = subst (λ z. Names terms k (symbol_text z.side (position_name a b z))) s.pos (key_found a b left right differ k p e)
 
     sort_is : (k : ℕ) (p : Position) (q : FactPosition) (g : Nf) → slice_get all k ≡ Some p → slice_get f.positions k ≡ Some q → SamePlace p q
         → q.equation ≡ Some g → sort_at all k ≡ sort_of_form g
@@ -156,8 +156,8 @@ module _ (a b : Fsmd) (left : IsSound a) (right : IsSound b) (laws : TextLaws (p
         ap (λ o. form_within (is_position all) (form_or_symbol q.sort q.pos o)) (sym is)
         ∙ all_at (λ e. form_within (is_position all) e.1) (λ (z : FactPosition). (z.pos, form_or_symbol z.sort z.pos z.equation)) f.positions k q
         of.vector.symbols h in
-        form_read (position_name a b) (find a b left right) laws r read (is_position all)
-        (named a b left right) g (subst IsNormalEquation is (normal_at f.positions k q normal h)) within
+        form_read (position_name a b) (find a b left right differ) laws r read (is_position all)
+        (named a b left right differ) g (subst IsNormalEquation is (normal_at f.positions k q normal h)) within
 
     one_of : (k : ℕ) (q : FactPosition) (g : Nf) → slice_get f.positions k ≡ Some q → q.equation ≡ Some g → AtPlace all f.positions k
         → IsOneOf terms i (equations_in f.positions) (key q, form_written (position_name a b) g)
@@ -180,27 +180,28 @@ module _ (a b : Fsmd) (left : IsSound a) (right : IsSound b) (laws : TextLaws (p
     abbrev written : List (List ℕ × List ℕ)
     written = named_texts_of (equations_written (position_name a b) no_members f.positions)
 
-    begun_so : (k : ℕ) → AtPlace all f.positions k → IsSet terms (map (unwritten_equation (needed_format all)) all) (equations_in f.positions) written k
+    begun_so : (k : ℕ) → AtPlace all f.positions k → IsSet terms (map (unwritten_equation (needed_format differ all)) all) (equations_in f.positions) written k
     begun_so k (none_there e t) =
-        inl (slice_get-map (unwritten_equation (needed_format all)) all k ∙ ap (option_map (unwritten_equation (needed_format all))) e
+        inl (slice_get-map (unwritten_equation (needed_format differ all)) all k ∙ ap (option_map (unwritten_equation (needed_format differ all))) e
         ∙ sym (slice_get-map (λ (x : FactPosition). x.equation) f.positions k ∙ ap (option_map (λ (x : FactPosition). x.equation)) t))
     begun_so k (both_there p q e t s) = by_equation q.equation refl
       where
-        by_equation : (o : Option Nf) → q.equation ≡ o → IsSet terms (map (unwritten_equation (needed_format all)) all) (equations_in f.positions) written k
+        by_equation : (o : Option Nf) → q.equation ≡ o
+            → IsSet terms (map (unwritten_equation (needed_format differ all)) all) (equations_in f.positions) written k
         by_equation None is =
-            inl (slice_get-map (unwritten_equation (needed_format all)) all k ∙ ap (option_map (unwritten_equation (needed_format all))) e
-            ∙ ap (λ x. Some (cond x None (Some (Seq (bare_list base.Empty))))) (in_format all k p e)
+            inl (slice_get-map (unwritten_equation (needed_format differ all)) all k ∙ ap (option_map (unwritten_equation (needed_format differ all))) e
+            ∙ ap (λ x. Some (cond x None (Some (Seq (bare_list base.Empty))))) (in_format differ all k p e)
             ∙ sym (slice_get-map (λ (x : FactPosition). x.equation) f.positions k ∙ ap (option_map (λ (x : FactPosition). x.equation)) t ∙ ap Some is))
         by_equation (Some g) is = inr (new_written (Names terms k) (position_name a b) no_members f.positions k q g t is (key_names k p q e s))
 
-    equations_again : equations_read terms i (map (unwritten_equation (needed_format all)) all) written ≡ Ok (equations_in f.positions)
+    equations_again : equations_read terms i (map (unwritten_equation (needed_format differ all)) all) written ≡ Ok (equations_in f.positions)
     equations_again =
         let n : length (equations_in f.positions) ≡ length all =
         length-map f.positions (λ (x : FactPosition). x.equation) ∙ sym (length-map f.positions (λ (x : FactPosition). x.sort)) ∙ ap length of.sorts
         ∙ length-map all (λ (x : Position). x.sort) in
-        all_read terms i (equations_in f.positions) written (map (unwritten_equation (needed_format all)) all)
+        all_read terms i (equations_in f.positions) written (map (unwritten_equation (needed_format differ all)) all)
         (all_written (IsOneOf terms i (equations_in f.positions)) (position_name a b) no_members f.positions (λ k q g h is. one_of k q g h is (places k)) tt)
-        (length-map all (unwritten_equation (needed_format all)) ∙ sym n) (λ k. begun_so k (places k))
+        (length-map all (unwritten_equation (needed_format differ all)) ∙ sym n) (λ k. begun_so k (places k))
 
     fact_is : fact_of all (equations_in f.positions) f.literals ≡ f
     fact_is = let e = places_again all f.positions of.vector.positions of.sorts in λ k. record { positions = e k; literals = f.literals }
@@ -213,7 +214,7 @@ module _ (a b : Fsmd) (left : IsSound a) (right : IsSound b) (laws : TextLaws (p
     unfolding node_fact
     fact_again n e c =
         ap
-        (λ es. then_part (equations_read terms i (map (unwritten_equation (needed_format all)) all) es)
+        (λ es. then_part (equations_read terms i (map (unwritten_equation (needed_format differ all)) all) es)
         (λ fs. then_part (conditions_read terms i [] n.conds) (λ ls. fact_read terms i fs ls))) e
         ∙ ap (λ y. then_part y (λ fs. then_part (conditions_read terms i [] n.conds) (λ ls. fact_read terms i fs ls))) equations_again
         ∙ ap (λ cs. then_part (conditions_read terms i [] cs) (λ ls. fact_read terms i (equations_in f.positions) ls)) c

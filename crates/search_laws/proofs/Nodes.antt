@@ -8,6 +8,7 @@ use Rattle.fs_model.specs.SoundMachines.{IsSound}
 use Rattle.fs_model.specs.Machines.{Fsmd}
 use Rattle.fs_cut.specs.Paths.{is_point}
 use Rattle.fs_cut.specs.Covers.{same_point}
+use Rattle.fs_pair.specs.declared.positions.Position.{Position}
 use Rattle.fs_pair.specs.Positions.{positions}
 use Rattle.fs_pair.specs.Partners.{position_name}
 use Rattle.cert_bisimulation.specs.declared.mode.Mode.{Mode}
@@ -21,7 +22,7 @@ use Rattle.cert_json.specs.WrittenJson.{NodeText}
 use Rattle.cert_writer.specs.WrittenCertificates.{needed_format, mode_written, node_written, file_written}
 use Rattle.cert_text.specs.CertificateNames.{place_named, find_in}
 use Rattle.cert_facts.specs.JsonParts.{file_nodes}
-use Rattle.cert_text.specs.NodePointNames.{then_part, node_is_at}
+use Rattle.cert_text.specs.NodePointNames.{then_part, node_is_at, may_share_points}
 use Rattle.cert_text.specs.CertificateReading.{Context, mode_named, node_fact, node_read, nodes_read}
 use Rattle.cert_text.specs.Refusals.{context_of, SpellsNodes}
 use Rattle.cert_text.specs.TextMeanings.{TextMeanings, AreRead}
@@ -54,13 +55,38 @@ free_before (e ∷ es) n ns h =
     ap (λ t. t || list_any (node_is_at n.left n.right) es) (fails_at test es n ns none)
     ∙ free_before es n ns (and_second (not (list_any test (es ++ n ∷ ns))) (points_differ (es ++ n ∷ ns)) h)
 
-module _ (a b : Fsmd) (left : IsSound a) (right : IsSound b) (laws : TextLaws (position_name a b) (find a b left right)) where
-  module _ (r : TextMeanings) (read : AreRead (find a b left right) r) where
+-- nodes that are written may share their points, or stand at different ones
+abbrev AreFree : Bool → List (Node Fact) → Type 0
+AreFree true ns = points_differ ns ≡ true
+AreFree false ns = Unit {0}
+
+free_here : (differ : Bool) (ps : List Position) (earlier : List (Node Fact)) (n : Node Fact) (ns : List (Node Fact)) → AreFree differ (earlier ++ n ∷ ns)
+    → not (may_share_points (needed_format differ ps)) && list_any (node_is_at n.left n.right) earlier ≡ false
+free_here true ps earlier n ns h = by_test (not (may_share_points (needed_format true ps))) (free_before earlier n ns h)
+  where
+    by_test : (t : Bool) → list_any (node_is_at n.left n.right) earlier ≡ false → t && list_any (node_is_at n.left n.right) earlier ≡ false
+    by_test true e = e
+    by_test false e = refl
+free_here false ps earlier n ns h = refl
+
+free_later : (differ : Bool) (ns ms : List (Node Fact)) → ns ≡ ms → AreFree differ ms → AreFree differ ns
+free_later differ ns ms e h = subst (AreFree differ) (sym e) h
+
+are_free : (ns : List (Node Fact)) → AreFree (points_differ ns) ns
+are_free ns = by_test (points_differ ns) refl
+  where
+    by_test : (t : Bool) → points_differ ns ≡ t → AreFree t ns
+    by_test true e = e
+    by_test false e = tt
+
+module _ (a b : Fsmd) (left : IsSound a) (right : IsSound b) (differ : Bool) (laws : TextLaws (position_name a b) (find a b left right differ)) where
+  module _ (r : TextMeanings) (read : AreRead (find a b left right differ) r) where
     abbrev context : Context
-    context = context_of a b (needed_format (positions a b)) r
+    context = context_of a b (needed_format differ (positions a b)) r
 
     node_again : (i : ℕ) (earlier : List (Node Fact)) (n : Node Fact) → is_point a n.left ≡ true → is_point b n.right ≡ true
-        → list_any (node_is_at n.left n.right) earlier ≡ false → IsFactOf (positions a b) n.fact → HasNormalFact n
+        → not (may_share_points (needed_format differ (positions a b))) && list_any (node_is_at n.left n.right) earlier ≡ false
+        → IsFactOf (positions a b) n.fact → HasNormalFact n
         → node_read context i earlier (node_written a b n) ≡ Ok n
     unfolding node_read
     node_again i earlier n p q free of kept =
@@ -70,38 +96,41 @@ module _ (a b : Fsmd) (left : IsSound a) (right : IsSound b) (laws : TextLaws (p
         (λ y. then_part y
         (λ P. then_part (node_fact context.terms i (node_written a b n))
         (λ f. Ok (record { left = P.0; right = P.1; mode = mode_named (mode_written n.mode); rank = n.rank; fact = f }))))
-        (points_again a b left right i earlier n.left n.right p q free)
-        ∙ ap (λ y. then_part y (λ f. Ok (made f))) (fact_again a b left right laws r read i n.fact of kept.fact kept.normal (node_written a b n) refl refl)
+        (points_again a b left right i (needed_format differ (positions a b)) earlier n.left n.right p q free)
+        ∙ ap (λ y. then_part y (λ f. Ok (made f)))
+        (fact_again a b left right differ laws r read i n.fact of kept.fact kept.normal (node_written a b n) refl refl)
         ∙ ap Ok same
 
     nodes_again : (i : ℕ) (earlier ns : List (Node Fact)) → list_all (λ n. is_point a n.left && is_point b n.right) ns ≡ true
-        → points_differ (earlier ++ ns) ≡ true → AllByRecursion (λ n. IsFactOf (positions a b) n.fact) ns → AllByRecursion HasNormalFact ns
+        → AreFree differ (earlier ++ ns) → AllByRecursion (λ n. IsFactOf (positions a b) n.fact) ns → AllByRecursion HasNormalFact ns
         → nodes_read context i earlier (map (node_written a b) ns) ≡ Ok (earlier ++ ns)
     nodes_again i earlier [] p d of kept = ap Ok (sym (append-nil earlier))
     nodes_again i earlier (n ∷ ns) p d of kept =
         let rest : Bool = list_all (λ (k : Node Fact). is_point a k.left && is_point b k.right) ns in
         let here : (is_point a n.left && is_point b n.right) ≡ true = and_first (is_point a n.left && is_point b n.right) rest p in
-        let later : points_differ ((earlier ++ n ∷ []) ++ ns) ≡ true = ap points_differ (append_assoc earlier (n ∷ []) ns) ∙ d in
+        let later : AreFree differ ((earlier ++ n ∷ []) ++ ns) = free_later differ ((earlier ++ n ∷ []) ++ ns) (earlier ++ n ∷ ns)
+        (append_assoc earlier (n ∷ []) ns) d in
         ap (λ y. then_part (then_part y (λ m. Ok (earlier ++ m ∷ []))) (λ ms. nodes_read context (i + 1) ms (map (node_written a b) ns)))
         (node_again i earlier n (and_first (is_point a n.left) (is_point b n.right) here) (and_second (is_point a n.left) (is_point b n.right) here)
-        (free_before earlier n ns d) of.0 kept.0)
+        (free_here differ (positions a b) earlier n ns d) of.0 kept.0)
         ∙ nodes_again (i + 1) (earlier ++ n ∷ []) ns (and_second (is_point a n.left && is_point b n.right) rest p) later of.1 kept.1
         ∙ ap Ok (append_assoc earlier (n ∷ []) ns)
 
-  -- what is written of nodes spells them
-  pub written_nodes : (bytes : List ℕ) (ns : List (Node Fact)) → IsLawful a b ns → AreNormal ns → IsFileOf bytes (file_written a b (positions a b) ns)
-      → SpellsNodes a b bytes ns
-  written_nodes bytes ns lawful normal file =
-      let format : ℕ = needed_format (positions a b) in
-      let texts : List NodeText = map (node_written a b) ns in
-      let d = file_written a b (positions a b) ns in
-      record {
-        value = d;
-        file = file;
-        nodes = λ r h.
-            (let read : AreRead (find a b left right) r = subst (λ f. AreRead (find_in (place_named a b (positions a b)) (positions a b) f) r)
-            (format_of_file format texts) h in
-            ap (λ f. nodes_read (context_of a b f r) 0 [] (file_nodes d)) (format_of_file format texts)
-            ∙ ap (λ ms. nodes_read (context_of a b format r) 0 [] ms) (nodes_of_file format texts)
-            ∙ nodes_again r read 0 [] ns lawful.points lawful.differ lawful.facts normal);
-      }
+-- what is written of nodes spells them
+pub written_nodes : (a b : Fsmd) (left : IsSound a) (right : IsSound b) (ns : List (Node Fact))
+    → TextLaws (position_name a b) (find a b left right (points_differ ns)) → (bytes : List ℕ) → IsLawful a b ns → AreNormal ns
+    → IsFileOf bytes (file_written a b (positions a b) ns) → SpellsNodes a b bytes ns
+written_nodes a b left right ns laws bytes lawful normal file =
+    let format : ℕ = needed_format (points_differ ns) (positions a b) in
+    let texts : List NodeText = map (node_written a b) ns in
+    let d = file_written a b (positions a b) ns in
+    record {
+      value = d;
+      file = file;
+      nodes = λ r h.
+          (let read : AreRead (find a b left right (points_differ ns)) r = subst
+          (λ f. AreRead (find_in (place_named a b (positions a b)) (positions a b) f) r) (format_of_file format texts) h in
+          ap (λ f. nodes_read (context_of a b f r) 0 [] (file_nodes d)) (format_of_file format texts)
+          ∙ ap (λ ms. nodes_read (context_of a b format r) 0 [] ms) (nodes_of_file format texts)
+          ∙ nodes_again a b left right (points_differ ns) laws r read 0 [] ns lawful.points (are_free ns) lawful.facts normal);
+    }

@@ -76,11 +76,18 @@ ports_counted sort.Array t h = refl
 ports_counted sort.Port true h = refl
 ports_counted sort.Port false h = let e = h refl in absurd (cc e)
 
--- in the format that is written each position is one
-pub in_format : (ps : List Position) (k : ℕ) (p : Position) → slice_get ps k ≡ Some p → is_in_format (needed_format ps) p.sort ≡ true
-in_format ps k p e = ports_counted p.sort (list_any (λ q. is_port q.sort) ps) (λ h. any_at (λ q. is_port q.sort) ps k p e h)
+all_in_four : (s : Sort) → is_in_format 4 s ≡ true
+all_in_four sort.Scalar = refl
+all_in_four sort.Array = refl
+all_in_four sort.Port = refl
 
-module _ (a b : Fsmd) (left : IsSound a) (right : IsSound b) where
+-- in the format that is written each position is one
+pub in_format : (differ : Bool) (ps : List Position) (k : ℕ) (p : Position) → slice_get ps k ≡ Some p
+    → is_in_format (needed_format differ ps) p.sort ≡ true
+in_format true ps k p e = ports_counted p.sort (list_any (λ q. is_port q.sort) ps) (λ h. any_at (λ q. is_port q.sort) ps k p e h)
+in_format false ps k p e = all_in_four p.sort
+
+module _ (a b : Fsmd) (left : IsSound a) (right : IsSound b) (differ : Bool) where
   abbrev all : List Position
   all = positions a b
 
@@ -143,15 +150,15 @@ module _ (a b : Fsmd) (left : IsSound a) (right : IsSound b) where
 
   -- a position is found by its name
   pub place_found : (k : ℕ) (p : Position) → slice_get all k ≡ Some p
-      → name_place (place_named a b all) all (needed_format all) p.pos.side (position_name a b p.pos) ≡ Some k
+      → name_place (place_named a b all) all (needed_format differ all) p.pos.side (position_name a b p.pos) ≡ Some k
   place_found k p e =
-      let format = needed_format all in
+      let format = needed_format differ all in
       ap (option_and_then (place_within format all)) (no_empty p.pos.side (position_name a b p.pos) (name_there k p e) ∙ place_listed k p e)
       ∙ ap (option_and_then (λ q. cond (is_in_format format q.sort) (Some k) None)) e
-      ∙ ap (λ t. cond t (Some k) None) (in_format all k p e)
+      ∙ ap (λ t. cond t (Some k) None) (in_format differ all k p e)
 
   abbrev pub find : Find
-  find = find_in (place_named a b all) all (needed_format all)
+  find = find_in (place_named a b all) all (needed_format differ all)
 
   named_at : (k : ℕ) (p : Position) → slice_get all k ≡ Some p → IsNamed (position_name a b) find (sort_of_terms p.sort) p.pos
   named_at k p e =
@@ -180,5 +187,5 @@ module _ (a b : Fsmd) (left : IsSound a) (right : IsSound b) where
 
   -- the key of a position names its place
   pub key_found : (k : ℕ) (p : Position) → slice_get all k ≡ Some p
-      → place_by_key (name_place (place_named a b all) all (needed_format all)) (symbol_text p.pos.side (position_name a b p.pos)) ≡ Some k
-  key_found k p e = key_read (name_place (place_named a b all) all (needed_format all)) p.pos.side (position_name a b p.pos) ∙ place_found k p e
+      → place_by_key (name_place (place_named a b all) all (needed_format differ all)) (symbol_text p.pos.side (position_name a b p.pos)) ≡ Some k
+  key_found k p e = key_read (name_place (place_named a b all) all (needed_format differ all)) p.pos.side (position_name a b p.pos) ∙ place_found k p e

@@ -1,6 +1,6 @@
 -- The texts of points are read as the points.
 use Rattle.std.proofs.Common.{◌≡◌, ℕ, zero, suc, ◌<◌, Bool, true, false, cond, not, List, [], ◌∷◌, length, get_or, Some, Ok, refl, sym, ap, ◌∙◌}
-use Rattle.std.specs.Prelude.{codes, slice_get, option_map}
+use Rattle.std.specs.Prelude.{◌&&◌, codes, slice_get, option_map}
 use Rattle.std.specs.List.{list_any}
 use Rattle.std.specs.Str.{bytes_eq}
 use Rattle.std.proofs.lemmas.Option.{slice_get-map, slice_get-get_or}
@@ -19,7 +19,8 @@ use Rattle.cert_bisimulation.specs.Tables.{Node}
 use Rattle.sym_facts.specs.Facts.{Fact}
 use Rattle.cert_writer.specs.WrittenCertificates.{point_written}
 use Rattle.cert_text.specs.CertificateNames.{machine_state_names, state_named}
-use Rattle.cert_text.specs.NodePointNames.{then_part, point_named, known_point, cut_point, node_is_at, points_if_new, StateTables, points_read}
+use Rattle.cert_text.specs.NodePointNames.{then_part, point_named, known_point, cut_point, node_is_at, may_share_points, points_if_free}
+use Rattle.cert_text.specs.NodePointNames.{StateTables, points_read}
 use Rattle.search_laws.proofs.Lookups.{any_at}
 use Rattle.search_laws.proofs.Places.{found_at, parts_of_name}
 
@@ -86,15 +87,16 @@ module _ (a b : Fsmd) (left : IsSound a) (right : IsSound b) where
   abbrev pub states : StateTables
   states = record { a = a; b = b; left = state_named a; right = state_named b }
 
-  -- the texts of the points of a node, where no earlier node stands there
-  pub points_again : (i : ℕ) (earlier : List (Node Fact)) (P Q : Point) → is_point a P ≡ true → is_point b Q ≡ true → list_any (node_is_at P Q) earlier ≡ false
-      → points_read i states earlier (point_written a P) (point_written b Q) ≡ Ok (P, Q)
+  -- the texts of the points of a node, where no earlier node stands there or one may stand there
+  pub points_again : (i format : ℕ) (earlier : List (Node Fact)) (P Q : Point) → is_point a P ≡ true → is_point b Q ≡ true
+      → not (may_share_points format) && list_any (node_is_at P Q) earlier ≡ false
+      → points_read i format states earlier (point_written a P) (point_written b Q) ≡ Ok (P, Q)
   unfolding points_read
-  points_again i earlier P Q p q free =
+  points_again i format earlier P Q p q free =
       ap
       (λ o. then_part (known_point i o)
       (λ X. then_part (known_point i (point_named (state_named b) (point_written b Q)))
-      (λ Y. then_part (cut_point i a X) (λ R. then_part (cut_point i b Y) (λ S. points_if_new i earlier R S))))) (point_again a left P p)
-      ∙ ap (λ o. then_part (known_point i o) (λ Y. then_part (cut_point i a P) (λ R. then_part (cut_point i b Y) (λ S. points_if_new i earlier R S))))
+      (λ Y. then_part (cut_point i a X) (λ R. then_part (cut_point i b Y) (λ S. points_if_free i format earlier R S))))) (point_again a left P p)
+      ∙ ap (λ o. then_part (known_point i o) (λ Y. then_part (cut_point i a P) (λ R. then_part (cut_point i b Y) (λ S. points_if_free i format earlier R S))))
       (point_again b right Q q)
       ∙ rw (p, q, free) refl

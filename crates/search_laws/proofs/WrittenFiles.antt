@@ -23,7 +23,7 @@ use Rattle.cert_bisimulation.specs.declared.mode.Mode.{Mode}
 use Rattle.cert_bisimulation.specs.declared.mode.Mode.TheVariants as mode
 use Rattle.cert_bisimulation.specs.Tables.{Node}
 use Rattle.sym_facts.specs.Facts.{FactPosition, Fact}
-use Rattle.cert_model.specs.Lawful.{IsLawful}
+use Rattle.cert_model.specs.Lawful.{IsLawful, points_differ}
 use Rattle.term_text.specs.TermTexts.{symbol_text}
 use Rattle.cert_json.specs.Refusals.{IsFileOf}
 use Rattle.cert_json.specs.WrittenJson.{texts, named_texts, node_data, nodes_data}
@@ -33,7 +33,7 @@ use Rattle.search_laws.proofs.Putting.{rises, orderly}
 use Rattle.search_laws.proofs.TextsAgain.{read_again}
 use Rattle.search_laws.proofs.Utf8.{value_utf8}
 use Rattle.cert_writer.specs.WrittenCertificates.{form_written, literal_bytes, with_equation_member, equations_written, point_written}
-use Rattle.cert_writer.specs.WrittenCertificates.{mode_written, node_written, file_written, certificate_text}
+use Rattle.cert_writer.specs.WrittenCertificates.{mode_written, node_written, needed_format, file_written, certificate_text}
 use Rattle.cert_writer.proofs.Plain.{name_utf8, form_utf8, symbol_utf8, literal_utf8}
 use Rattle.cert_writer.proofs.Values.{equations_same}
 use Rattle.cert_writer.proofs.Files.{is_file_of}
@@ -125,14 +125,18 @@ module _ (a b : Fsmd) (left : IsSound a) (right : IsSound b) where
       let rest = list_all (λ (k : Node Fact). nat_le k.rank 4096) ns in
       (node_orderly n (and_first (nat_le n.rank 4096) rest h), nodes_orderly ns (and_second (nat_le n.rank 4096) rest h))
 
-  format_small : (t : Bool) → cond t 2 1 < 2 ^ 64
-  format_small true = omega arith
-  format_small false = omega arith
+  format_small : (differ : Bool) (ps : List Position) → needed_format differ ps < 2 ^ 64
+  format_small true ps = by_ports (list_any (λ p. is_port p.sort) ps)
+    where
+      by_ports : (t : Bool) → cond t 2 1 < 2 ^ 64
+      by_ports true = omega arith
+      by_ports false = omega arith
+  format_small false ps = omega arith
 
   file_orderly : (ps : List Position) (ns : List (Node Fact)) → list_all (λ n. nat_le n.rank 4096) ns ≡ true → IsOrderly (file_written a b ps ns)
   file_orderly ps ns h = (
     ((refl, tt), (tt, tt)),
-    (IsUtf8-are_ascii (codes "format") refl, format_small (list_any (λ p. is_port p.sort) ps), (IsUtf8-are_ascii (codes "nodes") refl, nodes_orderly ns h, tt)),
+    (IsUtf8-are_ascii (codes "format") refl, format_small (points_differ ns) ps, (IsUtf8-are_ascii (codes "nodes") refl, nodes_orderly ns h, tt)),
   )
 
   pub written_file : (ns : List (Node Fact)) → IsLawful a b ns → AreNormal ns → IsFileOf (certificate_text a b ns) (file_written a b (positions a b) ns)

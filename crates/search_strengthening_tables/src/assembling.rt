@@ -93,8 +93,8 @@ fn certificate_nodes(
     Ok(Some(out))
 }
 
-/// The certificate of nodes with these ranks, where it is lawful and has at most 4,000,000 units. The one refusal is out of
-/// memory.
+/// The certificate of nodes with these ranks, where it is lawful, no two nodes stand at the same points, and it has at most
+/// 4,000,000 units. The one refusal is out of memory.
 pub fn assemble(
     alloc: Global,
     a: &Machine,

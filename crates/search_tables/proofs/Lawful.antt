@@ -1,31 +1,22 @@
 -- The certificate of a well-formed table is lawful.
-use Rattle.std.proofs.Common.{◌≡◌, ℕ, suc, ◌≤◌, refl, ap, ap₂, sym, subst, ◌∙◌, arith, Bool, true, List, [], ◌∷◌, map}
+use Rattle.std.proofs.Common.{◌≡◌, ℕ, suc, ◌≤◌, refl, ap, sym, subst, ◌∙◌, arith, Bool, true, List, [], ◌∷◌, map}
 use Rattle.std.proofs.lemmas.Bool.Decides.{nat_tests}
 use Rattle.std.proofs.lemmas.List.{length-map}
-use Rattle.std.specs.Prelude.{not, ◌&&◌, ◌||◌, nat_le, slice_index}
-use Rattle.std.specs.List.{list_all, list_any, AllByRecursion}
+use Rattle.std.specs.Prelude.{◌&&◌, nat_le, slice_index}
+use Rattle.std.specs.List.{list_all, AllByRecursion}
 use Rattle.std.proofs.lemmas.Bool.{and_from}
 use Rattle.fs_cut.specs.Paths.{is_point}
-use Rattle.fs_cut.specs.Covers.{same_point}
 use Rattle.cert_bisimulation.specs.Tables.{Node as CertificateNode}
 use Rattle.cert_model.specs.Facts.{Fact}
 use Rattle.cert_model.specs.Pairings.{IsFactOf}
-use Rattle.cert_model.specs.Lawful.{most_rank, points_differ, IsLawful}
+use Rattle.cert_model.specs.Lawful.{most_rank, IsLawful}
 use Rattle.search_tables.specs.SearchTables.{MachinePair, positions_of, SearchNode, Table}
-use Rattle.search_tables.specs.TableInvariants.{nodes_differ, IsWellFormed}
+use Rattle.search_tables.specs.TableInvariants.{IsWellFormed}
 use Rattle.search_tables.specs.Certifying.{node_without_mode, Certifies}
 
 all_again : (f : SearchNode → Bool) (cs : List (CertificateNode Fact)) → list_all (λ c. f (node_without_mode c)) cs ≡ list_all f (map node_without_mode cs)
 all_again f [] = refl
 all_again f (c ∷ cs) = ap (λ b. f (node_without_mode c) && b) (all_again f cs)
-
-any_again : (f : SearchNode → Bool) (cs : List (CertificateNode Fact)) → list_any (λ c. f (node_without_mode c)) cs ≡ list_any f (map node_without_mode cs)
-any_again f [] = refl
-any_again f (c ∷ cs) = ap (λ b. f (node_without_mode c) || b) (any_again f cs)
-
-differ_again : (cs : List (CertificateNode Fact)) → points_differ cs ≡ nodes_differ (map node_without_mode cs)
-differ_again [] = refl
-differ_again (c ∷ cs) = ap₂ (λ b d. not b && d) (any_again (λ k. same_point c.left k.left && same_point c.right k.right) cs) (differ_again cs)
 
 ranks_low : (cs : List (CertificateNode Fact)) → ((i : ℕ) → slice_index (map (λ c. c.rank) cs) i ≤ most_rank)
     → list_all (λ c. nat_le c.rank most_rank) cs ≡ true
@@ -48,7 +39,6 @@ lawful m T ranks cs w facts low h =
     record {
       few = omega (arith, v.few, length-map cs node_without_mode);
       points = all_again (λ n. is_point m.left n.left && is_point m.right n.right) cs ∙ v.points;
-      differ = differ_again cs ∙ v.differ;
       ranks = ranks_low cs (subst (λ rs. (i : ℕ) → slice_index rs i ≤ most_rank) (sym h.ranks_are) low);
       facts = facts_again (IsFactOf (positions_of m)) cs (subst (AllByRecursion (λ (n : SearchNode). IsFactOf (positions_of m) n.fact)) (sym h.nodes) facts);
     }

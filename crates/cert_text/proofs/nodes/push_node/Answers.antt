@@ -19,4 +19,4 @@ returns-clause-told c = added (context_in c.args.c.now) c.args.node c.as_slice.r
 
 pub returns-clause-lawful : goal.returns-clause-lawful
 returns-clause-lawful c = pushed c.args.c.now.a.now c.args.c.now.b.now c.args.c.now.places.now.positions.now c.as_slice.result.now c.args.nodes.now.items
-    c.push.new.self.items c.in_ok-next.next c.as_slice.ensures.value c.in_ok-push.ensures.items c.in_ok-next.ensures.of c.in_ok-next.ensures.free
+    c.push.new.self.items c.in_ok-next.next c.as_slice.ensures.value c.in_ok-push.ensures.items c.in_ok-next.ensures.of

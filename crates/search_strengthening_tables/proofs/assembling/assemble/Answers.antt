@@ -13,7 +13,6 @@ returns-clause-lawful c =
     record {
       few = omega (arith, length-map c.in-Some.made.items node_of);
       points = search rules;
-      differ = search rules;
       ranks = search rules;
       facts = subst (λ (ps : List Position). AllByRecursion (λ n. IsFactOf ps n.fact) (map node_of c.in-Some.made.items)) c.requires of;
     }
