@@ -17,6 +17,7 @@ use cert_model::kept::certificates_are_normal;
 use fs_ast::machine::Machine;
 use fs_pair::positions::Pairing;
 use nf_terms::stop::NoMemory;
+use search_strengthening::by_cases::strengthen_by_cases;
 use search_strengthening::strengthening::strengthen;
 use std::alloc::Global;
 
@@ -41,7 +42,27 @@ fn passes(
     }
 }
 
-/// A certificate of two machines by a second search, where the checker says yes to it. The one refusal is out of memory.
+// A certificate, where one was found and the checker says yes to it. The one refusal is out of memory.
+fn accepted(
+    alloc: Global,
+    a: &Machine,
+    b: &Machine,
+    p: &Pairing,
+    found: Option<Cert>,
+) -> Result<Option<Cert>, NoMemory> {
+    let Some(cert) = found else {
+        return Ok(None);
+    };
+    certificates_are_normal(&cert);
+    if passes(alloc, a, b, p, &cert)? {
+        Ok(Some(cert))
+    } else {
+        Ok(None)
+    }
+}
+
+/// A certificate of two machines by a second search or else by a third one, where the checker says yes to it. The one refusal is
+/// out of memory.
 pub fn find_beyond(
     alloc: Global,
     a: &Machine,
@@ -55,13 +76,11 @@ pub fn find_beyond(
 {
     let _left = a.vars(); // These two calls tell the proof that both machines are sound.
     let _right = b.vars();
-    let Some(cert) = strengthen(alloc, a, b, p)? else {
-        return Ok(None);
-    };
-    certificates_are_normal(&cert);
-    if passes(alloc, a, b, p, &cert)? {
-        Ok(Some(cert))
-    } else {
-        Ok(None)
+    let second = strengthen(alloc, a, b, p)?;
+    let found = accepted(alloc, a, b, p, second)?;
+    if found.is_some() {
+        return Ok(found);
     }
+    let third = strengthen_by_cases(alloc, a, b, p)?;
+    accepted(alloc, a, b, p, third)
 }

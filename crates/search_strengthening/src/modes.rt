@@ -10,7 +10,7 @@ use search_strengthening_tables::flags::{AsksLess, Flags, flags_at, keep};
 use search_strengthening_tables::nodes::{ClaimedNode, NodeMove, Settled};
 use search_strengthening_tables::rules::Rule;
 use search_strengthening_tables::sides::{Covered, Sides};
-use search_strengthening_tables::state::{State, clear, rule_at};
+use search_strengthening_tables::state::{State, clear, plan_at};
 use search_strengthening_terms::stop::Stop;
 use search_strengthening_terms::work::Work;
 use std::alloc::Global;
@@ -269,7 +269,7 @@ fn is_other(old: Option<Mode>, mode: Mode) -> bool {
 // The rule by which machines move at the node at a place.
 fn rule_of(state: &State, place: usize) -> Option<Rule> {
     let node = state.nodes.get(place)?;
-    Some(rule_at(state, node.standing))
+    Some(plan_at(state, node.standing).rule)
 }
 
 /// Sees that the node at a place has its mode and its moves. Where the mode is another one than its points had since their

@@ -3,13 +3,14 @@
 use crate::ways::{NodeWays, post_by_ways};
 use fs_cut::cover::{Path, Point};
 use nf_refutation::refutation::is_refuted;
-use search_strengthening_claims::visited::claims_at;
 use search_strengthening_facts::facts::fact_of;
 use search_strengthening_facts::first_facts::{FirstFact, first_fact};
 use search_strengthening_facts::weeding::weed;
+use search_strengthening_tables::cases::{Arrival, CaseMove};
 use search_strengthening_tables::nodes::{ClaimedNode, NodeMove, Settled, Standing, find};
 use search_strengthening_tables::sides::{Covered, Sides};
-use search_strengthening_tables::state::{State, add, change_fact, stands};
+use search_strengthening_tables::state::{State, add, change_fact, known_claims, plan_at, stands};
+use search_strengthening_tables::told::Live;
 use search_strengthening_terms::stop::{Stop, within_limits};
 use search_strengthening_terms::work::Work;
 use std::alloc::Global;
@@ -23,12 +24,14 @@ const STATE_UNITS: u64 = 32;
 // So many moves of a node are tried each by its own paths.
 const FEW_MOVES: usize = 4;
 
-// A move that is tried: the place and the standing of its node, its number there, and the points at which it arrives.
+// A move that is tried: the place and the standing of its node, its number there, its points and paths, and the points at which
+// it arrives.
 #[derive(Clone, Copy)]
 struct Tried {
     place: usize,
     number: usize,
     source: Standing,
+    by: CaseMove,
     left: Point,
     right: Point,
 }
@@ -129,13 +132,14 @@ fn post_by(
     }
 }
 
-// Adds the node at which a post arrives first.
+// Adds the node of a case at which a post arrives first.
 fn add_target(
     alloc: Global,
     sides: &Sides<'_>,
     state: &mut State,
     post: &Post,
     tried: Tried,
+    case: usize,
 ) -> Result<Step, Stop> {
     let Tried {
         left,
@@ -144,16 +148,27 @@ fn add_target(
         ..
     } = tried;
     let live = sides.live_positions(alloc, left, right)?;
+    let (remembered, visited) = (state.remembered.as_slice(), state.visited.as_slice());
+    let known = known_claims(remembered, visited, left, right, case);
     let FirstFact { claims, fact } = first_fact(
         alloc,
         &mut state.work,
         &sides.universe,
-        live.as_slice(),
+        &live,
         sides.pairing,
         post,
-        claims_at(state.visited.as_slice(), left, right),
+        known,
     )?;
-    let place = add(alloc, sides, state, (left, right), source, claims, fact)?;
+    let place = add(
+        alloc,
+        sides,
+        state,
+        (left, right),
+        case,
+        source,
+        claims,
+        fact,
+    )?;
     Ok(Step::Adds { place })
 }
 
@@ -193,6 +208,31 @@ fn is_entailed(
     Ok(missing.equations.is_empty() && missing.conds.is_empty())
 }
 
+// The case of a post: where both machines are done there is one.
+fn case_of(
+    alloc: Global,
+    sides: &Sides<'_>,
+    state: &mut State,
+    post: &Post,
+    tried: Tried,
+) -> Result<usize, Stop> {
+    let kind = plan_at(state, sides.standing(tried.left, tried.right, 0)).kind;
+    if kind.is_none() || (tried.left.is_done() && tried.right.is_done()) {
+        return Ok(0);
+    }
+    let arrival = Arrival {
+        kind,
+        live: Live {
+            left: sides.left.live.at(tried.left),
+            right: sides.right.live.at(tried.right),
+        },
+        source: tried.source.case,
+        by: tried.by,
+    };
+    let (cases, work) = (&mut state.cases, &mut state.work);
+    cases.case_after(alloc, work, &sides.told, arrival, post)
+}
+
 // What a move does whose post is not refuted.
 fn meet(
     alloc: Global,
@@ -201,8 +241,9 @@ fn meet(
     post: &Post,
     tried: Tried,
 ) -> Result<Step, Stop> {
-    let Some(target) = find(state.nodes.as_slice(), tried.left, tried.right) else {
-        return add_target(alloc, sides, state, post, tried);
+    let case = case_of(alloc, sides, state, post, tried)?;
+    let Some(target) = find(state.nodes.as_slice(), tried.left, tried.right, case) else {
+        return add_target(alloc, sides, state, post, tried, case);
     };
     let Some(node) = state.nodes.get(target) else {
         return Ok(Step::Keeps);
@@ -264,6 +305,12 @@ pub fn try_move(
         place,
         number,
         source: node.standing,
+        by: CaseMove {
+            left: node.left,
+            right: node.right,
+            left_path: open.left,
+            right_path: open.right,
+        },
         left: end_of(node.left, left),
         right: end_of(node.right, right),
     };

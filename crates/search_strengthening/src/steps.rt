@@ -8,7 +8,7 @@ use search_strengthening_facts::outputs::{Written, outputs_differ};
 use search_strengthening_tables::nodes::{ClaimedNode, Standing};
 use search_strengthening_tables::ranks::ranks_of;
 use search_strengthening_tables::sides::Sides;
-use search_strengthening_tables::state::{State, take_overfull, try_next_rule};
+use search_strengthening_tables::state::{State, take_overfull, try_next_plan};
 use search_strengthening_terms::stop::Stop;
 use search_tables::ranking::Ranking;
 use std::alloc::Global;
@@ -100,7 +100,7 @@ fn place_after(place: usize, step: Step) -> usize {
 }
 
 // Makes the first step at a node that stands there, and answers where the next one is looked for. Where its component, or the one
-// in which too much was changed, can't go on, it is cleared, and the next rule tried there.
+// in which too much was changed, can't go on, it is cleared, and the next plan tried there.
 fn make_step_at(
     alloc: Global,
     sides: &Sides<'_>,
@@ -113,7 +113,7 @@ fn make_step_at(
         Ok(step) => Ok(place_after(place, step)),
         Err(Stop::Bound) => {
             let failing = take_overfull(state).unwrap_or(standing);
-            try_next_rule(state, failing)?;
+            try_next_plan(state, failing)?;
             Ok(0)
         }
         Err(stop) => Err(stop),
@@ -121,7 +121,7 @@ fn make_step_at(
 }
 
 // Makes the first step at a node. At its first turn all before it is settled: where outputs differ there for good, the component
-// from which it was reached is cleared, and the next rule tried there.
+// from which it was reached is cleared, and the next plan tried there.
 fn make_step(
     alloc: Global,
     sides: &Sides<'_>,
@@ -130,7 +130,7 @@ fn make_step(
     place: usize,
 ) -> Result<usize, Stop> {
     if let Some(failing) = failing_component(alloc, sides, state, place)? {
-        try_next_rule(state, failing)?;
+        try_next_plan(state, failing)?;
         return Ok(0);
     }
     match state.nodes.get(place) {
@@ -142,7 +142,7 @@ fn make_step(
     }
 }
 
-// Makes steps until none changes the table. `Bound` comes where a component can't go on by any rule, `Exhausted` where the work
+// Makes steps until none changes the table. `Bound` comes where a component can't go on by any plan, `Exhausted` where the work
 // is used up.
 fn make_steps(alloc: Global, sides: &Sides<'_>, state: &mut State) -> Result<(), Stop> {
     let mut ways = NodeWays::new(alloc);
@@ -156,7 +156,7 @@ fn make_steps(alloc: Global, sides: &Sides<'_>, state: &mut State) -> Result<(),
     Err(Stop::Bound)
 }
 
-// Tries the next rule in the component of the first node of a cycle. `Bound` comes where there is none.
+// Tries the next plan in the component of the first node of a cycle. `Bound` comes where there is none.
 fn leave_cycle(state: &mut State, cycle: &[u32]) -> Result<(), Stop> {
     let Some(first) = cycle.first() else {
         return Err(Stop::Bound);
@@ -165,11 +165,11 @@ fn leave_cycle(state: &mut State, cycle: &[u32]) -> Result<(), Stop> {
         return Err(Stop::Bound);
     };
     let standing = node.standing;
-    try_next_rule(state, standing)
+    try_next_plan(state, standing)
 }
 
 /// Makes steps until none changes the table and no machine moves alone in a cycle, and answers the ranks of the nodes. `Bound`
-/// comes where a component can't go on by any rule, `Exhausted` where the work is used up.
+/// comes where a component can't go on by any plan, `Exhausted` where the work is used up.
 pub fn close(alloc: Global, sides: &Sides<'_>, state: &mut State) -> Result<Vec<u32>, Stop> {
     for _ in 0..STEP_LIMIT {
         make_steps(alloc, sides, state)?;

@@ -7,7 +7,7 @@ ghost use Rattle.cert_model.specs.Lawful.{IsLawful};
 ghost use Rattle.cert_model.specs.View.{node_of};
 ghost use Rattle.cert_model.specs.Sizes.{units_of};
 
-use crate::steps::close;
+use crate::searching::{Closed, Found, search_by_plans, work_of};
 use cert_model::cert::Cert;
 use fs_ast::machine::Machine;
 use fs_pair::positions::{FaceError, Pairing, same_interface};
@@ -16,10 +16,11 @@ use search_strengthening_claims::visited::VisitedPoints;
 use search_strengthening_tables::assembling::assemble;
 use search_strengthening_tables::exchange::exchange_sides;
 use search_strengthening_tables::flags::Flags;
+use search_strengthening_tables::kinds::CaseKind;
 use search_strengthening_tables::nodes::ClaimedNode;
 use search_strengthening_tables::rules::Rule;
 use search_strengthening_tables::sides::{Sides, sides_of};
-use search_strengthening_tables::state::{State, begin, settled_part};
+use search_strengthening_tables::state::Plan;
 use search_strengthening_terms::stop::Stop;
 use search_strengthening_terms::work::Work;
 use search_strengthening_visits::visits::visit_points;
@@ -33,45 +34,26 @@ const RULES: [Rule; 4] = [
     Rule::LoopsTogether,
 ];
 
-// The most units of work of the searches of two machines, beside those of their points.
-const WORK: u64 = 3_000_000;
+// How many nodes at most are added and weakened in a component by one rule.
+const MOST_CHANGES: usize = 256;
 
-// The units of work that each point of the machines adds.
-const WORK_OF_POINT: u64 = 15_000;
+// How many a point of the component at first: most components close after few changes, so one that does not is left to the next
+// rule first.
+const FIRST_CHANGES: usize = 16;
 
-// The most units of work of the searches of two machines.
-const WORK_LIMIT: u64 = 10_000_000;
-
-// A closed table, with the ranks of its nodes.
-#[derive(Drop)]
-struct Closed {
-    nodes: Vec<ClaimedNode>,
-    ranks: Vec<u32>,
-}
-
-// The most units of work of the searches of two machines.
-fn work_of(sides: &Sides<'_>) -> u64 {
-    let points = (sides.left.cover.points().len() as u64).saturating_add(
-        sides.right.cover.points().len() as u64,
-    );
-    WORK_LIMIT.min(WORK.saturating_add(points.saturating_mul(WORK_OF_POINT)))
-}
-
-// What a search found: a closed table, or else what it has kept of pairs of points, and the nodes of the components that it has
-// settled.
-#[derive(Drop)]
-enum Found {
-    Closed(Closed),
-    Open {
-        flags: Vec<Flags>,
-        settled: Vec<ClaimedNode>,
-    },
-}
-
-// What a search found that could not close its table.
-fn left_open(state: State) -> Found {
-    let (settled, flags) = settled_part(state);
-    Found::Open { flags, settled }
+// Adds the rules, a first one first, each as a plan.
+fn add_plans(plans: &mut Vec<Plan>, first: Rule, changes_of_point: usize) -> Result<(), NoMemory> {
+    let mut rule = first;
+    for _ in &RULES {
+        plans.push(Plan {
+            rule,
+            kind: CaseKind::none(),
+            changes_of_point,
+            most_changes: MOST_CHANGES,
+        })?;
+        rule = rule.next();
+    }
+    Ok(())
 }
 
 // Searches for a closed table of two machines with a first rule, after visits. It takes at most two thirds of the work that is
@@ -84,17 +66,10 @@ fn search_by_rule(
     visited: Vec<VisitedPoints>,
 ) -> Result<Found, NoMemory> {
     let most = work.left() / 3 * 2;
-    let mut state = begin(alloc, sides, Work::of(most), rule, visited)?;
-    let ended = close(alloc, sides, &mut state);
-    work.give(most.saturating_sub(state.work.left()));
-    match ended {
-        Ok(ranks) => {
-            let State { nodes, .. } = state;
-            Ok(Found::Closed(Closed { nodes, ranks }))
-        }
-        Err(Stop::Bound | Stop::Exhausted) => Ok(left_open(state)),
-        Err(Stop::NoMemory) => Err(NoMemory),
-    }
+    let mut plans = Vec::new(alloc);
+    add_plans(&mut plans, rule, FIRST_CHANGES)?;
+    add_plans(&mut plans, rule, MOST_CHANGES)?;
+    search_by_plans(alloc, sides, work, most, plans, visited, false)
 }
 
 // What visits show of pairs of points, in the modes that they have had, where the work is not used up.
@@ -130,7 +105,7 @@ fn find_by_rule(
 ) -> Result<Option<Closed>, NoMemory> {
     let (flags, settled) = match search_by_rule(alloc, sides, work, rule, Vec::new(alloc))? {
         Found::Closed(closed) => return Ok(Some(closed)),
-        Found::Open { flags, settled } => (flags, settled),
+        Found::Open { flags, settled, .. } => (flags, settled),
     };
     let settled = visited_from(rule, settled.as_slice());
     let Some(visited) = visit(alloc, sides, work, flags.as_slice(), settled)? else {
@@ -149,7 +124,7 @@ fn find_closed(
     b: &Machine,
     p: &Pairing,
 ) -> Result<Option<Closed>, NoMemory> {
-    let sides = sides_of(alloc, a, b, p)?;
+    let sides = sides_of(alloc, a, b, p, false)?;
     let mut work = Work::of(work_of(&sides));
     for rule in RULES {
         if let Some(closed) = find_by_rule(alloc, &sides, &mut work, rule)? {

@@ -8,9 +8,9 @@ use nf_terms::symbols::Sort;
 use nf_terms::tree::Pos;
 use propagate::rebases::rebase;
 use search_strengthening_terms::collection::place_of;
-use search_strengthening_terms::live::all_live;
+use search_strengthening_terms::live::{LivePositions, all_live};
 use search_strengthening_terms::stop::unless_stopped;
-use search_strengthening_terms::universe::Universe;
+use search_strengthening_terms::universe::{Term, Universe};
 use std::alloc::Global;
 use sym_facts::fact::{FactPosition, copied_literals};
 use sym_facts::gathering::{symbols_of_nf, symbols_of_poly};
@@ -115,20 +115,32 @@ fn live_literals(alloc: Global, universe: &Universe, live: &[bool]) -> Result<Ve
     Ok(out)
 }
 
-// One class of the positions, of the terms of a universe that mention nothing but what matters, and of so many extras.
+// The class of the term at a place before the first arrival: this one, unless nothing is claimed of it.
+fn first_class(live: &LivePositions, place: usize, term: &Term, shared: usize) -> Option<usize> {
+    if live.frees(place) && place < live.all.len() {
+        Some(place)
+    } else if place < live.all.len() || all_live(live.all.as_slice(), term.places.as_slice()) {
+        Some(shared)
+    } else {
+        None
+    }
+}
+
+// One class of the positions of which something is claimed, of the terms of a universe that mention nothing but what matters, and
+// of so many extras. The others are alone.
 fn one_class(
     alloc: Global,
     universe: &Universe,
-    live: &[bool],
+    live: &LivePositions,
     extras: usize,
 ) -> Result<Vec<Option<usize>>, NoMemory> {
+    let shared = universe.terms.len();
     let mut classes = Vec::new(alloc);
     for (place, term) in universe.terms.iter().enumerate() {
-        let is_claimed = place < live.len() || all_live(live, term.places.as_slice());
-        classes.push(if is_claimed { Some(0) } else { None })?;
+        classes.push(first_class(live, place, term, shared))?;
     }
     for _ in 0..extras {
-        classes.push(Some(0))?;
+        classes.push(Some(shared))?;
     }
     Ok(classes)
 }
@@ -138,15 +150,16 @@ fn one_class(
 fn claims_with(
     alloc: Global,
     universe: &Universe,
-    live: &[bool],
+    live: &LivePositions,
     positions: &[Position],
     equations: &[FactPosition],
     others: &[NLit],
 ) -> Result<Claims, NoMemory> {
-    let extras = live_equations(alloc, positions, live, equations)?;
+    let all = live.all.as_slice();
+    let extras = live_equations(alloc, positions, all, equations)?;
     let classes = one_class(alloc, universe, live, extras.len())?;
-    let mut literals = live_literals(alloc, universe, live)?;
-    add_live(alloc, positions, live, others, &mut literals)?;
+    let mut literals = live_literals(alloc, universe, all)?;
+    add_live(alloc, positions, all, others, &mut literals)?;
     Ok(Claims {
         extras,
         classes,
@@ -180,7 +193,7 @@ pub fn copied_claims(alloc: Global, claims: &Claims) -> Result<Claims, NoMemory>
 pub fn claims_before(
     alloc: Global,
     universe: &Universe,
-    live: &[bool],
+    live: &LivePositions,
     post: &Post,
     p: &Pairing,
 ) -> Result<Claims, NoMemory> {

@@ -5,6 +5,7 @@ use fs_pair::positions::Pairing;
 use nf_terms::stop::NoMemory;
 use search_strengthening_solutions::claims::{Claims, claims_before, copied_claims};
 use search_strengthening_solutions::weeding::weed;
+use search_strengthening_terms::live::LivePositions;
 use search_strengthening_terms::stop::Stop;
 use search_strengthening_terms::universe::Universe;
 use search_strengthening_terms::work::Work;
@@ -37,7 +38,7 @@ fn fact_after(
 fn claims_for(
     alloc: Global,
     universe: &Universe,
-    live: &[bool],
+    live: &LivePositions,
     p: &Pairing,
     post: &Post,
     visited: Option<&Claims>,
@@ -55,7 +56,7 @@ pub fn first_fact(
     alloc: Global,
     work: &mut Work,
     universe: &Universe,
-    live: &[bool],
+    live: &LivePositions,
     p: &Pairing,
     post: &Post,
     visited: Option<&Claims>,

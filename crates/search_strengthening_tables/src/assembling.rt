@@ -10,7 +10,7 @@ ghost use Rattle.cert_model.specs.Sizes.{units_of};
 
 use crate::nodes::ClaimedNode;
 use cert_model::cert::{Cert, Node};
-use cert_model::lawful_nodes::{are_small, have_points, have_ranks, points_differ};
+use cert_model::lawful_nodes::{are_small, have_points, have_ranks};
 use fs_ast::machine::Machine;
 use fs_pair::positions::Pairing;
 use nf_terms::form::Nf;
@@ -111,12 +111,7 @@ pub fn assemble(
         return Ok(None);
     };
     let all = made.as_slice();
-    if all.len() > NODE_LIMIT
-        || !have_points(a, b, all)
-        || !points_differ(all)
-        || !have_ranks(all)
-        || !are_small(all)
-    {
+    if all.len() > NODE_LIMIT || !have_points(a, b, all) || !have_ranks(all) || !are_small(all) {
         return Ok(None);
     }
     Ok(Some(Cert { nodes: made }))

@@ -1,4 +1,4 @@
-//! What is kept of pairs of points as long as a search goes on.
+//! What is kept of pairs of points, in each case, as long as a search goes on.
 
 use crate::nodes::Standing;
 use cert_bisimulation::mode::Mode;
@@ -31,8 +31,8 @@ impl AsksLess {
     }
 }
 
-/// What is kept of a pair of points: whether a side has had more than one open path there, which machine asks less, where the one
-/// open path of a side has led last, and the mode since the table was last cleared.
+/// What is kept of a pair of points in a case: whether a side has had more than one open path there, which machine asks less,
+/// where the one open path of a side has led last, and the mode since the table was last cleared.
 #[derive(Clone, Copy)]
 pub struct Flags {
     pub left: Point,
@@ -61,20 +61,25 @@ fn unseen(left: Point, right: Point, standing: Standing) -> Flags {
     }
 }
 
-/// What is kept of two points.
+// Whether this is kept of these points in this case.
+fn are_of(flags: &Flags, left: Point, right: Point, case: usize) -> bool {
+    flags.standing.case == case && flags.left.is_same(left) && flags.right.is_same(right)
+}
+
+/// What is kept of two points in the case of this standing.
 pub fn flags_at(all: &[Flags], left: Point, right: Point, standing: Standing) -> Flags {
     for flags in all {
-        if flags.left.is_same(left) && flags.right.is_same(right) {
+        if are_of(flags, left, right, standing.case) {
             return *flags;
         }
     }
     unseen(left, right, standing)
 }
 
-/// Keeps this of two points. The one refusal is out of memory.
+/// Keeps this of two points in a case. The one refusal is out of memory.
 pub fn keep(all: &mut Vec<Flags>, flags: Flags) -> Result<(), NoMemory> {
     for old in all.iter_mut() {
-        if old.left.is_same(flags.left) && old.right.is_same(flags.right) {
+        if are_of(old, flags.left, flags.right, flags.standing.case) {
             *old = flags;
             return Ok(());
         }

@@ -13,3 +13,5 @@ pub mod ranks;
 pub mod rules;
 pub mod sides;
 pub mod state;
+
+pub use search_strengthening_cases::{cases, kinds, told};

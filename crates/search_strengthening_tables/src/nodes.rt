@@ -26,13 +26,14 @@ pub struct NodeMove {
     pub settled: Settled,
 }
 
-/// Where two points stand in the order of nodes: by their outermost components, left and right, and then by their own numbers.
-/// So a strongly connected component of pairs of points, or several, stands behind all from which it is reached. How many points
-/// the two components have is kept beside.
+/// Where a node stands in the order of nodes: by the outermost components of its points, left and right, then by their own
+/// numbers, and then by its case. So a strongly connected component of pairs of points, or several, stands behind all from which
+/// it is reached. How many points the two components have is kept beside.
 #[derive(Clone, Copy)]
 pub struct Standing {
     pub components: (usize, usize),
     pub numbers: (usize, usize),
+    pub case: usize,
     pub points: usize,
 }
 
@@ -52,16 +53,27 @@ impl Standing {
         is_later(other.components, self.components)
     }
 
-    // Whether the points come after others.
+    // Whether the points are others.
+    fn shares_points(self, other: Standing) -> bool {
+        self.numbers.0 == other.numbers.0 && self.numbers.1 == other.numbers.1
+    }
+
+    // Whether the points come after others in the same components, or the case after another one of the same points.
+    fn comes_after_within(self, other: Standing) -> bool {
+        is_later(self.numbers, other.numbers)
+            || (self.shares_points(other) && self.case > other.case)
+    }
+
+    // Whether the node comes after another one.
     fn comes_after(self, other: Standing) -> bool {
         is_later(self.components, other.components)
-            || (self.shares_components(other) && is_later(self.numbers, other.numbers))
+            || (self.shares_components(other) && self.comes_after_within(other))
     }
 }
 
-/// A node with its claims: two points and where they stand in the order, where the node stands from which it was last reached,
-/// what is claimed there and the fact that is made of it. No two facts of a search have one version. The mode is not known
-/// before the moves are.
+/// A node with its claims: two points, and where it stands in the order with its case, where the node stands from which it was
+/// last reached, what is claimed there and the fact that is made of it. No two facts of a search have one version. The mode is
+/// not known before the moves are.
 #[derive(Drop)]
 pub struct ClaimedNode {
     pub left: Point,
@@ -76,14 +88,25 @@ pub struct ClaimedNode {
     pub moves: Vec<NodeMove>,
 }
 
-/// The place of the node at two points.
-pub fn find(nodes: &[ClaimedNode], left: Point, right: Point) -> Option<usize> {
+/// The place of the node at two points in a case.
+pub fn find(nodes: &[ClaimedNode], left: Point, right: Point, case: usize) -> Option<usize> {
     for (place, node) in nodes.iter().enumerate() {
-        if node.left.is_same(left) && node.right.is_same(right) {
+        if node.standing.case == case && node.left.is_same(left) && node.right.is_same(right) {
             return Some(place);
         }
     }
     None
+}
+
+/// How many nodes stand at two points.
+pub fn count_at(nodes: &[ClaimedNode], left: Point, right: Point) -> usize {
+    let mut count = 0usize;
+    for node in nodes {
+        if node.left.is_same(left) && node.right.is_same(right) {
+            count = count.saturating_add(1);
+        }
+    }
+    count
 }
 
 /// The place of the node whose fact has a version.

@@ -6,7 +6,8 @@ use fs_ast::machine::Machine;
 use fs_cut::cover::{Cover, Point};
 use fs_pair::positions::Pairing;
 use nf_terms::stop::NoMemory;
-use search_strengthening_claims::live::{Liveness, live_positions};
+use search_strengthening_cases::told::{Told, told_of};
+use search_strengthening_claims::live::{LivePositions, Liveness, live_positions};
 use search_strengthening_claims::loops::order_states;
 use search_strengthening_claims::order::PointOrder;
 use search_strengthening_claims::universe::{Universe, universe_of};
@@ -26,38 +27,47 @@ pub struct Covered<'a> {
     pub live: Liveness,
 }
 
-/// Two machines, and the terms and literals that may hold between them.
+/// Two machines, the terms and literals that may hold between them, what may tell arrivals apart, and whether nothing is claimed
+/// of scalars at points behind which they do not matter.
 #[derive(Drop)]
 pub struct Sides<'a> {
     pub left: Covered<'a>,
     pub right: Covered<'a>,
     pub pairing: &'a Pairing,
     pub universe: Universe,
+    pub told: Told,
+    pub frees_others: bool,
 }
 
 impl<'a> Sides<'a> {
-    /// For each position whether terms over it are compared at two points: where there are many terms, those over scalars that do
-    /// not matter there are left out. The one refusal is out of memory.
+    /// For each position whether terms over it are compared at two points: where there are many terms, or nothing is claimed of
+    /// what does not matter, those over scalars that do not matter there are left out. The one refusal is out of memory.
     pub fn live_positions(
         &self,
         alloc: Global,
         left: Point,
         right: Point,
-    ) -> Result<Vec<bool>, NoMemory> {
+    ) -> Result<LivePositions, NoMemory> {
         let positions = self.pairing.positions();
-        if self.universe.terms.len() <= FEW_TERMS {
-            return Ok(vec![in alloc; true; positions.len()]?);
-        }
         let (lefts, rights) = (self.left.live.at(left), self.right.live.at(right));
-        live_positions(alloc, positions, lefts, rights)
+        let all = if self.frees_others || self.universe.terms.len() > FEW_TERMS {
+            live_positions(alloc, positions, lefts, rights)?
+        } else {
+            vec![in alloc; true; positions.len()]?
+        };
+        Ok(LivePositions {
+            all,
+            frees_others: self.frees_others,
+        })
     }
 
-    /// Where two points stand in the order of nodes.
-    pub fn standing(&self, left: Point, right: Point) -> Standing {
+    /// Where two points stand in the order of nodes, in a case.
+    pub fn standing(&self, left: Point, right: Point, case: usize) -> Standing {
         let (a, b) = (&self.left.order, &self.right.order);
         Standing {
             components: (a.component(left), b.component(right)),
             numbers: (a.number(left), b.number(right)),
+            case,
             points: a
                 .component_size(left)
                 .saturating_add(b.component_size(right)),
@@ -85,14 +95,18 @@ pub fn sides_of<'a>(
     a: &'a Machine,
     b: &'a Machine,
     pairing: &'a Pairing,
+    frees_others: bool,
 ) -> Result<Sides<'a>, NoMemory> {
     let left = with_cover(alloc, a)?;
     let right = with_cover(alloc, b)?;
     let universe = universe_of(alloc, a, b, pairing)?;
+    let told = told_of(alloc, a, b, pairing, &universe)?;
     Ok(Sides {
         left,
         right,
         pairing,
         universe,
+        told,
+        frees_others,
     })
 }

@@ -155,12 +155,13 @@ fn visited_before(
         }
     }
     let live = sides.live_positions(alloc, left, right)?;
-    let claims = claims_before(alloc, &sides.universe, live.as_slice(), post, sides.pairing)?;
+    let claims = claims_before(alloc, &sides.universe, &live, post, sides.pairing)?;
     let place = visited.len();
     visited.push(Visits {
         points: VisitedPoints {
             left,
             right,
+            case: 0,
             claims,
         },
         vectors: Vec::new(alloc),
@@ -312,7 +313,7 @@ fn mode_at(sides: &Sides<'_>, flags: &[Flags], walk: &Walk) -> Option<Mode> {
     if walk.left.is_done() && walk.right.is_done() {
         return None;
     }
-    let standing = sides.standing(walk.left, walk.right);
+    let standing = sides.standing(walk.left, walk.right, 0);
     let flags = flags_at(flags, walk.left, walk.right, standing);
     match flags.mode {
         Some(mode) => Some(mode),
