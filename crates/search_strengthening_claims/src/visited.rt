@@ -3,26 +3,18 @@
 use crate::claims::Claims;
 use fs_cut::cover::Point;
 
-/// Two points and a case, and what has held at every visit of them in this case.
+/// Two points, and what has held at every visit of them.
 #[derive(Drop)]
 pub struct VisitedPoints {
     pub left: Point,
     pub right: Point,
-    pub case: usize,
     pub claims: Claims,
 }
 
-impl VisitedPoints {
-    /// Whether these points were visited in this case.
-    pub fn is_at(&self, left: Point, right: Point, case: usize) -> bool {
-        self.case == case && self.left.is_same(left) && self.right.is_same(right)
-    }
-}
-
-/// What has held at every visit of two points in a case, where there was one.
-pub fn claims_at(all: &[VisitedPoints], left: Point, right: Point, case: usize) -> Option<&Claims> {
+/// What has held at every visit of two points, where there was one.
+pub fn claims_at(all: &[VisitedPoints], left: Point, right: Point) -> Option<&Claims> {
     for visited in all {
-        if visited.is_at(left, right, case) {
+        if visited.left.is_same(left) && visited.right.is_same(right) {
             return Some(&visited.claims);
         }
     }

@@ -51,8 +51,17 @@ pub struct Plan {
 /// What was claimed at a node that was deleted.
 #[derive(Drop)]
 pub struct Remembered {
+    left: Point,
+    right: Point,
     standing: Standing,
-    points: VisitedPoints,
+    claims: Claims,
+}
+
+impl Remembered {
+    // Whether the node stood at these points in this case.
+    fn is_at(&self, left: Point, right: Point, case: usize) -> bool {
+        self.standing.case == case && self.left.is_same(left) && self.right.is_same(right)
+    }
 }
 
 /// The nodes of a table in order, what is kept of pairs of points, what visits before the search have shown, which versions of
@@ -165,20 +174,18 @@ fn remember(all: &mut Vec<Remembered>, node: ClaimedNode) -> Result<(), NoMemory
         claims,
         ..
     } = node;
-    let case = standing.case;
     for known in all.iter_mut() {
-        if known.points.is_at(left, right, case) {
-            known.points.claims = claims;
+        if known.is_at(left, right, standing.case) {
+            known.claims = claims;
             return Ok(());
         }
     }
-    let points = VisitedPoints {
+    Ok(all.push(Remembered {
         left,
         right,
-        case,
+        standing,
         claims,
-    };
-    Ok(all.push(Remembered { standing, points })?)
+    })?)
 }
 
 // Deletes all nodes from a place on.
@@ -199,7 +206,8 @@ fn forget_claims(all: &mut Vec<Remembered>, standing: Standing) {
     all.retain(|known| known.standing.is_in_earlier_components(standing));
 }
 
-/// What was claimed at two points in a case: at a node that was deleted, or else at visits before the search.
+/// What was claimed at two points in a case: at a node that was deleted, or else at visits before the search, which are made only
+/// where all arrivals are one case.
 pub fn known_claims<'s>(
     remembered: &'s [Remembered],
     visited: &'s [VisitedPoints],
@@ -208,11 +216,11 @@ pub fn known_claims<'s>(
     case: usize,
 ) -> Option<&'s Claims> {
     for known in remembered {
-        if known.points.is_at(left, right, case) {
-            return Some(&known.points.claims);
+        if known.is_at(left, right, case) {
+            return Some(&known.claims);
         }
     }
-    claims_at(visited, left, right, case)
+    claims_at(visited, left, right)
 }
 
 // What was done in the component of two points.

@@ -161,7 +161,6 @@ fn visited_before(
         points: VisitedPoints {
             left,
             right,
-            case: 0,
             claims,
         },
         vectors: Vec::new(alloc),
