@@ -8,7 +8,7 @@ use nf_terms::symbols::Sort;
 use nf_terms::tree::Pos;
 use propagate::rebases::rebase;
 use search_strengthening_terms::collection::place_of;
-use search_strengthening_terms::live::{LivePositions, all_live};
+use search_strengthening_terms::live::all_live;
 use search_strengthening_terms::stop::unless_stopped;
 use search_strengthening_terms::universe::{Term, Universe};
 use std::alloc::Global;
@@ -24,6 +24,20 @@ pub struct Claims {
     pub extras: Vec<Nf>,
     pub classes: Vec<Option<usize>>,
     pub literals: Vec<NLit>,
+}
+
+/// For each position whether it matters at two points, and whether nothing is claimed of those that do not.
+#[derive(Drop)]
+pub struct LivePositions {
+    pub all: Vec<bool>,
+    pub frees_others: bool,
+}
+
+impl LivePositions {
+    /// Whether nothing is claimed of the position at a place.
+    pub fn frees(&self, place: usize) -> bool {
+        self.frees_others && self.all.get(place) == Some(&false)
+    }
 }
 
 /// The form of a term of claims.
@@ -117,7 +131,7 @@ fn live_literals(alloc: Global, universe: &Universe, live: &[bool]) -> Result<Ve
 
 // The class of the term at a place before the first arrival: this one, unless nothing is claimed of it.
 fn first_class(live: &LivePositions, place: usize, term: &Term, shared: usize) -> Option<usize> {
-    if live.frees(place) && place < live.all.len() {
+    if live.frees(place) {
         Some(place)
     } else if place < live.all.len() || all_live(live.all.as_slice(), term.places.as_slice()) {
         Some(shared)

@@ -3,9 +3,8 @@
 use crate::facts::fact_of;
 use fs_pair::positions::Pairing;
 use nf_terms::stop::NoMemory;
-use search_strengthening_solutions::claims::{Claims, claims_before, copied_claims};
+use search_strengthening_solutions::claims::{Claims, LivePositions, claims_before, copied_claims};
 use search_strengthening_solutions::weeding::weed;
-use search_strengthening_terms::live::LivePositions;
 use search_strengthening_terms::stop::Stop;
 use search_strengthening_terms::universe::Universe;
 use search_strengthening_terms::work::Work;

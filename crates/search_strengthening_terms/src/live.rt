@@ -221,20 +221,6 @@ pub fn live_positions(
     Ok(out)
 }
 
-/// For each position whether it matters at two points, and whether nothing is claimed of those that do not.
-#[derive(Drop)]
-pub struct LivePositions {
-    pub all: Vec<bool>,
-    pub frees_others: bool,
-}
-
-impl LivePositions {
-    /// Whether nothing is claimed of the position at a place.
-    pub fn frees(&self, place: usize) -> bool {
-        self.frees_others && self.all.get(place) != Some(&true)
-    }
-}
-
 /// Whether the positions at places all matter.
 pub fn all_live(live: &[bool], places: &[usize]) -> bool {
     for place in places {
