@@ -16,3 +16,6 @@ pub mod Putting
 pub mod AlikeMachines
 pub mod Driven
 pub mod Running
+pub use Rattle.fsmd_answers.proofs.Alike
+pub use Rattle.fsmd_answers.proofs.Behaviour
+pub use Rattle.fsmd_answers.proofs.Once

@@ -11,11 +11,11 @@ use Rattle.fs_ast.proofs.Kept.{differ, all_kept}
 use Rattle.fs_pair.specs.Interfaces.{interface_fault}
 use Rattle.cert_bisimulation.specs.Alike.{WhereAlike}
 use Rattle.search_laws.proofs.Interfaces.{OwnNames, one_interface}
-use Rattle.fsmd_answers.proofs.Alike.{closes_where_same, has_limit, no_counterexample}
+use Rattle.fsmd_tool.proofs.Alike.{closes_where_same, has_limit, no_counterexample}
 use Rattle.fsmd_replies.specs.declared.answer.Answer.{Answer}
 use Rattle.fsmd_replies.specs.AskedFiles.{cert_of, is_check, step_limit, generated_steps}
-use Rattle.fsmd_answers.specs.MachineFiles.{SpellsMachine}
-use Rattle.fsmd_answers.specs.ComparisonAnswers.{IsOfPair, Same, Apart, Open, left_of, right_of}
+use Rattle.fsmd_tool.specs.MachineFiles.{SpellsMachine}
+use Rattle.fsmd_tool.specs.ComparisonAnswers.{IsOfPair, Same, Apart, Open, left_of, right_of}
 use Rattle.fsmd_tool.specs.Calls.{Call}
 use Rattle.fsmd_tool.specs.SinkReplies.{Put}
 use Rattle.fsmd_tool.specs.Correct.{Outcome}

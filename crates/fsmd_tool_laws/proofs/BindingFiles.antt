@@ -28,7 +28,7 @@ use Rattle.hls_bind.specs.Results.{IsBoundParts}
 use Rattle.fsmd_replies.specs.declared.answer.Answer.{Answer}
 use Rattle.fsmd_replies.specs.declared.answer.Answer.TheVariants.{Text, Differs}
 use Rattle.fsmd_synthesis_answers.specs.BindingAnswers.{Binding, conflict_text}
-use Rattle.fsmd_answers.specs.BindingFiles.{binding_fault, HasBindingFault, SpellsBinding, RefusesBinding, IsOfBinding, IsBound, Loses}
+use Rattle.fsmd_tool.specs.BindingFiles.{binding_fault, HasBindingFault, SpellsBinding, RefusesBinding, IsOfBinding, IsBound, Loses}
 use Rattle.fsmd_tool_laws.proofs.Contents.{some_none, OpensInOneWay}
 use Rattle.fsmd_tool_laws.proofs.Keys.{AreOneThing, keys_open}
 

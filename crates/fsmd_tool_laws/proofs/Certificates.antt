@@ -23,9 +23,9 @@ use Rattle.cert_text.specs.Refusals.{file_read, SpellsNodes, BreaksFirst, IsRefu
 use Rattle.fsmd_replies.specs.declared.answer.Operand.{Operand}
 use Rattle.fsmd_replies.specs.declared.answer.Answer.{Answer}
 use Rattle.fsmd_replies.specs.declared.answer.Answer.TheVariants.{CertRefused}
-use Rattle.fsmd_answers.specs.Readings.{FileContent, OfBytes}
-use Rattle.fsmd_answers.specs.Unread.{IsUnread}
-use Rattle.fsmd_answers.specs.Refusals.{SpellsCertificate, HasCertFault, RefusesCertificate, UnreadCertificate, ByCertificate}
+use Rattle.fsmd_tool.specs.Readings.{FileContent, OfBytes}
+use Rattle.fsmd_tool.specs.Unread.{IsUnread}
+use Rattle.fsmd_tool.specs.Refusals.{SpellsCertificate, HasCertFault, RefusesCertificate, UnreadCertificate, ByCertificate}
 use Rattle.fsmd_tool_laws.proofs.Contents.{of_both, OpensInOneWay}
 use Rattle.fsmd_tool_laws.proofs.Texts.{few_not_many}
 use Rattle.fsmd_tool_laws.proofs.Files.{unread_once, unread_or}

@@ -8,12 +8,12 @@ use Rattle.cert_bisimulation.specs.Tables.{Node}
 use Rattle.sym_facts.specs.Facts.{Fact}
 use Rattle.cert_model.specs.Obligations.{Yes, verdict_on}
 use Rattle.fsmd_replies.specs.declared.answer.Answer.{Answer}
-use Rattle.fsmd_answers.specs.MachineFiles.{SpellsMachine}
-use Rattle.fsmd_answers.specs.Readings.{Reading}
-use Rattle.fsmd_answers.specs.Refusals.{RefusesMachine, RefusesPair, RefusesCertificate, SpellsCertificate}
-use Rattle.fsmd_answers.specs.Verdicts.{IsJudged}
-use Rattle.fsmd_answers.specs.Links.{AtLink, links_of, IsOfChain}
-use Rattle.fsmd_answers.specs.Follows.{Judges, Fails, Holds, OpensLinks}
+use Rattle.fsmd_tool.specs.MachineFiles.{SpellsMachine}
+use Rattle.fsmd_tool.specs.Readings.{Reading}
+use Rattle.fsmd_tool.specs.Refusals.{RefusesMachine, RefusesPair, RefusesCertificate, SpellsCertificate}
+use Rattle.fsmd_tool.specs.Verdicts.{IsJudged}
+use Rattle.fsmd_tool.specs.Links.{AtLink, links_of, IsOfChain}
+use Rattle.fsmd_tool.specs.Follows.{Judges, Fails, Holds, OpensLinks}
 use Rattle.fsmd_tool.specs.Calls.{Call, IsCorrectFrom}
 use Rattle.fsmd_tool.specs.Correct.{IsCorrectAnswer}
 use Rattle.fsmd_tool.proofs.Found.{end_of}

@@ -2,7 +2,7 @@
 use Rattle.std.proofs.Common.{◌≡◌, ℕ, List, Option, Some, None, sym, ◌∙◌, subst}
 use Rattle.fsmd_replies.specs.declared.answer.Operand.{Operand}
 use Rattle.fsmd_replies.specs.declared.answer.Answer.{Answer}
-use Rattle.fsmd_answers.specs.Readings.{FileContent, Readable, Unreadable, OfBytes}
+use Rattle.fsmd_tool.specs.Readings.{FileContent, Readable, Unreadable, OfBytes}
 
 pub some_none : {A : Type 0} (x : A) (o : Option A) → o ≡ Some x → o ≡ None → ⊥
 some_none x o e n = let f : Some x ≡ None = sym e ∙ n in cc

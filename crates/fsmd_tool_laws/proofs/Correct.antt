@@ -18,19 +18,19 @@ use Rattle.fsmd_synthesis_answers.specs.BindingAnswers.{Binding}
 use Rattle.fsmd_replies.specs.declared.answer.Answer.{Answer}
 use Rattle.fsmd_replies.specs.declared.answer.Answer.TheVariants.{Text}
 use Rattle.fsmd_replies.specs.AskedFiles.{operand, cert_of, is_check, is_verify, compares, step_limit}
-use Rattle.fsmd_answers.specs.MachineFiles.{SpellsParts, SpellsMachine}
-use Rattle.fsmd_answers.specs.Readings.{Reading}
-use Rattle.fsmd_answers.specs.Refusals.{RefusesMachine, RefusesCertificate, SpellsCertificate}
-use Rattle.fsmd_answers.specs.InputFiles.{SpellsInputs, RefusesInputs}
-use Rattle.fsmd_answers.specs.ProgramFiles.{RefusesProgram, SpellsProgram, IsOfProgram}
-use Rattle.fsmd_answers.specs.ScheduleFiles.{RefusesUnits, SpellUnits, IsOfSchedule}
-use Rattle.fsmd_answers.specs.BindingFiles.{RefusesBinding, SpellsBinding, IsOfBinding}
-use Rattle.fsmd_answers.specs.ComparisonAnswers.{IsOfPair, IsOfLoops}
-use Rattle.fsmd_answers.specs.Verdicts.{IsJudged, answer_to}
-use Rattle.fsmd_answers.specs.RunAnswers.{IsOfRun}
-use Rattle.fsmd_answers.specs.Replays.{IsOfReplay}
-use Rattle.fsmd_answers.specs.Shrinks.{IsOfShrink}
-use Rattle.fsmd_answers.specs.Follows.{Ends, OpensInputs, OpensCertificate, OpensUnits, OpensBinding, FollowsFrom}
+use Rattle.fsmd_tool.specs.MachineFiles.{SpellsParts, SpellsMachine}
+use Rattle.fsmd_tool.specs.Readings.{Reading}
+use Rattle.fsmd_tool.specs.Refusals.{RefusesMachine, RefusesCertificate, SpellsCertificate}
+use Rattle.fsmd_tool.specs.InputFiles.{SpellsInputs, RefusesInputs}
+use Rattle.fsmd_tool.specs.ProgramFiles.{RefusesProgram, SpellsProgram, IsOfProgram}
+use Rattle.fsmd_tool.specs.ScheduleFiles.{RefusesUnits, SpellUnits, IsOfSchedule}
+use Rattle.fsmd_tool.specs.BindingFiles.{RefusesBinding, SpellsBinding, IsOfBinding}
+use Rattle.fsmd_tool.specs.ComparisonAnswers.{IsOfPair, IsOfLoops}
+use Rattle.fsmd_tool.specs.Verdicts.{IsJudged, answer_to}
+use Rattle.fsmd_tool.specs.RunAnswers.{IsOfRun}
+use Rattle.fsmd_tool.specs.Replays.{IsOfReplay}
+use Rattle.fsmd_tool.specs.Shrinks.{IsOfShrink}
+use Rattle.fsmd_tool.specs.Follows.{Ends, OpensInputs, OpensCertificate, OpensUnits, OpensBinding, FollowsFrom}
 use Rattle.fsmd_tool.specs.Calls.{Call, known_at_start, FailedToRead, MayRead, IsCorrectFrom}
 use Rattle.fsmd_tool.specs.Correct.{IsCorrectAnswer}
 use Rattle.fsmd_tool.proofs.Found.{end_of}

@@ -7,10 +7,10 @@ use Rattle.fs_model.specs.Source.{Source}
 use Rattle.fsmd_replies.specs.declared.answer.Operand.{Operand}
 use Rattle.fsmd_replies.specs.declared.answer.Answer.{Answer}
 use Rattle.fsmd_replies.specs.declared.answer.Answer.TheVariants.{TextRefused, CheckRefused}
-use Rattle.fsmd_answers.specs.MachineFiles.{SpellsParts, SpellsMachine, IsTooLong, HasTextFault, HasCheckFault}
-use Rattle.fsmd_answers.specs.Readings.{FileContent, Readable, Unreadable, OfBytes}
-use Rattle.fsmd_answers.specs.Unread.{IsUnread, Failed, Long}
-use Rattle.fsmd_answers.specs.Refusals.{RefusesMachine, Unread, ByText, ByRule}
+use Rattle.fsmd_tool.specs.MachineFiles.{SpellsParts, SpellsMachine, IsTooLong, HasTextFault, HasCheckFault}
+use Rattle.fsmd_tool.specs.Readings.{FileContent, Readable, Unreadable, OfBytes}
+use Rattle.fsmd_tool.specs.Unread.{IsUnread, Failed, Long}
+use Rattle.fsmd_tool.specs.Refusals.{RefusesMachine, Unread, ByText, ByRule}
 use Rattle.fsmd_tool_laws.proofs.Contents.{of_both, unreadable_bytes, OpensInOneWay}
 use Rattle.fsmd_tool_laws.proofs.Texts.{text_fault_once, check_fault_once, text_or_check, spells_once, parts_once, spells_no_text_fault, spells_no_check_fault}
 use Rattle.fsmd_tool_laws.proofs.Texts.{long_spells_none, long_no_text_fault, long_no_check_fault}

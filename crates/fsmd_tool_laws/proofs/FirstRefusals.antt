@@ -19,19 +19,19 @@ use Rattle.fsmd_replies.specs.Statuses.{status_of, certificate_in}
 use Rattle.fsmd_replies.specs.ChainTexts.{link_lines}
 use Rattle.fsmd_replies.specs.AskedFiles.{operand, cert_of, is_verify}
 use Rattle.fsmd_replies.specs.Replies.{reply, unstored_reply}
-use Rattle.fsmd_answers.specs.MachineFiles.{SpellsParts, SpellsMachine}
-use Rattle.fsmd_answers.specs.Readings.{FileContent, Readable, Unreadable, OfBytes, Reading}
-use Rattle.fsmd_answers.specs.Refusals.{RefusesMachine, RefusesPair, RefusesCertificate}
-use Rattle.fsmd_answers.specs.InputFiles.{HasInputFault, RefusesInputs}
-use Rattle.fsmd_answers.specs.ProgramFiles.{RefusesProgram}
-use Rattle.fsmd_answers.specs.ScheduleFiles.{HaveUnitFault, RefusesUnits, SpellUnits, IsOver}
-use Rattle.fsmd_answers.specs.BindingFiles.{HasBindingFault, RefusesBinding}
-use Rattle.fsmd_answers.specs.ComparisonAnswers.{IsOfPair}
-use Rattle.fsmd_answers.specs.Verdicts.{IsJudged}
-use Rattle.fsmd_answers.specs.Replays.{IsOfReplay}
-use Rattle.fsmd_answers.specs.Shrinks.{IsOfShrink}
-use Rattle.fsmd_answers.specs.Links.{AtLink}
-use Rattle.fsmd_answers.specs.Follows.{Ends, Refused, Spelled, OpensInputs, OpensCertificate, Other, SameInterface, OpensPair, FollowsFrom, Follows}
+use Rattle.fsmd_tool.specs.MachineFiles.{SpellsParts, SpellsMachine}
+use Rattle.fsmd_tool.specs.Readings.{FileContent, Readable, Unreadable, OfBytes, Reading}
+use Rattle.fsmd_tool.specs.Refusals.{RefusesMachine, RefusesPair, RefusesCertificate}
+use Rattle.fsmd_tool.specs.InputFiles.{HasInputFault, RefusesInputs}
+use Rattle.fsmd_tool.specs.ProgramFiles.{RefusesProgram}
+use Rattle.fsmd_tool.specs.ScheduleFiles.{HaveUnitFault, RefusesUnits, SpellUnits, IsOver}
+use Rattle.fsmd_tool.specs.BindingFiles.{HasBindingFault, RefusesBinding}
+use Rattle.fsmd_tool.specs.ComparisonAnswers.{IsOfPair}
+use Rattle.fsmd_tool.specs.Verdicts.{IsJudged}
+use Rattle.fsmd_tool.specs.Replays.{IsOfReplay}
+use Rattle.fsmd_tool.specs.Shrinks.{IsOfShrink}
+use Rattle.fsmd_tool.specs.Links.{AtLink}
+use Rattle.fsmd_tool.specs.Follows.{Ends, Refused, Spelled, OpensInputs, OpensCertificate, Other, SameInterface, OpensPair, FollowsFrom, Follows}
 use Rattle.fsmd_tool.specs.Calls.{Call, known_at_start, FailedToRead, MayRead}
 use Rattle.fsmd_tool.specs.SinkReplies.{Put, IsPut, Whole, Cut}
 use Rattle.fsmd_tool.specs.CertificateStores.{FileChange, file_change, IsUnchangedStore, FileToStore, file_to_store_of, to_store}

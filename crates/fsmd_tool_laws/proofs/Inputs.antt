@@ -10,7 +10,7 @@ use Rattle.base_json_files.proofs.Once.{one_value}
 use Rattle.fs_inputs.specs.Refusals.{HasFaultyInput, ValueSpellsInputs, SpellsInputFile}
 use Rattle.serde_json.specs.Data.{Data}
 use Rattle.serde_json.specs.Find.{as_object}
-use Rattle.fsmd_answers.specs.InputFiles.{signatures, input_fault, HasInputFault, SpellsInputs, RefusesInputs}
+use Rattle.fsmd_tool.specs.InputFiles.{signatures, input_fault, HasInputFault, SpellsInputs, RefusesInputs}
 use Rattle.fsmd_tool_laws.proofs.Contents.{some_none, OpensInOneWay}
 use Rattle.fsmd_tool_laws.proofs.Keys.{AreOneThing, keys_open}
 

@@ -6,10 +6,10 @@ use Rattle.fs_pair.specs.Interfaces.{interface_fault}
 use Rattle.fsmd_replies.specs.declared.answer.Operand.{Operand}
 use Rattle.fsmd_replies.specs.declared.answer.Answer.{Answer}
 use Rattle.fsmd_replies.specs.AskedFiles.{operand}
-use Rattle.fsmd_answers.specs.MachineFiles.{SpellsMachine}
-use Rattle.fsmd_answers.specs.Readings.{FileContent, Readable, Unreadable, OfBytes, Reading}
-use Rattle.fsmd_answers.specs.Refusals.{RefusesMachine, RefusesPair}
-use Rattle.fsmd_answers.specs.Follows.{Ends, OpensWith, Refused, Spelled, Opens, OpensMachine, ComparesPairs, Other, SameInterface, OpensPair}
+use Rattle.fsmd_tool.specs.MachineFiles.{SpellsMachine}
+use Rattle.fsmd_tool.specs.Readings.{FileContent, Readable, Unreadable, OfBytes, Reading}
+use Rattle.fsmd_tool.specs.Refusals.{RefusesMachine, RefusesPair}
+use Rattle.fsmd_tool.specs.Follows.{Ends, OpensWith, Refused, Spelled, Opens, OpensMachine, ComparesPairs, Other, SameInterface, OpensPair}
 use Rattle.fsmd_tool.specs.Calls.{Call, known_at_start, FailedToRead, MayBeRead, MayRead, IsCorrectFrom}
 use Rattle.fsmd_tool_laws.specs.Settled.{Settles, IsSettled, IsKnown, SpellPair, read_of}
 use Rattle.fsmd_tool_laws.proofs.Contents.{OpensInOneWay, one_spelled}

@@ -17,21 +17,21 @@ use Rattle.fsmd_replies.specs.declared.answer.Operand.{Operand}
 use Rattle.fsmd_replies.specs.declared.answer.Answer.{Answer}
 use Rattle.fsmd_replies.specs.declared.answer.Answer.TheVariants.{Usage, Text}
 use Rattle.fsmd_replies.specs.AskedFiles.{in_links, files_of}
-use Rattle.fsmd_answers.specs.MachineFiles.{SpellsParts, SpellsMachine}
-use Rattle.fsmd_answers.specs.Readings.{FileContent, Reading}
-use Rattle.fsmd_answers.specs.Refusals.{RefusesMachine, RefusesPair, RefusesCertificate, SpellsCertificate}
-use Rattle.fsmd_answers.specs.InputFiles.{SpellsInputs, RefusesInputs}
-use Rattle.fsmd_answers.specs.ProgramFiles.{RefusesProgram, SpellsProgram, IsOfProgram}
-use Rattle.fsmd_answers.specs.ScheduleFiles.{RefusesUnits, SpellUnits, IsOfSchedule}
-use Rattle.fsmd_answers.specs.BindingFiles.{RefusesBinding, SpellsBinding, IsOfBinding}
-use Rattle.fsmd_answers.specs.ComparisonAnswers.{IsOfPair, IsOfLoops}
-use Rattle.fsmd_answers.specs.Verdicts.{IsJudged}
-use Rattle.fsmd_answers.specs.RunAnswers.{IsOfRun}
-use Rattle.fsmd_answers.specs.Replays.{IsOfReplay}
-use Rattle.fsmd_answers.specs.Shrinks.{IsOfShrink}
-use Rattle.fsmd_answers.specs.Links.{AtLink, links_in, IsOfChain}
-use Rattle.fsmd_answers.specs.Follows.{Ends, OpensWith, Refused, Spelled, Opens, OpensMachine, OpensInputs, OpensCertificate, OpensUnits, OpensBinding}
-use Rattle.fsmd_answers.specs.Follows.{ComparesPairs, Other, SameInterface, OpensPair, Judges, Fails, Holds, OpensLinks, FollowsFrom}
+use Rattle.fsmd_tool.specs.MachineFiles.{SpellsParts, SpellsMachine}
+use Rattle.fsmd_tool.specs.Readings.{FileContent, Reading}
+use Rattle.fsmd_tool.specs.Refusals.{RefusesMachine, RefusesPair, RefusesCertificate, SpellsCertificate}
+use Rattle.fsmd_tool.specs.InputFiles.{SpellsInputs, RefusesInputs}
+use Rattle.fsmd_tool.specs.ProgramFiles.{RefusesProgram, SpellsProgram, IsOfProgram}
+use Rattle.fsmd_tool.specs.ScheduleFiles.{RefusesUnits, SpellUnits, IsOfSchedule}
+use Rattle.fsmd_tool.specs.BindingFiles.{RefusesBinding, SpellsBinding, IsOfBinding}
+use Rattle.fsmd_tool.specs.ComparisonAnswers.{IsOfPair, IsOfLoops}
+use Rattle.fsmd_tool.specs.Verdicts.{IsJudged}
+use Rattle.fsmd_tool.specs.RunAnswers.{IsOfRun}
+use Rattle.fsmd_tool.specs.Replays.{IsOfReplay}
+use Rattle.fsmd_tool.specs.Shrinks.{IsOfShrink}
+use Rattle.fsmd_tool.specs.Links.{AtLink, links_in, IsOfChain}
+use Rattle.fsmd_tool.specs.Follows.{Ends, OpensWith, Refused, Spelled, Opens, OpensMachine, OpensInputs, OpensCertificate, OpensUnits, OpensBinding}
+use Rattle.fsmd_tool.specs.Follows.{ComparesPairs, Other, SameInterface, OpensPair, Judges, Fails, Holds, OpensLinks, FollowsFrom}
 use Rattle.fsmd_tool_laws.proofs.Following.{Rule, BehindCertificate, BehindPair, BehindMachine}
 
 -- an answer follows by P from at most so many files

@@ -9,7 +9,7 @@ use Rattle.fsmd_replies.specs.declared.answer.Answer.{Answer}
 use Rattle.fsmd_replies.specs.Statuses.{status_of, certificate_in}
 use Rattle.fsmd_replies.specs.AskedFiles.{cert_of, is_check, step_limit, generated_steps}
 use Rattle.fsmd_replies.specs.Replies.{reply}
-use Rattle.fsmd_answers.specs.ComparisonAnswers.{IsOfPair, Same, Apart, Open, left_of, right_of}
+use Rattle.fsmd_tool.specs.ComparisonAnswers.{IsOfPair, Same, Apart, Open, left_of, right_of}
 use Rattle.fsmd_tool.specs.Calls.{Call}
 use Rattle.fsmd_tool.specs.SinkReplies.{Put, IsWhole, IsPut, Whole, Cut}
 use Rattle.fsmd_tool.specs.CertificateStores.{FileChange, file_change, FileToStore, to_store}

@@ -5,15 +5,15 @@ use Rattle.fs_trials.specs.Candidates.{stated_count}
 use Rattle.fs_trials.specs.Differences.{DiffersAt}
 use Rattle.cert_writer.specs.WrittenCertificates.{certificate_text}
 use Rattle.fsmd_replies.specs.SearchTables.{machines}
-use Rattle.fsmd_answers.specs.PairAnswers.{IsLeftOpen, IsUndecided}
-use Rattle.fsmd_answers.proofs.Behaviour.{same_show_nothing, one_counterexample}
-use Rattle.fsmd_answers.proofs.Once.{Nodes, one_or_beyond, only_beyond, one_line, not_open}
+use Rattle.fsmd_tool.specs.PairAnswers.{IsLeftOpen, IsUndecided}
+use Rattle.fsmd_tool.proofs.Behaviour.{same_show_nothing, one_counterexample}
+use Rattle.fsmd_tool.proofs.Once.{Nodes, one_or_beyond, only_beyond, one_line, not_open}
 use Rattle.fsmd_replies.specs.declared.answer.Answer.{Answer}
 use Rattle.fsmd_replies.specs.declared.answer.Answer.TheVariants.{Equivalent, Differs, Undecided}
 use Rattle.fsmd_replies.specs.declared.answer.Status.TheVariants.{Differ}
 use Rattle.fsmd_replies.specs.Statuses.{status_of}
-use Rattle.fsmd_answers.specs.LineAnswers.{HasLines}
-use Rattle.fsmd_answers.specs.ComparisonAnswers.{AreSame, IsOfPair, Same, Apart, Open, text_to_store}
+use Rattle.fsmd_tool.specs.LineAnswers.{HasLines}
+use Rattle.fsmd_tool.specs.ComparisonAnswers.{AreSame, IsOfPair, Same, Apart, Open, text_to_store}
 use Rattle.fsmd_tool_laws.specs.OneAnswer.{IsBeyond, Found, NoneFound, AreOne, Equal, GoBeyond}
 
 open_once : (limit : ℕ) (a b : Fsmd) (x y : Answer) → HasLines (IsUndecided limit a b) Undecided x → HasLines (IsUndecided limit a b) Undecided y

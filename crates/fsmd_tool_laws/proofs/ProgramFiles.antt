@@ -10,9 +10,9 @@ use Rattle.hls_program_parts.proofs.Texts.{one_program, one_fault, spelled_progr
 use Rattle.fsmd_replies.specs.declared.answer.Operand.{Operand}
 use Rattle.fsmd_replies.specs.declared.answer.Answer.{Answer}
 use Rattle.fsmd_replies.specs.declared.answer.Answer.TheVariants.{Text, TextRefused, CheckRefused}
-use Rattle.fsmd_answers.specs.Readings.{FileContent, OfBytes}
-use Rattle.fsmd_answers.specs.ProgramFiles.{SpellsProgram, IsOfProgram, HasProgramFault, BreaksRule, RefusesProgram, UnreadProgram, ProgramByText}
-use Rattle.fsmd_answers.specs.ProgramFiles.{ProgramByRule}
+use Rattle.fsmd_tool.specs.Readings.{FileContent, OfBytes}
+use Rattle.fsmd_tool.specs.ProgramFiles.{SpellsProgram, IsOfProgram, HasProgramFault, BreaksRule, RefusesProgram, UnreadProgram, ProgramByText}
+use Rattle.fsmd_tool.specs.ProgramFiles.{ProgramByRule}
 use Rattle.fsmd_tool_laws.proofs.Contents.{of_both, OpensInOneWay}
 use Rattle.fsmd_tool_laws.proofs.Texts.{few_not_many, first_broken_once, lawful_unbroken}
 use Rattle.fsmd_tool_laws.proofs.Files.{unread_once, unread_or}

@@ -9,8 +9,8 @@ use Rattle.fs_run_text.specs.EndTexts.{IsReplayText}
 use Rattle.fs_run_text.proofs.Once.{replay_once}
 use Rattle.fsmd_replies.specs.declared.answer.Answer.{Answer}
 use Rattle.fsmd_replies.specs.declared.answer.Answer.TheVariants.{Text, Differs}
-use Rattle.fsmd_answers.specs.LineAnswers.{HasLines}
-use Rattle.fsmd_answers.specs.Replays.{BothEnd, IsOfReplay, LeftStopped, RightStopped, Agreed, Differed}
+use Rattle.fsmd_tool.specs.LineAnswers.{HasLines}
+use Rattle.fsmd_tool.specs.Replays.{BothEnd, IsOfReplay, LeftStopped, RightStopped, Agreed, Differed}
 use Rattle.fsmd_tool_laws.proofs.Runs.{stops_once, not_stopped, ends_same}
 
 -- the answer to two runs that ended

@@ -12,8 +12,8 @@ use Rattle.fs_run_text.proofs.Once.{end_once, stop_once}
 use Rattle.fs_run_text.proofs.RunOnce.{told_of_run}
 use Rattle.fsmd_replies.specs.declared.answer.Answer.{Answer}
 use Rattle.fsmd_replies.specs.declared.answer.Answer.TheVariants.{Text, Undecided}
-use Rattle.fsmd_answers.specs.LineAnswers.{HasLines}
-use Rattle.fsmd_answers.specs.RunAnswers.{IsOfStop, IsOfRun, Ended, Stopped}
+use Rattle.fsmd_tool.specs.LineAnswers.{HasLines}
+use Rattle.fsmd_tool.specs.RunAnswers.{IsOfStop, IsOfRun, Ended, Stopped}
 
 -- the answers of stops of one run are one
 pub stops_once : (limit : ℕ) (m : Fsmd) (ins : Inputs) (side : Side) (s r : RunStop) (x y : Answer) → IsStopped m ins limit s → IsStopped m ins limit r

@@ -9,19 +9,19 @@ use Rattle.fs_pair.specs.Interfaces.{interface_fault}
 use Rattle.fsmd_replies.specs.declared.answer.Operand.{Operand}
 use Rattle.fsmd_replies.specs.declared.answer.Answer.{Answer}
 use Rattle.fsmd_replies.specs.AskedFiles.{operand, files_of, compares}
-use Rattle.fsmd_answers.specs.MachineFiles.{SpellsParts, SpellsMachine}
-use Rattle.fsmd_answers.specs.Readings.{FileContent, OfBytes, Reading}
-use Rattle.fsmd_answers.specs.Refusals.{RefusesMachine, RefusesPair}
-use Rattle.fsmd_answers.specs.ComparisonAnswers.{IsOfPair}
-use Rattle.fsmd_answers.specs.Verdicts.{IsJudged}
-use Rattle.fsmd_answers.specs.RunAnswers.{IsOfRun}
-use Rattle.fsmd_answers.specs.Replays.{IsOfReplay}
-use Rattle.fsmd_answers.specs.Shrinks.{IsOfShrink}
-use Rattle.fsmd_answers.specs.ScheduleFiles.{IsOfSchedule}
-use Rattle.fsmd_answers.specs.BindingFiles.{IsOfBinding}
-use Rattle.fsmd_answers.specs.Links.{AtLink, links_of, IsOfChain}
-use Rattle.fsmd_answers.specs.Follows.{Ends, Refused, Spelled, Opens, OpensMachine, OpensInputs, OpensCertificate, OpensUnits, OpensBinding, ComparesPairs}
-use Rattle.fsmd_answers.specs.Follows.{Other, SameInterface, OpensLinks, Follows}
+use Rattle.fsmd_tool.specs.MachineFiles.{SpellsParts, SpellsMachine}
+use Rattle.fsmd_tool.specs.Readings.{FileContent, OfBytes, Reading}
+use Rattle.fsmd_tool.specs.Refusals.{RefusesMachine, RefusesPair}
+use Rattle.fsmd_tool.specs.ComparisonAnswers.{IsOfPair}
+use Rattle.fsmd_tool.specs.Verdicts.{IsJudged}
+use Rattle.fsmd_tool.specs.RunAnswers.{IsOfRun}
+use Rattle.fsmd_tool.specs.Replays.{IsOfReplay}
+use Rattle.fsmd_tool.specs.Shrinks.{IsOfShrink}
+use Rattle.fsmd_tool.specs.ScheduleFiles.{IsOfSchedule}
+use Rattle.fsmd_tool.specs.BindingFiles.{IsOfBinding}
+use Rattle.fsmd_tool.specs.Links.{AtLink, links_of, IsOfChain}
+use Rattle.fsmd_tool.specs.Follows.{Ends, Refused, Spelled, Opens, OpensMachine, OpensInputs, OpensCertificate, OpensUnits, OpensBinding, ComparesPairs}
+use Rattle.fsmd_tool.specs.Follows.{Other, SameInterface, OpensLinks, Follows}
 use Rattle.fsmd_tool.specs.Calls.{Call, known_at_start, FailedToRead, MayRead}
 use Rattle.fsmd_tool.specs.Correct.{IsCorrectAnswer}
 use Rattle.fsmd_tool_laws.specs.Agreement.{Agree}

@@ -13,8 +13,8 @@ use Rattle.hls_shrink.specs.Given.{given_contents}
 use Rattle.hls_shrink.proofs.Unique.{end_once}
 use Rattle.fsmd_replies.specs.declared.answer.Answer.{Answer}
 use Rattle.fsmd_replies.specs.declared.answer.Answer.TheVariants.{Differs}
-use Rattle.fsmd_answers.specs.LineAnswers.{HasLines}
-use Rattle.fsmd_answers.specs.Shrinks.{IsSmallText, IsOfShrink, Smaller, Replayed}
+use Rattle.fsmd_tool.specs.LineAnswers.{HasLines}
+use Rattle.fsmd_tool.specs.Shrinks.{IsSmallText, IsOfShrink, Smaller, Replayed}
 use Rattle.fsmd_tool_laws.proofs.Runs.{ends_same}
 use Rattle.fsmd_tool_laws.proofs.Replays.{replay_answer_once}
 

@@ -11,11 +11,11 @@ use Rattle.fsmd_replies.specs.declared.answer.Answer.{Answer}
 use Rattle.fsmd_replies.specs.declared.answer.Answer.TheVariants.{Link}
 use Rattle.fsmd_replies.specs.Statuses.{status_of}
 use Rattle.fsmd_replies.specs.ChainTexts.{link_lines}
-use Rattle.fsmd_answers.specs.MachineFiles.{SpellsMachine}
-use Rattle.fsmd_answers.specs.Refusals.{SpellsCertificate}
-use Rattle.fsmd_answers.specs.Verdicts.{IsJudged, answer_to}
-use Rattle.fsmd_answers.specs.Links.{AtLink, links_of}
-use Rattle.fsmd_answers.specs.Follows.{Spelled, SameInterface, Fails, Holds, OpensLinks, Follows}
+use Rattle.fsmd_tool.specs.MachineFiles.{SpellsMachine}
+use Rattle.fsmd_tool.specs.Refusals.{SpellsCertificate}
+use Rattle.fsmd_tool.specs.Verdicts.{IsJudged, answer_to}
+use Rattle.fsmd_tool.specs.Links.{AtLink, links_of}
+use Rattle.fsmd_tool.specs.Follows.{Spelled, SameInterface, Fails, Holds, OpensLinks, Follows}
 use Rattle.fsmd_tool.specs.Calls.{Call}
 use Rattle.fsmd_tool_laws.specs.Settled.{IsSettled, IsKnown, SpellLink, AreKnownToHold, read_from, AreSettledUpToRefused}
 use Rattle.fsmd_tool_laws.proofs.Certificates.{ReadInOneWay}

@@ -12,7 +12,7 @@ use Rattle.search_laws.specs.Certificates.{IsCertificate}
 use Rattle.fsmd_replies.specs.declared.answer.Answer.{Answer}
 use Rattle.fsmd_replies.specs.declared.answer.Answer.TheVariants.{Text}
 use Rattle.fsmd_replies.specs.AskedFiles.{is_verify}
-use Rattle.fsmd_answers.specs.Refusals.{SpellsCertificate}
+use Rattle.fsmd_tool.specs.Refusals.{SpellsCertificate}
 use Rattle.fsmd_tool.specs.Calls.{Call}
 use Rattle.fsmd_tool.specs.Correct.{IsCorrectAnswer}
 use Rattle.fsmd_tool_laws.specs.Settled.{IsKnown, SpellPair}

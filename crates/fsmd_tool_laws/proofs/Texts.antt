@@ -15,7 +15,7 @@ use Rattle.fs_rules.specs.MachineOfParts.{machine_of}
 use Rattle.fs_rules.specs.Rules.{rule_rank, is_sooner, plain_faults, branch_faults, IsFirstBroken, BreaksNoRule}
 use Rattle.fs_model.specs.Limits.{most_text_bytes}
 use Rattle.fs_lex.proofs.Texts.{one_source, one_fault, spelled_text_never_stops}
-use Rattle.fsmd_answers.specs.MachineFiles.{SpellsParts, SpellsMachine, IsTooLong, HasTextFault, HasCheckFault}
+use Rattle.fsmd_tool.specs.MachineFiles.{SpellsParts, SpellsMachine, IsTooLong, HasTextFault, HasCheckFault}
 
 -- ---- the broken rule that is answered is one
 

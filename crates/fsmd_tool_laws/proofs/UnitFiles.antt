@@ -15,7 +15,7 @@ use Rattle.hls_block_filling.specs.Over.{over_in}
 use Rattle.fsmd_replies.specs.declared.answer.Answer.{Answer}
 use Rattle.fsmd_replies.specs.declared.answer.Answer.TheVariants.{Text, Over}
 use Rattle.fsmd_replies.specs.AskedFiles.{operand}
-use Rattle.fsmd_answers.specs.ScheduleFiles.{unit_fault, HaveUnitFault, SpellUnits, RefusesUnits, IsOfSchedule, IsOver, InRows}
+use Rattle.fsmd_tool.specs.ScheduleFiles.{unit_fault, HaveUnitFault, SpellUnits, RefusesUnits, IsOfSchedule, IsOver, InRows}
 use Rattle.fsmd_tool_laws.proofs.Contents.{some_none, OpensInOneWay}
 use Rattle.fsmd_tool_laws.proofs.Keys.{AreOneThing, keys_open}
 

@@ -1,6 +1,6 @@
 -- When two readings of the files of a call agree.
 use Rattle.std.specs.Prelude.{◌≡◌, [], ◌∷◌}
-use Rattle.fsmd_answers.specs.Readings.{Reading}
+use Rattle.fsmd_tool.specs.Readings.{Reading}
 
 -- two readings agree on each file that both opened
 abbrev pub Agree : Reading → Reading → Type 0

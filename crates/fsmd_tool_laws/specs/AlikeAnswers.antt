@@ -6,11 +6,11 @@ use Rattle.sym_facts.specs.Facts.{Fact}
 use Rattle.cert_writer.specs.WrittenCertificates.{certificate_text}
 use Rattle.fsmd_replies.specs.SearchTables.{machines}
 use Rattle.search_laws.specs.SearchOutcomes.{IsClosedWith}
-use Rattle.fsmd_answers.specs.PairAnswers.{HasLimit}
+use Rattle.fsmd_tool.specs.PairAnswers.{HasLimit}
 use Rattle.fsmd_replies.specs.declared.answer.Answer.{Answer}
 use Rattle.fsmd_replies.specs.declared.answer.Answer.TheVariants.{Equivalent, Undecided}
-use Rattle.fsmd_answers.specs.LineAnswers.{HasLines}
-use Rattle.fsmd_answers.specs.ComparisonAnswers.{text_to_store}
+use Rattle.fsmd_tool.specs.LineAnswers.{HasLines}
+use Rattle.fsmd_tool.specs.ComparisonAnswers.{text_to_store}
 
 -- an answer to two machines: the certificate of a search that closes, by its number of nodes and by its text where that is to be
 -- stored; or the line of a limit that stops the search

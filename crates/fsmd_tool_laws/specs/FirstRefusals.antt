@@ -7,13 +7,13 @@ use Rattle.fsmd_replies.specs.declared.answer.Status.TheVariants.{BadInput}
 use Rattle.fsmd_replies.specs.declared.answer.Answer.{Answer}
 use Rattle.fsmd_replies.specs.declared.answer.Answer.TheVariants.{Link}
 use Rattle.fsmd_replies.specs.AskedFiles.{operand}
-use Rattle.fsmd_answers.specs.MachineFiles.{SpellsMachine}
-use Rattle.fsmd_answers.specs.Readings.{FileContent, Readable}
+use Rattle.fsmd_tool.specs.MachineFiles.{SpellsMachine}
+use Rattle.fsmd_tool.specs.Readings.{FileContent, Readable}
 use Rattle.fsmd_replies.specs.Replies.{reply}
 use Rattle.fsmd_replies.specs.Statuses.{status_of}
 use Rattle.fsmd_replies.specs.ChainTexts.{link_lines}
-use Rattle.fsmd_answers.specs.Links.{links_of}
-use Rattle.fsmd_answers.specs.Follows.{Follows}
+use Rattle.fsmd_tool.specs.Links.{links_of}
+use Rattle.fsmd_tool.specs.Follows.{Follows}
 use Rattle.fsmd_tool.specs.Calls.{Call}
 use Rattle.fsmd_tool.specs.SinkReplies.{Put, IsPut}
 use Rattle.fsmd_tool.specs.CertificateStores.{file_change, IsUnchangedStore}

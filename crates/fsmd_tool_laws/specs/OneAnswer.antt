@@ -6,14 +6,14 @@ use Rattle.cert_bisimulation.specs.Tables.{Node}
 use Rattle.sym_facts.specs.Facts.{Fact}
 use Rattle.cert_writer.specs.WrittenCertificates.{certificate_text}
 use Rattle.fsmd_replies.specs.SearchTables.{machines}
-use Rattle.fsmd_answers.specs.PairAnswers.{HasObstacle, IsLeftOpen, IsFoundBeyond}
+use Rattle.fsmd_tool.specs.PairAnswers.{HasObstacle, IsLeftOpen, IsFoundBeyond}
 use Rattle.fsmd_replies.specs.declared.answer.Answer.{Answer}
 use Rattle.fsmd_replies.specs.declared.answer.Answer.TheVariants.{Equivalent, Undecided}
 use Rattle.fsmd_replies.specs.AskedFiles.{is_check}
-use Rattle.fsmd_answers.specs.LineAnswers.{HasLines}
-use Rattle.fsmd_answers.specs.MachineFiles.{SpellsMachine}
-use Rattle.fsmd_answers.specs.Readings.{OfBytes, Reading}
-use Rattle.fsmd_answers.specs.ComparisonAnswers.{text_to_store, left_of, right_of}
+use Rattle.fsmd_tool.specs.LineAnswers.{HasLines}
+use Rattle.fsmd_tool.specs.MachineFiles.{SpellsMachine}
+use Rattle.fsmd_tool.specs.Readings.{OfBytes, Reading}
+use Rattle.fsmd_tool.specs.ComparisonAnswers.{text_to_store, left_of, right_of}
 
 -- what may be answered where no stated candidate shows a difference and the search is left open: a certificate that is found
 -- beyond it and holds, by its number of nodes and its text where that is to be stored; or the line of the search's obstacle

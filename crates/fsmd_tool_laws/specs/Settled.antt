@@ -8,10 +8,10 @@ use Rattle.sym_facts.specs.Facts.{Fact}
 use Rattle.cert_model.specs.Obligations.{Yes, verdict_on}
 use Rattle.fsmd_replies.specs.declared.answer.Answer.{Answer}
 use Rattle.fsmd_replies.specs.AskedFiles.{operand}
-use Rattle.fsmd_answers.specs.MachineFiles.{SpellsMachine}
-use Rattle.fsmd_answers.specs.Readings.{FileContent, Readable, Unreadable, Reading}
-use Rattle.fsmd_answers.specs.Refusals.{RefusesMachine, SpellsCertificate}
-use Rattle.fsmd_answers.specs.Follows.{Follows}
+use Rattle.fsmd_tool.specs.MachineFiles.{SpellsMachine}
+use Rattle.fsmd_tool.specs.Readings.{FileContent, Readable, Unreadable, Reading}
+use Rattle.fsmd_tool.specs.Refusals.{RefusesMachine, SpellsCertificate}
+use Rattle.fsmd_tool.specs.Follows.{Follows}
 use Rattle.fsmd_tool.specs.Calls.{Call, known_at_start, FailedToRead}
 use Rattle.fsmd_tool_laws.specs.Agreement.{Agree}
 

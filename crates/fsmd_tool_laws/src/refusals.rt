@@ -14,12 +14,12 @@ ghost use Rattle.fsmd_replies.specs.declared.answer.Status.TheVariants.{BadInput
 ghost use Rattle.fsmd_replies.specs.declared.answer.Answer.{Answer};
 ghost use Rattle.fsmd_replies.specs.declared.answer.Answer.TheVariants.{Over};
 ghost use Rattle.fsmd_replies.specs.AskedFiles.{operand, is_verify};
-ghost use Rattle.fsmd_answers.specs.MachineFiles.{SpellsParts, SpellsMachine};
-ghost use Rattle.fsmd_answers.specs.Refusals.{RefusesMachine, RefusesPair, RefusesCertificate};
-ghost use Rattle.fsmd_answers.specs.InputFiles.{RefusesInputs};
-ghost use Rattle.fsmd_answers.specs.ProgramFiles.{RefusesProgram};
-ghost use Rattle.fsmd_answers.specs.ScheduleFiles.{SpellUnits, RefusesUnits};
-ghost use Rattle.fsmd_answers.specs.BindingFiles.{RefusesBinding};
+ghost use Rattle.fsmd_tool.specs.MachineFiles.{SpellsParts, SpellsMachine};
+ghost use Rattle.fsmd_tool.specs.Refusals.{RefusesMachine, RefusesPair, RefusesCertificate};
+ghost use Rattle.fsmd_tool.specs.InputFiles.{RefusesInputs};
+ghost use Rattle.fsmd_tool.specs.ProgramFiles.{RefusesProgram};
+ghost use Rattle.fsmd_tool.specs.ScheduleFiles.{SpellUnits, RefusesUnits};
+ghost use Rattle.fsmd_tool.specs.BindingFiles.{RefusesBinding};
 ghost use Rattle.fsmd_tool.specs.Calls.{Call};
 ghost use Rattle.fsmd_tool.specs.SinkReplies.{Put};
 ghost use Rattle.fsmd_tool.specs.Correct.{Outcome};

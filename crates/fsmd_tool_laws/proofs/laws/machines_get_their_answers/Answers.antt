@@ -3,15 +3,15 @@ use Rattle.fs_write.specs.Canonical.{canonical}
 use Rattle.fs_cut.specs.PathTexts.{paths_text}
 use Rattle.fsmd_replies.specs.declared.answer.Answer.TheVariants.{Text}
 use Rattle.fsmd_replies.specs.AskedFiles.{cert_of, step_limit}
-use Rattle.fsmd_answers.specs.ComparisonAnswers.{IsOfPair, IsOfLoops}
-use Rattle.fsmd_answers.specs.Verdicts.{IsJudged}
-use Rattle.fsmd_answers.specs.RunAnswers.{IsOfRun}
-use Rattle.fsmd_answers.specs.Replays.{IsOfReplay}
-use Rattle.fsmd_answers.specs.Shrinks.{IsOfShrink}
-use Rattle.fsmd_answers.specs.Links.{AtLink, links_of, IsOfChain}
-use Rattle.fsmd_answers.specs.ProgramFiles.{IsOfProgram}
-use Rattle.fsmd_answers.specs.ScheduleFiles.{IsOfSchedule}
-use Rattle.fsmd_answers.specs.BindingFiles.{IsOfBinding}
+use Rattle.fsmd_tool.specs.ComparisonAnswers.{IsOfPair, IsOfLoops}
+use Rattle.fsmd_tool.specs.Verdicts.{IsJudged}
+use Rattle.fsmd_tool.specs.RunAnswers.{IsOfRun}
+use Rattle.fsmd_tool.specs.Replays.{IsOfReplay}
+use Rattle.fsmd_tool.specs.Shrinks.{IsOfShrink}
+use Rattle.fsmd_tool.specs.Links.{AtLink, links_of, IsOfChain}
+use Rattle.fsmd_tool.specs.ProgramFiles.{IsOfProgram}
+use Rattle.fsmd_tool.specs.ScheduleFiles.{IsOfSchedule}
+use Rattle.fsmd_tool.specs.BindingFiles.{IsOfBinding}
 use Rattle.fsmd_tool_laws.proofs.Correct.{machines_checked, certificate_judged, loops_answered, run_answered, replay_answered, shrink_answered, fmt_answered}
 use Rattle.fsmd_tool_laws.proofs.Correct.{cuts_answered, compile_answered, schedule_answered, bind_answered}
 use Rattle.fsmd_tool_laws.proofs.Chains.{chain_answered, chain_stopped}
