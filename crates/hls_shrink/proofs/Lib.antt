@@ -5,3 +5,4 @@ pub mod Listed
 pub mod Lowered
 pub mod Smalls
 pub mod Unique
+pub mod Stopped

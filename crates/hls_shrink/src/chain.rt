@@ -10,7 +10,7 @@ ghost use Rattle.cert_model.specs.Obligations.{Yes, verdict_on};
 ghost use Rattle.cert_model.specs.View.{node_of};
 ghost use Rattle.cert_check.specs.View.{verdict_in};
 ghost use Rattle.cert_check.specs.declared.verdict.Verdict.TheVariants.{Yes as Holds};
-ghost use Rattle.hls_shrink.specs.ChainStops.{IsStopOf};
+ghost use Rattle.hls_shrink.specs.ChainStops.{IsStopOf, HoldOn, StopsOn};
 
 use cert_check::verdict::Verdict;
 use cert_check::verify::verify;
@@ -102,10 +102,46 @@ impl Chain {
         ensures verdict { IfErr result (IsStopOf (verdict_on self.last next (map node_of c.now.nodes.items))) }
     {
         let Chain { first, last } = self;
-        where_yes(verify(alloc, &last, &next, p, c)?)?;
+        judge_link(alloc, &last, &next, p, c)?;
         same_behaviour_is_transitive();
         Ok(Chain { first, last: next })
     }
+}
+
+// Whether the checker says yes to a certificate of two machines; where it does not, the stop that tells its verdict.
+fn check_link(
+    alloc: Global,
+    last: &Machine,
+    next: &Machine,
+    p: &Pairing,
+    c: &Cert,
+) -> Result<(), ChainStop>
+    requires paired { p.now ≡ positions last.now next.now }
+    requires interface { interface_fault last.now next.now ≡ None }
+    requires lawful { IsLawful last.now next.now (map node_of c.now.nodes.items) }
+    ensures holds { OnOk result (verdict_on last.now next.now (map node_of c.now.nodes.items) ≡ Yes) }
+    ensures same { OnOk result (SameBehaviour last.now next.now) }
+    ensures stop { IfErr result (IsStopOf (verdict_on last.now next.now (map node_of c.now.nodes.items))) }
+{
+    where_yes(verify(alloc, last, next, p, c)?)
+}
+
+// The same, said by names that do not unfold, since a caller that owns the machines need not read what a verdict is.
+fn judge_link(
+    alloc: Global,
+    last: &Machine,
+    next: &Machine,
+    p: &Pairing,
+    c: &Cert,
+) -> Result<(), ChainStop>
+    requires paired { p.now ≡ positions last.now next.now }
+    requires interface { interface_fault last.now next.now ≡ None }
+    requires lawful { IsLawful last.now next.now (map node_of c.now.nodes.items) }
+    ensures holds { OnOk result (HoldOn last.now next.now (map node_of c.now.nodes.items)) }
+    ensures same { OnOk result (SameBehaviour last.now next.now) }
+    ensures stop { IfErr result (StopsOn last.now next.now (map node_of c.now.nodes.items)) }
+{
+    check_link(alloc, last, next, p, c)
 }
 
 // Where a verdict is not yes, the stop that tells it.
