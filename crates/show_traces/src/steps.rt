@@ -12,7 +12,7 @@ use crate::lines::write_step;
 use fs_ast::machine::Machine;
 use fs_model::parts::StateId;
 use fs_stores::branches::taken_branch;
-use fs_stores::changes::{Change, StepStop, change_all, changes_of};
+use fs_stores::changes::{Change, StepStop, change_all, value_changes};
 use fs_stores::memory::NoMemory;
 use fs_stores::store::Store;
 use std::alloc::Global;
@@ -38,8 +38,13 @@ fn next_step(
     let Some(branch) = taken_branch(m.branches(s), store.values.as_slice()) else {
         return Ok(None);
     };
-    match changes_of(alloc, branch.assigns.as_slice(), store.values.as_slice()) {
-        Ok(changes) => Ok(Some(NextStep {
+    let mut changes = Vec::new(alloc);
+    match value_changes(
+        &mut changes,
+        branch.assigns.as_slice(),
+        store.values.as_slice(),
+    ) {
+        Ok(()) => Ok(Some(NextStep {
             target: branch.target,
             changes,
         })),
