@@ -1,1 +1,3 @@
 mod Outputs
+mod Places
+mod NodesSplit

@@ -1,2 +1,4 @@
+pub mod Cases
+pub mod MoveCases
 pub mod CertificateLines
 pub mod Demands

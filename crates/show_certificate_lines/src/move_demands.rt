@@ -1,12 +1,14 @@
 //! What moves and outputs ask.
 
-ghost use Rattle.std.specs.Prelude.{◌≡◌, ◌++◌, ◌∷◌, [], IfOk, OnOk, map, option_map};
+ghost use Rattle.std.specs.Prelude.{◌≡◌, ◌≤◌, ◌++◌, ◌∷◌, [], IfOk, OnOk, length, map, option_map};
 ghost use Rattle.fs_cut.specs.View.{path_of};
 ghost use Rattle.cert_model.specs.View.{node_of};
 ghost use Rattle.search_tables.specs.SearchTables.{machines};
 ghost use Rattle.show_certificate_lines.specs.Demands.{side_moved, move_demand, output_demand, output_demands, left_demands};
 ghost use Rattle.show_certificate_lines.specs.Demands.{right_demands, both_demands};
 
+use crate::cases::write_case;
+use crate::move_cases::write_move_case;
 use cert_model::cert::Node;
 use fs_ast::machine::Machine;
 use fs_cut::cover::Path;
@@ -39,13 +41,14 @@ fn write_move_demand(
     out: &mut Vec<u8>,
     a: &Machine,
     b: &Machine,
+    nodes: &[Node],
     node: &Node,
     left: Option<&Path>,
     right: Option<&Path>,
 ) -> Result<(), NoMemory>
     ensures { OnOk result (out.new.items ≡ out.old.items
-        ++ move_demand (machines a.now b.now) (node_of node.now) (option_map (λ p. path_of p.now) left.entry)
-        (option_map (λ p. path_of p.now) right.entry)) }
+        ++ move_demand (machines a.now b.now) (map node_of nodes.now) (node_of node.now)
+        (option_map (λ p. path_of p.now) left.entry) (option_map (λ p. path_of p.now) right.entry)) }
 {
     write_side(alloc, out, a, left)?;
     out.extend_from_slice(b" | ")?;
@@ -57,7 +60,10 @@ fn write_move_demand(
         b,
         end_of(node.left, left),
         end_of(node.right, right),
-    )
+    )?;
+    write_move_case(alloc, out, a, b, nodes, node, left, right)?;
+    out.extend_from_slice(b"\n")?;
+    Ok(())
 }
 
 // What a move from a node asks.
@@ -65,16 +71,17 @@ fn move_demand(
     alloc: Global,
     a: &Machine,
     b: &Machine,
+    nodes: &[Node],
     node: &Node,
     left: Option<&Path>,
     right: Option<&Path>,
 ) -> Result<Vec<u8>, NoMemory>
     ensures { IfOk result (λ text. text.items
-        ≡ move_demand (machines a.now b.now) (node_of node.now) (option_map (λ p. path_of p.now) left.entry)
-        (option_map (λ p. path_of p.now) right.entry)) }
+        ≡ move_demand (machines a.now b.now) (map node_of nodes.now) (node_of node.now)
+        (option_map (λ p. path_of p.now) left.entry) (option_map (λ p. path_of p.now) right.entry)) }
 {
     let mut text = Vec::new(alloc);
-    write_move_demand(alloc, &mut text, a, b, node, left, right)?;
+    write_move_demand(alloc, &mut text, a, b, nodes, node, left, right)?;
     Ok(text)
 }
 
@@ -84,16 +91,17 @@ pub fn push_rights(
     out: &mut Vec<Vec<u8>>,
     a: &Machine,
     b: &Machine,
+    nodes: &[Node],
     node: &Node,
     left: Option<&Path>,
     rights: &[Path],
 ) -> Result<(), NoMemory>
     ensures { OnOk result (map (λ t. t.items) out.new.items ≡ map (λ t. t.items) out.old.items
-        ++ right_demands (machines a.now b.now) (node_of node.now) (option_map (λ p. path_of p.now) left.entry)
-        (map path_of rights.now)) }
+        ++ right_demands (machines a.now b.now) (map node_of nodes.now) (node_of node.now)
+        (option_map (λ p. path_of p.now) left.entry) (map path_of rights.now)) }
 {
     for right in rights {
-        out.push(move_demand(alloc, a, b, node, left, Some(right))?)?;
+        out.push(move_demand(alloc, a, b, nodes, node, left, Some(right))?)?;
     }
     Ok(())
 }
@@ -104,14 +112,15 @@ pub fn push_lefts(
     out: &mut Vec<Vec<u8>>,
     a: &Machine,
     b: &Machine,
+    nodes: &[Node],
     node: &Node,
     lefts: &[Path],
 ) -> Result<(), NoMemory>
     ensures { OnOk result (map (λ t. t.items) out.new.items ≡ map (λ t. t.items) out.old.items
-        ++ left_demands (machines a.now b.now) (node_of node.now) (map path_of lefts.now)) }
+        ++ left_demands (machines a.now b.now) (map node_of nodes.now) (node_of node.now) (map path_of lefts.now)) }
 {
     for left in lefts {
-        out.push(move_demand(alloc, a, b, node, Some(left), None)?)?;
+        out.push(move_demand(alloc, a, b, nodes, node, Some(left), None)?)?;
     }
     Ok(())
 }
@@ -122,15 +131,17 @@ pub fn push_both(
     out: &mut Vec<Vec<u8>>,
     a: &Machine,
     b: &Machine,
+    nodes: &[Node],
     node: &Node,
     lefts: &[Path],
     rights: &[Path],
 ) -> Result<(), NoMemory>
     ensures { OnOk result (map (λ t. t.items) out.new.items ≡ map (λ t. t.items) out.old.items
-        ++ both_demands (machines a.now b.now) (node_of node.now) (map path_of rights.now) (map path_of lefts.now)) }
+        ++ both_demands (machines a.now b.now) (map node_of nodes.now) (node_of node.now)
+        (map path_of rights.now) (map path_of lefts.now)) }
 {
     for left in lefts {
-        push_rights(alloc, out, a, b, node, Some(left), rights)?;
+        push_rights(alloc, out, a, b, nodes, node, Some(left), rights)?;
     }
     Ok(())
 }
@@ -141,15 +152,21 @@ fn output_demand(
     alloc: Global,
     a: &Machine,
     b: &Machine,
+    nodes: &[Node],
+    place: usize,
     node: &Node,
     variable: &VarInfo,
 ) -> Result<Vec<u8>, NoMemory>
-    ensures { IfOk result (λ text. text.items ≡ output_demand (machines a.now b.now) (node_of node.now) variable.now) }
+    requires { place ≤ length nodes.now }
+    ensures { IfOk result (λ text. text.items
+        ≡ output_demand (machines a.now b.now) (map node_of nodes.now) place (node_of node.now) variable.now) }
 {
     let mut text = Vec::new(alloc);
     write_points(&mut text, a, b, node.left, node.right)?;
+    write_case(alloc, &mut text, nodes, place, node)?;
     text.extend_from_slice(b": output ")?;
     text.extend_from_slice(variable.name.bytes())?;
+    text.extend_from_slice(b"\n")?;
     Ok(text)
 }
 
@@ -159,14 +176,17 @@ fn push_output(
     out: &mut Vec<Vec<u8>>,
     a: &Machine,
     b: &Machine,
+    nodes: &[Node],
+    place: usize,
     node: &Node,
     variable: &VarInfo,
 ) -> Result<(), NoMemory>
+    requires { place ≤ length nodes.now }
     ensures { OnOk result (map (λ t. t.items) out.new.items ≡ map (λ t. t.items) out.old.items
-        ++ output_demands (machines a.now b.now) (node_of node.now) (variable.now ∷ [])) }
+        ++ output_demands (machines a.now b.now) (map node_of nodes.now) place (node_of node.now) (variable.now ∷ [])) }
 {
     if variable.role.is_output() {
-        out.push(output_demand(alloc, a, b, node, variable)?)?;
+        out.push(output_demand(alloc, a, b, nodes, place, node, variable)?)?;
     }
     Ok(())
 }
@@ -177,14 +197,17 @@ pub fn push_outputs(
     out: &mut Vec<Vec<u8>>,
     a: &Machine,
     b: &Machine,
+    nodes: &[Node],
+    place: usize,
     node: &Node,
     variables: &[VarInfo],
 ) -> Result<(), NoMemory>
+    requires { place ≤ length nodes.now }
     ensures { OnOk result (map (λ t. t.items) out.new.items ≡ map (λ t. t.items) out.old.items
-        ++ output_demands (machines a.now b.now) (node_of node.now) variables.now) }
+        ++ output_demands (machines a.now b.now) (map node_of nodes.now) place (node_of node.now) variables.now) }
 {
     for variable in variables {
-        push_output(alloc, out, a, b, node, variable)?;
+        push_output(alloc, out, a, b, nodes, place, node, variable)?;
     }
     Ok(())
 }

@@ -1,12 +1,13 @@
 //! The nodes of certificates, as lines.
 
-ghost use Rattle.std.specs.Prelude.{◌≡◌, ◌++◌, OnOk, IfOk, map};
-ghost use Rattle.std.specs.List.{flat_map};
+ghost use Rattle.std.specs.Prelude.{◌≡◌, ◌≤◌, ◌++◌, OnOk, IfOk, length, map};
 ghost use Rattle.cert_model.specs.View.{node_of};
 ghost use Rattle.search_tables.specs.SearchTables.{machines};
-ghost use Rattle.show_certificate_lines.specs.CertificateLines.{node_text, certificate_lines};
+ghost use Rattle.show_certificate_lines.specs.CertificateLines.{node_heading, node_text, node_texts, certificate_lines};
 
+use crate::cases::write_case;
 use crate::modes::mode_text;
+use crate::telling::write_telling;
 use cert_model::cert::Node;
 use fs_ast::machine::Machine;
 use nf_terms::stop::NoMemory;
@@ -15,24 +16,62 @@ use show_fact_text::names::SideNames;
 use show_fact_text::points::write_points;
 use std::alloc::Global;
 
-// Adds the lines of a node: its points and its mode, and then its fact.
-fn write_node(out: &mut Vec<u8>, a: &Machine, b: &Machine, node: &Node) -> Result<(), NoMemory>
-    ensures { OnOk result (out.new.items ≡ out.old.items ++ node_text (machines a.now b.now) (node_of node.now)) }
+// Adds the first line of the node at a place: its points, which case it is, and its mode.
+#[tactic(auto, unfolding(crate::specs::CertificateLines::node_heading))]
+fn write_heading(
+    alloc: Global,
+    out: &mut Vec<u8>,
+    a: &Machine,
+    b: &Machine,
+    all: &[Node],
+    place: usize,
+    node: &Node,
+) -> Result<(), NoMemory>
+    requires { place ≤ length all.now }
+    ensures { OnOk result (out.new.items ≡ out.old.items
+        ++ node_heading (machines a.now b.now) (map node_of all.now) place (node_of node.now)) }
 {
-    let names = SideNames { left: a, right: b };
     write_points(out, a, b, node.left, node.right)?;
+    write_case(alloc, out, all, place, node)?;
     out.extend_from_slice(b", ")?;
     out.extend_from_slice(mode_text(node.mode))?;
     out.extend_from_slice(b"\n")?;
+    Ok(())
+}
+
+// Adds the lines of the node at a place: its first line, what tells it from the others, and its fact.
+fn write_node(
+    alloc: Global,
+    out: &mut Vec<u8>,
+    a: &Machine,
+    b: &Machine,
+    all: &[Node],
+    place: usize,
+    node: &Node,
+) -> Result<(), NoMemory>
+    requires { place ≤ length all.now }
+    ensures { OnOk result (out.new.items ≡ out.old.items
+        ++ node_text (machines a.now b.now) (map node_of all.now) place (node_of node.now)) }
+{
+    let names = SideNames { left: a, right: b };
+    write_heading(alloc, out, a, b, all, place, node)?;
+    write_telling(alloc, out, &names, all, node)?;
     write_fact(out, b"  ", &names, &node.fact)
 }
 
 // Adds the lines of nodes.
-fn write_nodes(out: &mut Vec<u8>, a: &Machine, b: &Machine, nodes: &[Node]) -> Result<(), NoMemory>
-    ensures { OnOk result (out.new.items ≡ out.old.items ++ flat_map (node_text (machines a.now b.now)) (map node_of nodes.now)) }
+fn write_nodes(
+    alloc: Global,
+    out: &mut Vec<u8>,
+    a: &Machine,
+    b: &Machine,
+    nodes: &[Node],
+) -> Result<(), NoMemory>
+    ensures { OnOk result (out.new.items ≡ out.old.items
+        ++ node_texts (machines a.now b.now) (map node_of nodes.now) 0 (map node_of nodes.now)) }
 {
-    for node in nodes {
-        write_node(out, a, b, node)?;
+    for (place, node) in nodes.iter().enumerate() {
+        write_node(alloc, out, a, b, nodes, place, node)?;
     }
     Ok(())
 }
@@ -48,6 +87,6 @@ pub fn certificate_lines(
     ensures { IfOk result (λ lines. lines.items ≡ certificate_lines heading.now (machines a.now b.now) (map node_of nodes.now)) }
 {
     let mut lines = heading.to_vec(alloc)?;
-    write_nodes(&mut lines, a, b, nodes)?;
+    write_nodes(alloc, &mut lines, a, b, nodes)?;
     Ok(lines)
 }

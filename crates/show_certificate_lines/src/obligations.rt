@@ -12,7 +12,7 @@ use itoa::Buffer;
 use nf_terms::stop::NoMemory;
 use std::alloc::Global;
 
-// Adds a text on a line behind a number.
+// Adds a text behind a number.
 #[tactic(auto, unfolding(crate::specs::Demands::numbered_line))]
 fn write_numbered(out: &mut Vec<u8>, number: usize, text: &[u8]) -> Result<(), NoMemory>
     ensures { OnOk result (out.new.items ≡ out.old.items ++ numbered_line number text.now) }
@@ -21,11 +21,10 @@ fn write_numbered(out: &mut Vec<u8>, number: usize, text: &[u8]) -> Result<(), N
     out.extend_from_slice(buffer.format(number).as_bytes())?;
     out.extend_from_slice(b" ")?;
     out.extend_from_slice(text)?;
-    out.extend_from_slice(b"\n")?;
     Ok(())
 }
 
-// The lines of texts, numbered_lines from 1.
+// Texts behind their numbers, from 1 on.
 fn numbered_lines(alloc: Global, texts: &[Vec<u8>]) -> Result<Vec<u8>, NoMemory>
     ensures { IfOk result (λ lines. lines.items ≡ numbered_lines 1 (map (λ t. t.items) texts.now)) }
 {

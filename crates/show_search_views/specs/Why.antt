@@ -1,6 +1,7 @@
 -- What leads to the answer that two machines get.
 use Rattle.std.specs.Prelude.{◌≡◌, ℕ, Bool, true, false, List, [], ◌++◌, length, map, Option, Some, None, is_some, codes}
 use Rattle.fs_model.specs.Machines.{Fsmd}
+use Rattle.cert_model.specs.Lawful.{points_differ}
 use Rattle.cert_model.specs.View.{node_of}
 use Rattle.search_tables.specs.declared.moves.Move.{Move}
 use Rattle.search_tables.specs.declared.outcome.Outcome.{Outcome}
@@ -32,14 +33,16 @@ abbrev pub history_of : MachinePair → Option (List Move) → List ℕ
 history_of m None = []
 history_of m (Some moves) = history_text m moves
 
--- what stands before a certificate: whether it was found beyond the search
-abbrev pub heading_of : (found_beyond : Bool) → List ℕ
-heading_of true = codes "a second search finds a certificate:\n"
-heading_of false = codes "the search finds a certificate:\n"
+-- what stands before a certificate: whether it was found beyond the search; where nodes share their points, by a third one
+abbrev pub heading_of : (found_beyond apart : Bool) → List ℕ
+heading_of true true = codes "a second search finds a certificate:\n"
+heading_of true false = codes "a third search finds a certificate:\n"
+heading_of false apart = codes "the search finds a certificate:\n"
 
 -- the certificate of an answer, if it has one
 abbrev pub found_lines : (found_beyond : Bool) → MachinePair → PairAnswer → List ℕ
-found_lines beyond m (Equivalent cert) = certificate_lines (heading_of beyond) m (map node_of cert.nodes.items)
+found_lines beyond m (Equivalent cert) =
+    certificate_lines (heading_of beyond (points_differ (map node_of cert.nodes.items))) m (map node_of cert.nodes.items)
 found_lines beyond m (Counterexample lines) = []
 found_lines beyond m (Undecided outcome) = []
 

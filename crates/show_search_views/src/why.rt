@@ -7,6 +7,7 @@ ghost use Rattle.search_tables.specs.SearchTables.{machines};
 ghost use Rattle.fsmd_pair_answers.specs.SearchOutcomes.{IsSearchOutcome};
 ghost use Rattle.show_search_views.specs.Why.{moves_of, history_of, heading_of, found_lines, why_lines, IsExplanation};
 
+use cert_model::lawful_nodes::points_differ;
 use fs_ast::machine::Machine;
 use fs_pair::positions::Pairing;
 pub use fsmd_pair_answers::answer::PairAnswer;
@@ -72,14 +73,14 @@ fn history_of(
     }
 }
 
-// What stands before a certificate: whether a second search found it.
-fn heading(found_beyond: bool) -> &'static [u8]
-    ensures { result.now ≡ heading_of found_beyond }
+// What stands before a certificate: whether it was found beyond the search; where nodes share their points, by a third one.
+fn heading(found_beyond: bool, apart: bool) -> &'static [u8]
+    ensures { result.now ≡ heading_of found_beyond apart }
 {
-    if found_beyond {
-        b"a second search finds a certificate:\n"
-    } else {
-        b"the search finds a certificate:\n"
+    match (found_beyond, apart) {
+        (true, true) => b"a second search finds a certificate:\n",
+        (true, false) => b"a third search finds a certificate:\n",
+        (false, _) => b"the search finds a certificate:\n",
     }
 }
 
@@ -96,7 +97,7 @@ fn found_lines(
     match answer {
         PairAnswer::Equivalent { cert } => certificate_lines(
             alloc,
-            heading(found_beyond),
+            heading(found_beyond, points_differ(cert.nodes.as_slice())),
             a,
             b,
             cert.nodes.as_slice(),

@@ -7,6 +7,6 @@ use Rattle.show_certificate_lines.proofs.move_demands.push_rights.Given as goal
 
 abbrev pub invariant-loop-right : goal.invariant-loop-right
 invariant-loop-right l =
-    map (λ t. t.items) l.out.items ++ right_demands (machines l.a l.b) (node_of l.node) (option_map (λ p. path_of p.now) l.left)
+    map (λ t. t.items) l.out.items ++ right_demands (machines l.a l.b) (map node_of l.nodes) (node_of l.node) (option_map (λ p. path_of p.now) l.left)
     (map path_of (drop l.right-index l.rights)) ≡ map (λ t. t.items) l.fn.out.items
-    ++ right_demands (machines l.a l.b) (node_of l.node) (option_map (λ p. path_of p.now) l.left) (map path_of l.rights)
+    ++ right_demands (machines l.a l.b) (map node_of l.nodes) (node_of l.node) (option_map (λ p. path_of p.now) l.left) (map path_of l.rights)
