@@ -5,7 +5,8 @@
 
 Each pair is given to `check --cert`. Where it answers `equivalent`, its certificate must pass `verify`, and RUNS random inputs
 (50 where it is left out) are run on both machines here, by an interpreter of this file: both must end with the same outputs, or
-neither must end. A counterexample is run here too. The last line counts pairs and runs by answer; the status is 0 where all is well."""
+neither must end. A counterexample is run here too. The last line counts pairs by answer, runs, and certificates with several
+nodes at the same points (those of format 4); the status is 0 where all is well."""
 import collections
 import copy
 import os
@@ -18,7 +19,7 @@ import tempfile
 SCALARS = ["a", "b", "n", "s", "t", "u", "i", "j", "y"]
 INPUTS = ["a", "b", "n"]
 LOCALS = ["s", "t", "u", "i", "j"]
-DECLARED = "input a, b, n; input array m; output y; output array k; local s, t, u, i, j;"
+DECLARED = "input a, b, n; input array m; output y; output array k;"
 MOST_STEPS = 3000
 Line = collections.namedtuple("Line", "guard target assigns")
 
@@ -33,7 +34,8 @@ def remainder(left, right):
     return 0 if right == 0 else left - right * quotient(left, right)
 
 
-# An expression is a text, a tuple (operator, left, right), or ("read", array, index).
+# An expression is a text, a tuple (operator, left, right), or ("read", array, index). A guard is a comparison of two
+# expressions, (operator, left, right), or ("&&", guard, guard).
 def shown(it):
     """The expression as a machine text has it."""
     if isinstance(it, str):
@@ -43,8 +45,14 @@ def shown(it):
     return f"({shown(it[1])} {it[0]} {shown(it[2])})"
 
 
+def shown_guard(it):
+    """The guard as a machine text has it."""
+    show = shown_guard if it[0] == "&&" else shown
+    return f"{show(it[1])} {it[0]} {show(it[2])}"
+
+
 def computed(it):
-    """The expression as Python over the scalars v and the arrays r."""
+    """The expression or guard as Python over the scalars v and the arrays r."""
     if isinstance(it, str):
         return it if re.fullmatch(r"-?\d+", it) else f"v['{it}']"
     if it[0] == "read":
@@ -52,7 +60,7 @@ def computed(it):
     names = {"/": "quotient", "%": "remainder"}
     if it[0] in names:
         return f"{names[it[0]]}({computed(it[1])}, {computed(it[2])})"
-    return f"({computed(it[1])} {it[0]} {computed(it[2])})"
+    return f"({computed(it[1])} {'and' if it[0] == '&&' else it[0]} {computed(it[2])})"
 
 
 def reads(it):
@@ -77,15 +85,15 @@ class Machine:
     """States by name, each a list of lines; an assignment is (scalar, expression) or (array, index, expression)."""
 
     def __init__(self):
-        self.states = {}
+        self.states, self.locals = {}, list(LOCALS)
 
     def text(self, prefix):
         names = {state: f"{prefix}{number}" for number, state in enumerate(self.states)}
-        out = [f"fsmd 1; {DECLARED} reset {names['reset']};"]
+        out = [f"fsmd 1; {DECLARED} local {', '.join(self.locals)}; reset {names['reset']};"]
         for state, lines in self.states.items():
             out.append(f"state {names[state]}:")
             for line in lines:
-                guard = f"when {shown(line.guard[1])} {line.guard[0]} {shown(line.guard[2])} " if line.guard else ""
+                guard = f"when {shown_guard(line.guard)} " if line.guard else ""
                 assigns = ", ".join(f"{it[0]} = {shown(it[1])}" if len(it) == 2 else f"{it[0]}[{shown(it[1])}] = {shown(it[2])}" for it in line.assigns)
                 out.append(f"  {guard}goto {names[line.target]}{': ' if assigns else ''}{assigns};")
         return "\n".join(out) + "\n"
@@ -112,7 +120,7 @@ class Machine:
 
 def ended(step, scalars, array, most):
     """The outputs of a run from these inputs, or None where it does not end within so many steps."""
-    v = dict.fromkeys(SCALARS, 0) | scalars
+    v = collections.defaultdict(int, scalars)
     r = {"m": dict(array), "k": {}}
     state = "reset"
     for _ in range(most):
@@ -257,6 +265,8 @@ def split(machine, source):
     if any(reads(part) & {it[0] for it in others} for part in last[1:]) or last[0] in [it[0] for it in others]:
         return
     added = f"x{len(machine.states)}{state}"
+    while added in machine.states:
+        added += "x"
     machine.states[state][number] = Line(line.guard, added, others)
     machine.states[added] = [Line(None, line.target, [last])]
 
@@ -277,9 +287,15 @@ def broken(machine, source):
             assigns[at] = (*assigns[at][:-1], ("+", assigns[at][-1], "1") if change < 0.7 else source.choice(["0", "s", "t", "i"]))
         made.states[state][number] = Line(line.guard, line.target, assigns)
     elif line.guard:
-        guard = (source.choice(["<", "<=", ">", ">=", "==", "!="]), *line.guard[1:])
-        made.states[state][number] = Line(guard, line.target, line.assigns)
+        made.states[state][number] = Line(compared_otherwise(line.guard, source), line.target, line.assigns)
     return made
+
+
+def compared_otherwise(guard, source):
+    """The guard with another operator in its first comparison."""
+    if guard[0] == "&&":
+        return ("&&", compared_otherwise(guard[1], source), guard[2])
+    return (source.choice(["<", "<=", ">", ">=", "==", "!="]), *guard[1:])
 
 
 def random_inputs(source):
@@ -300,52 +316,65 @@ def read_counterexample(reply):
     return scalars, array
 
 
-def main():
+def random_pair(source):
+    """A behaviour and a schedule of it, and whether the schedule is a right one or a broken one."""
+    maker = Maker(source)
+    maker.block("reset", "reset", 2)
+    is_broken = source.random() < 0.4
+    schedule = scheduled(broken(maker.machine, source) if is_broken else maker.machine, source)
+    return maker.machine, schedule, "broken" if is_broken else "right"
+
+
+def faults(program, paths, machines, source, runs, seen, kind):
+    """What is wrong with the answer to a pair of machines, which stand in the files of these paths; `seen` counts the answers."""
+    *pair, cert = paths
+    if os.path.exists(cert):
+        os.remove(cert)
+    ran = subprocess.run([program, "check", *pair, "--cert", cert, "--steps", "1000"], capture_output=True, text=True)
+    answer = ran.stdout.split(":")[0].split("\n")[0]
+    seen[f"{kind} {answer}"] += 1
+    steps = [it.compiled() for it in machines]
+    if answer == "equivalent":
+        with open(cert) as file:
+            seen["several"] += file.read(12) == '{"format":4,'
+        judged = subprocess.run([program, "verify", *paths], capture_output=True, text=True)
+        if judged.stdout != "yes\n":
+            yield f"verify says {judged.stdout}"
+        for _ in range(runs):
+            scalars, array = random_inputs(source)
+            ends = both_ended(steps, scalars, array)
+            seen["runs"] += 2
+            if "wide" not in ends and ends[0] != ends[1]:
+                yield f"equivalent, but {scalars} {array} end with {ends}"
+                break
+    elif answer == "counterexample":
+        ends = both_ended(steps, *read_counterexample(ran.stdout))
+        seen["runs"] += 2
+        if None in ends or ends[0] == ends[1]:
+            yield f"a counterexample that ends with {ends}: {ran.stdout}"
+        elif kind.startswith("right"):
+            yield f"a right one that differs: {ran.stdout}"
+    elif answer != "undecided":
+        yield f"status {ran.returncode}: {ran.stdout}{ran.stderr}"
+
+
+def main(make_pair=random_pair):
     program, pairs = sys.argv[1], int(sys.argv[2])
     runs = int(sys.argv[3]) if len(sys.argv) > 3 else 50
     seed = int(sys.argv[4]) if len(sys.argv) > 4 else 1
     source, seen, bad = random.Random(seed), collections.Counter(), 0
     folder = tempfile.mkdtemp()
-    left, right, cert = (os.path.join(folder, it) for it in ("a.fsmd", "b.fsmd", "c.json"))
-
-    def wrong(number, why):
-        nonlocal bad
-        bad += 1
-        print(f"pair {number} of seed {seed}: {why}\n{open(left).read()}{open(right).read()}")
-
+    paths = [os.path.join(folder, it) for it in ("a.fsmd", "b.fsmd", "c.json")]
     for number in range(pairs):
-        maker = Maker(source)
-        maker.block("reset", "reset", 2)
-        is_broken = source.random() < 0.4
-        schedule = scheduled(broken(maker.machine, source) if is_broken else maker.machine, source)
-        for path, machine, prefix in ((left, maker.machine, "s"), (right, schedule, "q")):
+        *machines, kind = make_pair(source)
+        for path, machine, prefix in zip(paths, machines, "sq"):
             with open(path, "w") as out:
                 out.write(machine.text(prefix))
-        if os.path.exists(cert):
-            os.remove(cert)
-        ran = subprocess.run([program, "check", left, right, "--cert", cert, "--steps", "1000"], capture_output=True, text=True)
-        answer = ran.stdout.split(":")[0].split("\n")[0]
-        seen[("broken " if is_broken else "right ") + answer] += 1
-        steps = maker.machine.compiled(), schedule.compiled()
-        if answer == "equivalent":
-            judged = subprocess.run([program, "verify", left, right, cert], capture_output=True, text=True)
-            if judged.stdout != "yes\n":
-                wrong(number, f"verify says {judged.stdout}")
-            for _ in range(runs):
-                scalars, array = random_inputs(source)
-                ends = both_ended(steps, scalars, array)
-                seen["runs"] += 2
-                if "wide" not in ends and ends[0] != ends[1]:
-                    wrong(number, f"equivalent, but {scalars} {array} end with {ends}")
-                    break
-        elif answer == "counterexample":
-            ends = both_ended(steps, *read_counterexample(ran.stdout))
-            seen["runs"] += 2
-            if None in ends or ends[0] == ends[1]:
-                wrong(number, f"a counterexample that ends with {ends}: {ran.stdout}")
-        elif answer != "undecided":
-            wrong(number, f"status {ran.returncode}: {ran.stdout}{ran.stderr}")
-    print(f"{pairs} pairs, {seen.pop('runs', 0)} runs: " + ", ".join(f"{it} {seen[it]}" for it in sorted(seen)) + f"; {bad} wrong")
+        for why in faults(program, paths, machines, source, runs, seen, kind):
+            bad += 1
+            print(f"pair {number} of seed {seed}: {why}\n{machines[0].text('s')}{machines[1].text('q')}")
+    print(f"{pairs} pairs, {seen.pop('runs', 0)} runs, {seen.pop('several', 0)} certificates with several nodes at the same points: "
+          + ", ".join(f"{it} {seen[it]}" for it in sorted(seen)) + f"; {bad} wrong")
     return 1 if bad else 0
 
 
