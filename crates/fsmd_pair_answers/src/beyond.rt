@@ -118,7 +118,7 @@ pub fn find_beyond(
         (λ found. MatchOption found (Unit {0}) (λ cert. IsCertificate (machines a.now b.now) (map node_of cert.nodes.items))) }
 {
     match find_second(alloc, a, b, p)? {
-        Some(cert) => Ok(Some(cert)),
+        Some(kept) => Ok(Some(kept)),
         None => find_third(alloc, a, b, p),
     }
 }

@@ -22,10 +22,10 @@ use search_strengthening_terms::work::Work;
 use std::alloc::Global;
 
 // The most units of work of all searches of two machines.
-const WORK: u64 = 3_000_000;
+const WORK: u64 = 1_500_000;
 
 // The most units of work of one search.
-const WORK_OF_SEARCH: u64 = 800_000;
+const WORK_OF_SEARCH: u64 = 500_000;
 
 // How many nodes at most are added and weakened in a component.
 const CHANGES: usize = 512;

@@ -12,7 +12,7 @@ use search_strengthening_terms::work::Work;
 use std::alloc::Global;
 
 // The most units of work of the searches of two machines, beside those of their points.
-const WORK: u64 = 3_000_000;
+const WORK: u64 = 2_000_000;
 
 // The units of work that each point of the machines adds.
 const WORK_OF_POINT: u64 = 15_000;
